@@ -8,28 +8,27 @@ use std::alloc::{AllocError, AllocFailed};
 use std::fmt;
 use thiserror::Error;
 
-/// What is wrong with a line. Where a line has several faults, the least number is reported.
+/// What is wrong with a line. If a line has several faults, the one with the least number is reported.
 #[derive(Clone, Copy, Debug, PartialEq, Eq, Error)]
 pub enum Cause {
-    /// Line 1 is not the header.
+    /// Line 1 is neither `rvblock 1` nor `rvblock 2`. For `migrate`: line 1 is not `rvblock 1`.
     BadHeader = 1,
-    /// An unknown kind, a kind out of order, a wrong number of fields, an empty field, a path with
-    /// bytes other than 0x21 to 0x7e, no `gas` line behind the header of format 2, or no line feed at
-    /// the end of a block file.
+    /// Line 2 of format 2 is not `gas 1`, `gas 2` or `gas 3`; a line has an unknown kind, comes out of order, or has a
+    /// wrong number of fields or an empty one; a PATH has a byte that is not 0x21 to 0x7e; or the last line has no LF.
     BadLine = 2,
-    /// Not a decimal, a program's number that is not the next, a schedule's entry above 65,535, or no
-    /// line feed at the end of a schedule file.
+    /// A number is not 1 to 10 digits without a leading zero, or the N of a `program` line is not the next one. In a
+    /// schedule: a line is not such a number of at most 65,535, or the last line has no LF.
     BadNumber = 3,
-    /// Not lower-case hex of even length, or a key that does not have 64 digits.
+    /// Bytes are neither `-` nor an even number of lower-case hex digits, or a key is not 64 such digits.
     BadHex = 4,
-    /// A key that is not above the key of the `store` line before it.
+    /// The key of a `store` line is not above the key of the `store` line before it.
     KeyOrder = 5,
-    /// A program's number that is not below the number of programs.
+    /// The PROGRAM of a `call` line is not below the number of `program` lines.
     UnknownProgram = 6,
-    /// A 65th program, a 1,025th call, a gas limit that is not 1 to 10,000,000, a value above the
-    /// rules' limit (64 or 256 bytes), or an input above 4,096.
+    /// There is a 65th program or a 1,025th call, a GAS is not 1 to 10,000,000, an INPUT has more than 4,096 bytes, or
+    /// a value has more bytes than the rules allow: 64 under rules one, 256 under rules two and three.
     Limit = 7,
-    /// Memory ran out.
+    /// Memory ran out. This is printed without a line.
     Memory = 8,
 }
 

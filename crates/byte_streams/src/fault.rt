@@ -9,11 +9,11 @@ use thiserror::Error;
 /// Why an output is refused.
 #[derive(Clone, Copy, Debug, PartialEq, Eq, Error)]
 pub enum WriteFault {
-    /// A write failed.
+    /// A write to the output failed, such as one to a closed pipe or to a full disk.
     Io = 1,
-    /// A write took no bytes.
+    /// A write to the output took no byte.
     WroteNothing = 2,
-    /// Memory for the text ran out, and nothing was written.
+    /// Memory ran out for the text, and nothing was written.
     Memory = 3,
 }
 

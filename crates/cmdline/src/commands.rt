@@ -17,7 +17,26 @@ const CALL_LIMIT: i64 = 1024;
 /// The largest number of a setting of `chain`.
 const SETTING_LIMIT: i64 = 9_999_999_999;
 
-/// The whole command, with a subcommand for each request; refused where memory ran out.
+/// The requests of a session, as `chain --help` prints them.
+const REQUESTS: &str = "\
+Requests, one a line. LENGTH bytes follow the lines of program, frame, try and begin:
+  program LENGTH              Load a program file; the answer is its NAME
+  forget NAME                 Free a program
+  programs                    Print the names of all programs
+  frame LENGTH                Run a block file, and keep what it leaves
+  try LENGTH                  Run a block file, and keep nothing
+  last                        Print the answer to the last frame again
+  get KEY                     Print the value of a key
+  list FROM COUNT             Print COUNT keys, 1 to 1024, from FROM on, with their values
+  dump                        Print the storage as a block file
+  begin HEIGHT DIGEST LENGTH  Begin from the storage of a block file
+  state                       Print rules, height, keys, programs, settings and digest
+  q                           End the session
+
+Each answer is a line: ok LENGTH, with LENGTH bytes after it, or refused or failed with the reason. An example:
+  printf 'frame 84\\nrvblock 1\\nstore %064x 2a\\nget %064x\\nq\\n' 1 1 | rvstm chain";
+
+/// The whole command, with a subcommand for each request; refused if memory ran out.
 pub(crate) fn rvstm<'a>(alloc: Global) -> Result<Command<'a>, AllocError>
     ensures { IfOk result (λ c. app_of c ≡ rvstm_app) }
 {
@@ -28,7 +47,7 @@ pub(crate) fn rvstm<'a>(alloc: Global) -> Result<Command<'a>, AllocError>
     add(command, chain(alloc))
 }
 
-/// The command with the subcommands that run a block file; refused where memory ran out.
+/// The command with the subcommands that run a block file; refused if memory ran out.
 fn runner<'a>(alloc: Global) -> Result<Command<'a>, AllocError>
     ensures { IfOk result (λ c. app_of c ≡ with_subcommand (with_subcommand (with_subcommand
         (with_subcommand top_app run_app.top) seq_app.top) conflicts_app.top) drive_app.top) }
@@ -39,7 +58,7 @@ fn runner<'a>(alloc: Global) -> Result<Command<'a>, AllocError>
     add(command, drive(alloc))
 }
 
-/// Adds a subcommand to a command; refused where either was refused or memory ran out.
+/// Adds a subcommand to a command; refused if either was refused or memory ran out.
 fn add<'a>(
     command: Result<Command<'a>, AllocError>,
     subcommand: Result<Command<'a>, AllocError>,
@@ -64,7 +83,8 @@ fn program<'a>(alloc: Global) -> Command<'a>
 fn run<'a>(alloc: Global) -> Result<Command<'a>, AllocError>
     ensures { IfOk result (λ c. app_of c ≡ run_app) }
 {
-    let about = "Runs the calls of a block file by workers at the same time and prints the result";
+    let about =
+        "Runs the calls of a block file on several workers at the same time, and prints the result";
     option_command(
         alloc,
         "run",
@@ -79,7 +99,7 @@ fn run<'a>(alloc: Global) -> Result<Command<'a>, AllocError>
 fn seq<'a>(alloc: Global) -> Result<Command<'a>, AllocError>
     ensures { IfOk result (λ c. app_of c ≡ seq_app) }
 {
-    let about = "Runs the calls of a block file in order and prints the result";
+    let about = "Runs the calls of a block file in order, and prints the result";
     file_command(alloc, "seq", about, "The block file")
 }
 
@@ -95,7 +115,7 @@ fn conflicts<'a>(alloc: Global) -> Result<Command<'a>, AllocError>
 fn drive<'a>(alloc: Global) -> Result<Command<'a>, AllocError>
     ensures { IfOk result (λ c. app_of c ≡ drive_app) }
 {
-    let about = "Runs the calls of a block file in the steps of a schedule and prints the result";
+    let about = "Runs the calls of a block file in the steps of a schedule, and prints the result";
     let help = "The block file that is run";
     option_command(alloc, "drive", about, help, workers(alloc))?
         .arg(schedule(alloc))?
@@ -106,7 +126,7 @@ fn drive<'a>(alloc: Global) -> Result<Command<'a>, AllocError>
 fn asm<'a>(alloc: Global) -> Result<Command<'a>, AllocError>
     ensures { IfOk result (λ c. app_of c ≡ asm_app) }
 {
-    let about = "Assembles a source and writes its ELF file";
+    let about = "Assembles a source, and writes its ELF file";
     let option = out(alloc, "The ELF file that is written");
     option_command(alloc, "asm", about, "The source", option)
 }
@@ -160,9 +180,11 @@ fn chain_of_numbers<'a>(alloc: Global) -> Result<Command<'a>, AllocError>
 {
     let about =
         "Answers the requests of the standard input in one session, whose frames run on one storage";
-    let help = "By how many workers calls run where that pays, 1 to 32; else all run in order";
+    let help =
+        "How many workers run the calls of a block if that pays, 1 to 32; without it all run in order";
     Command::new(alloc, "chain")
         .about(about)
+        .after_help(REQUESTS)
         .arg(workers(alloc).help(help).required(false))?
         .arg(frame_limit(alloc))?
         .arg(frame_gas(alloc))
@@ -249,7 +271,7 @@ fn more<'a>(alloc: Global) -> Arg<'a>
     flag(
         alloc,
         "more",
-        "Hear more lines, which h prints, and run no call behind N",
+        "Accept more lines, which h prints, and run no call after N",
     )
 }
 
@@ -258,7 +280,7 @@ fn frame_limit<'a>(alloc: Global) -> Arg<'a>
     ensures rule { rule_of result ≡ frame_limit_rule }
     ensures local { result.global ≡ false }
 {
-    let help = "The most bytes of a frame, 0 to 9999999999; 67108864 where not given";
+    let help = "The most bytes of a frame, 0 to 9999999999; 67108864 if not given";
     setting(alloc, "frame-limit", "BYTES", help)
 }
 
@@ -268,7 +290,7 @@ fn frame_gas<'a>(alloc: Global) -> Arg<'a>
     ensures local { result.global ≡ false }
 {
     let help =
-        "The most gas that the calls of a frame may have together, 0 to 9999999999; without a bound where not given";
+        "The most gas that the calls of a frame may have together, 0 to 9999999999; without a bound if not given";
     setting(alloc, "frame-gas", "N", help)
 }
 

@@ -10,13 +10,13 @@ use thiserror::Error;
 /// Why a replay or a move of it is refused.
 #[derive(Clone, Copy, Debug, PartialEq, Eq, Error)]
 pub enum ReplayFault {
-    /// The block has no call at that index.
+    /// The block has no call of this number. Calls count from 0.
     NoSuchCall = 1,
-    /// The call is over: there is no later moment.
+    /// The call is at its last moment, or is over before the moment that `t` names.
     AtEnd = 2,
-    /// There is no moment before the first.
+    /// The call is at its first moment, and `b` asks for one before it.
     AtStart = 3,
-    /// A byte is outside memory.
+    /// Some of the bytes that `m` or `c` names are outside memory.
     BadRange = 4,
     /// Memory ran out.
     Memory = 5,

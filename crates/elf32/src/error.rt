@@ -6,42 +6,43 @@ ghost use Rattle.elf32.specs.Refusals.{name_of, number_of};
 use std::fmt;
 use thiserror::Error;
 
-/// The least-numbered fault of a file or program, or that memory ran out. It prints as its name and number.
+/// The fault of a file or program with the least number, or that memory ran out. It prints as its name and number.
 #[derive(Clone, Copy, Debug, PartialEq, Eq, Error)]
 pub enum ElfError {
-    /// Fewer than 52 bytes, or a table of 1 to 8 program headers passes the end.
+    /// The file has fewer than 52 bytes, or its table of 1 to 8 program headers, 32 bytes each from e_phoff on, passes
+    /// its end.
     Truncated = 1,
     /// Bytes 0 to 3 are not 7f 45 4c 46.
     BadMagic = 2,
-    /// Byte 4 is not ELFCLASS32, or byte 5 is not ELFDATA2LSB (little-endian).
+    /// Byte 4 is not 1 (32 bits), or byte 5 is not 1 (the lowest byte first).
     BadClassOrData = 3,
     /// Byte 6 or e_version is not 1.
     BadVersion = 4,
-    /// e_type is not ET_EXEC.
+    /// e_type is not 2 (ET_EXEC), as in an object file, a shared one or a position-independent program.
     NotExec = 5,
-    /// e_machine is not EM_RISCV.
+    /// e_machine is not 243 (RISC-V).
     NotRiscv = 6,
-    /// e_flags is not 0.
+    /// e_flags is not 0, as with compressed instructions or a hard-float ABI.
     BadFlags = 7,
-    /// e_ehsize is not 52 or e_phentsize not 32.
+    /// e_ehsize is not 52, or e_phentsize is not 32.
     BadHeaderSize = 8,
     /// e_phnum is not 1 to 8.
     BadCount = 9,
-    /// An entry is neither PT_LOAD nor PT_NULL.
+    /// A program header is neither PT_LOAD (1) nor PT_NULL (0).
     BadType = 10,
-    /// A PT_LOAD has p_filesz above p_memsz, p_offset + p_filesz above the file's length, p_vaddr below
-    /// 0x00010000, or p_vaddr + p_memsz above 0x00100000.
+    /// A PT_LOAD has more bytes in the file than in memory, passes the end of the file, begins below 0x00010000, or
+    /// ends above 0x00100000.
     SegmentRange = 11,
-    /// A PT_LOAD has a p_vaddr below that of one before it.
+    /// A PT_LOAD begins at a lower address than one before it in the table.
     SegmentOrder = 12,
-    /// Two PT_LOADs have addresses in one page. One with p_memsz 0 has no address.
+    /// Two PT_LOADs have addresses in one page of 4,096 bytes. One without bytes in memory has no address.
     PageShared = 13,
-    /// A PT_LOAD has PF_W and PF_X.
+    /// A PT_LOAD may be both written and executed.
     WriteExecute = 14,
-    /// e_entry is not a multiple of 4, or lies in no PT_LOAD with PF_X. `write` answers it for a program
-    /// without text words.
+    /// e_entry is not a multiple of 4, or is no address of a PT_LOAD that may be executed. For `asm`: the source has no
+    /// instruction.
     BadEntry = 15,
-    /// Memory ran out. `load` answers it only for a file without a fault.
+    /// Memory ran out for the bytes of a file, for the program of a file without a fault, or for the text of `dis`.
     Memory = 16,
 }
 

@@ -61,9 +61,9 @@ pub enum Request {
 /// Why the next bytes of an input are no request.
 #[derive(Clone, Copy, Debug, PartialEq, Eq)]
 pub enum RequestFault {
-    /// The next line has none of the forms, or no LF is among its first 128 bytes.
+    /// The next line has none of the forms of a request, has no LF, or has none among its first 128 bytes.
     BadLine = 1,
-    /// The input ends before a request's bytes do.
+    /// The input ends before the last byte of a request's body.
     Cut = 2,
 }
 

@@ -13,15 +13,14 @@ pub enum Section {
     Data,
 }
 
-/// What is wrong with a line by itself. Where several hold, the one with the least number is answered.
+/// What is wrong with a line by itself. If several hold, the one with the least number is answered.
 #[derive(Clone, Copy, Debug, PartialEq, Eq)]
 pub enum LineCause {
     /// The first word is neither a mnemonic nor a directive.
     UnknownMnemonic = 1,
-    /// The label is not a name, the operands are wrong in number or form, or the statement may not stand
-    /// in the section.
+    /// The label is not a name, the operands are wrong in number or form, or the statement may not be in the section.
     BadOperand = 2,
-    /// A number is out of its operand's range.
+    /// A number is out of the range of its operand, or a distance that is written as a number is odd.
     ImmediateRange = 3,
 }
 

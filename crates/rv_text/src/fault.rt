@@ -14,20 +14,19 @@ use thiserror::Error;
 pub enum AsmCause {
     /// The first word of a line is neither a mnemonic nor a directive.
     UnknownMnemonic = 1,
-    /// A label is not a name, operands are wrong in number or form, or a statement may not stand in its
-    /// section.
+    /// A label is not a name, the operands are wrong in number or form, or the statement may not be in its section.
     BadOperand = 2,
-    /// A number is out of its operand's range.
+    /// A number is out of the range of its operand, or a distance that is written as a number is odd.
     ImmediateRange = 3,
-    /// An operand is a label that no line defines.
+    /// An operand is a label that no line defines, and no line has fault 1, 2, 3, 5 or 7.
     UnknownLabel = 4,
-    /// A label that an earlier line defines is defined again.
+    /// A line defines a label that an earlier line defines.
     DuplicateLabel = 5,
-    /// A label is out of reach of a branch or jump, or at an odd distance.
+    /// A label is out of reach of a branch or jump, or at an odd distance, and no line has fault 1, 2, 3, 5 or 7.
     LabelRange = 6,
-    /// The line's bytes do not fit in the section.
+    /// The bytes of a line pass the size of its section: 65,536 bytes of text, 61,440 of data.
     TooLarge = 7,
-    /// Memory ran out.
+    /// Memory ran out. This is printed without a line.
     Memory = 8,
 }
 

@@ -7,26 +7,34 @@ ghost use Rattle.session_states.specs.Faults.{fault_of_store, parts_of};
 use byte_streams::LineParts;
 use sqlite_trees::error::StoreError;
 
-/// Why a session's file is not opened, or did not take a change. Its number is that of its place here, from 1 on.
+/// Why a session's file is not opened, or did not take a change. Its number is that of its place here, from 1 on. FILE
+/// is the file, and FILE-wal and FILE-journal are the files beside it.
 #[derive(Clone, Copy, Debug, PartialEq, Eq)]
 pub enum StoreFault {
-    /// Another process has it open.
+    /// Another process has FILE or FILE-wal.
     Busy,
-    /// SQLite left a rollback journal, which only it can play back.
+    /// FILE-journal is there and not empty, which only SQLite can play back, or something that is no file has this name.
     HotJournal,
-    /// A call of the system failed.
+    /// A call of the system failed. At the start: FILE is a folder or a device, has a second name (a hard link), may
+    /// not be read and written, or is in no folder or on a file system without locks; a page can't be read or is not
+    /// what was written; or a new FILE has no room. After a commit: FILE or FILE-wal no longer leads to the session's
+    /// file.
     Unreadable,
-    /// It is no database, or not that of a session.
+    /// FILE is no database, has a page that is not well formed, lacks one of the four tables, or has another table or
+    /// index; FILE is missing or empty, and FILE-wal has a commit; or FILE has one byte, and FILE-wal has a commit, but
+    /// not every page.
     NotASession,
-    /// Its session is kept by another version of the format.
+    /// The first row of `session` has a whole number other than 1 as its `version`.
     OtherVersion,
-    /// Its session has other settings.
+    /// The row of `session` has another `frame_limit`, `frame_gas` or `brief` than the command line.
     OtherSettings,
-    /// It has a row that is none of a session, or a page that is not well formed.
+    /// At the start: a row is not as a session writes it, the name of a program is not the SHA-256 of its file, a
+    /// program has a fault of a program file, or there are rows and none of `session`. Later: a page is not what was
+    /// written.
     Damaged,
-    /// It has no room, or a limit of its format is met.
+    /// The disk has no room for a change, or FILE or FILE-wal meets a limit: of its format, or of a file's size.
     Full,
-    /// Memory ran out.
+    /// Memory ran out for the start, or for pages of FILE.
     Memory,
 }
 

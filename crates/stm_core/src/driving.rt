@@ -29,13 +29,13 @@ pub const WORKER_LIMIT: usize = 32;
 /// Why a list of worker numbers comes to no outcome.
 #[derive(Clone, Copy, Debug, PartialEq, Eq, Error)]
 pub enum DriveFault {
-    /// The list is used up, and workers are not done.
+    /// The schedule ends before the workers are done.
     NotDone = 1,
-    /// An entry is not a worker, or the number of workers is not 1 to 32.
+    /// A number in the schedule is not below the number of workers, or that number is not 1 to 32.
     BadWorker = 2,
-    /// There would be more than 1,048,576 records of versions.
+    /// The runs of calls, repeated ones included, would have more than 1,048,576 writes.
     ArenaFull = 3,
-    /// A run at incarnation 65,535 was to be parked or recorded.
+    /// A run at incarnation 65,535, the 65,536th of its call, would be parked or recorded.
     IncarnationLimit = 4,
     /// Memory ran out.
     Memory = 5,

@@ -4,42 +4,42 @@ use block_file::BlockFault;
 use elf32::ElfError;
 
 /// Why a request is refused. It follows from the requests so far and the settings alone, so each node that got the same
-/// requests tells the same.
+/// requests answers the same.
 #[derive(Clone, Copy, Debug, PartialEq, Eq)]
 pub enum FrameRefusal {
-    /// The text of a frame, or of a storage that is to begin with.
+    /// The bytes of a `frame`, `try` or `begin` have a fault of a block file. The first one is reported.
     Block(BlockFault),
-    /// The bytes of a program.
+    /// The bytes of a `program` have a fault of a program file. The one with the least number is reported.
     Elf(ElfError),
-    /// A program's file has more than 131,072 bytes.
+    /// The LENGTH of a `program` is above 131,072.
     FileTooLong,
-    /// A frame's rules are lower than the session's.
+    /// The block of a `frame` or `try` has lower rules than the session.
     OlderRules,
-    /// No program of that name is here.
+    /// A PATH of a `frame` or `try`, or the NAME of a `forget`, is not the name of a program that is here.
     NoProgram,
-    /// A frame has more bytes than the settings allow.
+    /// The LENGTH of a `frame` or `try` is above `--frame-limit`.
     TooLong,
-    /// The gas limits of a frame's calls come to more than the settings allow.
+    /// The gas limits of the calls of a `frame` or `try` have a sum above `--frame-gas`.
     TooMuchGas,
-    /// A text that is to begin with has programs or calls.
+    /// The block file of a `begin` has a `program` or `call` line.
     NotADump,
-    /// No frame was answered yet.
+    /// `last` is asked before any frame counts, or after a `begin` and before the next frame that counts.
     NoFrame,
-    /// A digest where none is kept, or none where one is kept.
+    /// The DIGEST of a `begin` is `-` and the session keeps a digest, or it has digits and the session keeps none.
     OtherDigest,
-    /// The height is 9,999,999,999, the greatest.
+    /// A `frame` or `try` comes at height 9,999,999,999, the greatest.
     TooHigh,
 }
 
-/// Where this machine ran out of memory. The request changed nothing, and may be given again.
+/// What this machine ran out of memory for. The request changed nothing, and may be sent again.
 #[derive(Clone, Copy, Debug, PartialEq, Eq)]
 pub enum Failure {
-    /// For the bytes or the text of a frame, or of a storage that is to begin with.
+    /// Memory ran out for the bytes of a `frame`, `try` or `begin`, or for the text that they are.
     Block,
-    /// For a program.
+    /// Memory ran out for a `program`, or for the list of the programs of a `frame` or `try`.
     Program,
-    /// For running calls, or for what they leave.
+    /// Memory ran out for the run of a `frame` or `try`, or for what it leaves.
     Run,
-    /// For an answer.
+    /// Memory ran out for the answer to a request other than `forget`, `last` and `begin`.
     Answer,
 }

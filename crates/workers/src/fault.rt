@@ -6,19 +6,20 @@ use thiserror::Error;
 /// Why the run of a block by threads comes to no outcome.
 #[derive(Clone, Copy, Debug, PartialEq, Eq, Error)]
 pub enum RunFault {
-    /// The number of workers is not 1 to 32.
+    /// The number of workers is not 1 to 32. The command line refuses such a number first.
     BadCount = 1,
-    /// A worker, its share, its run or the job is not the one that the core has.
+    /// An internal check failed: a worker, its share, its run or the job is not the one that the core has.
     Foreign = 2,
-    /// There would be more than 1,048,576 records of versions.
+    /// The runs of calls, repeated ones included, would have more than 1,048,576 writes.
     ArenaFull = 3,
-    /// A run at incarnation 65,535 was to be parked or recorded.
+    /// A run at incarnation 65,535, the 65,536th of its call, would be parked or recorded.
     IncarnationLimit = 4,
     /// Memory ran out.
     Memory = 5,
-    /// A thread was refused.
+    /// The system refused to start a thread.
     Spawn = 6,
-    /// A worker has made 2^64 - 1 steps or, where there is a limit, as many, asks aside, as that says.
+    /// A worker made 2^64 - 1 steps, or as many steps beside its asks as a limit allows. The command line sets no
+    /// limit.
     StepLimit = 7,
 }
 
