@@ -115,14 +115,30 @@ void sha256(const void *bytes, u32 length, u8 *digest) {
     sha256_finish(&hash, digest);
 }
 
-void table_key(const char *tag, const void *key, u8 *derived) {
-    struct sha256 hash;
+static u32 length_of(const char *tag) {
     u32 length = 0;
     while (tag[length] != 0) {
         length++;
     }
+    return length;
+}
+
+void table_key(const char *tag, const void *key, u8 *derived) {
+    struct sha256 hash;
     sha256_start(&hash);
-    sha256_add(&hash, tag, length);
+    sha256_add(&hash, tag, length_of(tag));
     sha256_add(&hash, key, KEY_LENGTH);
+    sha256_finish(&hash, derived);
+}
+
+void table_key_of(const char *tag, const struct table_part *parts, u32 count, u8 *derived) {
+    struct sha256 hash;
+    sha256_start(&hash);
+    sha256_add(&hash, "", 1);
+    sha256_add(&hash, tag, length_of(tag) + 1);
+    for (u32 at = 0; at < count; at++) {
+        sha256_add(&hash, &parts[at].length, sizeof parts[at].length);
+        sha256_add(&hash, parts[at].bytes, parts[at].length);
+    }
     sha256_finish(&hash, derived);
 }

@@ -33,6 +33,16 @@ void sha256(const void *bytes, u32 length, u8 *digest);
    bytes that is one block. Every table needs a tag: a key that comes from an input as it is may be that of any. */
 void table_key(const char *tag, const void *key, u8 *derived);
 
+/* A part of a row that is too long for sdk/rows.h. */
+struct table_part {
+    const void *bytes;
+    u32 length;
+};
+
+/* Writes the key of a row of several parts: the digest of a 0, the tag, a 0, and then of each part with its length before it, in
+   4 bytes. No other tag or parts have this key, and no key of table_key has a tag that begins with a 0. */
+void table_key_of(const char *tag, const struct table_part *parts, u32 count, u8 *derived);
+
 #ifdef __cplusplus
 }
 #endif

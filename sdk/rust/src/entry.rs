@@ -1,13 +1,13 @@
 //! How a call starts, and how it ends by a panic.
 
-use crate::{return_output, revert};
+use crate::{return_output, revert, ToOutput};
 
 #[cfg(target_arch = "riscv32")]
 core::arch::global_asm!(include_str!("../../start.S"));
 
 /// Makes a function what a call runs: `entry!(count_vote);`. It takes the input as `&[u8]` and gives
 /// `Result<OUTPUT, TEXT>`: the call returns with the output, or reverts with the text. Both are bytes, as
-/// `[u8; 8]`, `&str`, [`Output`](crate::Output) or, with the feature `alloc`, `String`.
+/// `[u8; 8]`, `&str`, [`Output`](crate::Output), [`Decimal`](crate::Decimal) or, with the feature `alloc`, `String`.
 #[macro_export]
 macro_rules! entry {
     ($body:path) => {
@@ -28,13 +28,13 @@ macro_rules! entry {
 
 /// What [`entry!`](crate::entry) expands to.
 #[doc(hidden)]
-pub fn run<O: AsRef<[u8]>, E: AsRef<[u8]>>(
+pub fn run<O: ToOutput, E: ToOutput>(
     body: fn(&'static [u8]) -> Result<O, E>,
     input: &'static [u8],
 ) -> ! {
     match body(input) {
-        Ok(output) => return_output(output.as_ref()),
-        Err(text) => revert(text.as_ref()),
+        Ok(output) => return_output(output.to_output()),
+        Err(text) => revert(text.to_output()),
     }
 }
 

@@ -12,7 +12,7 @@ use std::{
 
 use crate::{
     calls::{ABSENT, LONGER},
-    run, Key, KEYS_LIMIT, LONG_VALUE_LIMIT, OUTPUT_LIMIT, VALUE_LIMIT,
+    run, Key, ToOutput, KEYS_LIMIT, LONG_VALUE_LIMIT, OUTPUT_LIMIT, VALUE_LIMIT,
 };
 
 /// How a call ends; `docs/contracts.md` says when.
@@ -79,8 +79,8 @@ impl Ledger {
     /// Calls the function that [`entry!`](crate::entry) names with a copy of the input. What it writes stays where it returned.
     pub fn call<O, E>(&mut self, body: fn(&'static [u8]) -> Result<O, E>, input: &[u8]) -> Ending
     where
-        O: AsRef<[u8]>,
-        E: AsRef<[u8]>,
+        O: ToOutput,
+        E: ToOutput,
     {
         let input: &'static [u8] = Box::leak(input.into());
         let (rules, storage) = (self.rules, self.storage.clone());

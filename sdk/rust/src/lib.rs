@@ -15,13 +15,19 @@ pub mod host;
 mod machine;
 mod numbers;
 mod output;
+mod products;
+mod rows;
 mod sha256;
 
 pub use calls::{add, read, read_array, remove, return_output, revert, write, WrongLength};
 pub use entry::run;
 pub use numbers::{Cursor, Decimal};
-pub use output::Output;
-pub use sha256::{sha256, table_key, DIGEST_LENGTH};
+pub use output::{Output, ToOutput};
+pub use products::{mul_div_down, mul_div_up};
+#[doc(hidden)]
+pub use rows::Words;
+pub use rows::{Account, FullTable, Row, Table, ACCOUNT_LENGTH, FULL_ROW_LENGTH, ROW_LIMIT};
+pub use sha256::{sha256, table_key, table_key_of, DIGEST_LENGTH};
 
 /// The bytes of every key.
 pub const KEY_LENGTH: usize = 32;
@@ -38,6 +44,7 @@ pub const KEYS_LIMIT: usize = 256;
 
 /// A key of the storage.
 #[derive(Clone, Copy, Debug, PartialEq, Eq, PartialOrd, Ord, Hash)]
+#[repr(align(4))]
 pub struct Key(pub [u8; KEY_LENGTH]);
 
 impl Key {

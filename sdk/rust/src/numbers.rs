@@ -1,6 +1,8 @@
 //! What stands in an input one behind the other, and numbers in decimal.
 
-use crate::{revert, Key};
+use core::fmt;
+
+use crate::{revert, Account, Key, ACCOUNT_LENGTH};
 
 /// A place in an input. Each call below takes what stands there and goes on behind it; where too few bytes are left, the
 /// contract reverts. Of numbers the lowest byte stands first.
@@ -51,6 +53,18 @@ impl<'a> Cursor<'a> {
         Key(self.take_array())
     }
 
+    /// Costs least if all that is before it in the input has a multiple of 4 bytes.
+    pub fn take_account(&mut self) -> Account {
+        let bytes = self.take_bytes(ACCOUNT_LENGTH).as_ptr();
+        if bytes as usize % 4 == 0 {
+            // SAFETY: 20 bytes are lent there, which is a multiple of 4; any bytes are right for words.
+            let words = unsafe { *bytes.cast::<[u32; ACCOUNT_LENGTH / 4]>() };
+            return Account::of_words(words.map(u32::from_le));
+        }
+        // SAFETY: 20 bytes are lent there.
+        Account::new(unsafe { *bytes.cast::<[u8; ACCOUNT_LENGTH]>() })
+    }
+
     /// Reverts where bytes are left.
     pub fn take_end(&self) {
         if !self.left.is_empty() {
@@ -89,5 +103,11 @@ impl Decimal {
 impl AsRef<[u8]> for Decimal {
     fn as_ref(&self) -> &[u8] {
         &self.digits[self.start..]
+    }
+}
+
+impl fmt::Display for Decimal {
+    fn fmt(&self, to: &mut fmt::Formatter<'_>) -> fmt::Result {
+        self.digits[self.start..].iter().try_for_each(|digit| fmt::Write::write_char(to, char::from(*digit)))
     }
 }

@@ -38,26 +38,98 @@ const INITIAL_STATE: [u32; 8] = [
 /// at most 23 bytes that is one block. Every table needs a tag: a key that comes from an input as it is may be
 /// that of any.
 pub const fn table_key(tag: &str, key: &Key) -> Key {
-    Key(digest_of(tag.as_bytes(), &key.0))
+    Key(digest_of(Message::Two(tag.as_bytes(), &key.0)))
+}
+
+/// The key of a row of several parts that is too long for [`tables!`](crate::tables): the digest of a 0, the tag, a 0, and then of
+/// each part with its length before it, in 4 bytes. No other tag or parts have this key, and no key of [`table_key`] has a tag that
+/// begins with a 0.
+pub const fn table_key_of(tag: &str, parts: &[&[u8]]) -> Key {
+    Key(digest_of(Message::Parts(tag.as_bytes(), parts)))
 }
 
 /// The digest of a message.
 pub const fn sha256(message: &[u8]) -> [u8; DIGEST_LENGTH] {
-    digest_of(message, &[])
+    digest_of(Message::Two(message, &[]))
 }
 
-/// The digest of two parts, one behind the other.
-const fn digest_of(first: &[u8], second: &[u8]) -> [u8; DIGEST_LENGTH] {
-    let length = first.len() + second.len();
+/// What a digest is made of.
+#[derive(Clone, Copy)]
+enum Message<'a> {
+    /// One after the other.
+    Two(&'a [u8], &'a [u8]),
+    /// A tag between zeros, and parts with their lengths.
+    Parts(&'a [u8], &'a [&'a [u8]]),
+}
+
+/// The bytes of the length before each part.
+const PART_HEAD: usize = 4;
+
+impl Message<'_> {
+    const fn length(self) -> usize {
+        match self {
+            Message::Two(first, second) => first.len() + second.len(),
+            Message::Parts(tag, parts) => {
+                let mut length = tag.len() + 2;
+                let mut at = 0;
+                while at < parts.len() {
+                    length += PART_HEAD + parts[at].len();
+                    at += 1;
+                }
+                length
+            }
+        }
+    }
+
+    /// The byte at a place before the end.
+    const fn byte(self, place: usize) -> u8 {
+        match self {
+            Message::Two(first, second) => {
+                if place < first.len() {
+                    first[place]
+                } else {
+                    second[place - first.len()]
+                }
+            }
+            Message::Parts(tag, parts) => {
+                if place == 0 || place == tag.len() + 1 {
+                    return 0;
+                }
+                if place <= tag.len() {
+                    return tag[place - 1];
+                }
+                let (mut left, mut at) = (place - tag.len() - 2, 0);
+                while left >= PART_HEAD + parts[at].len() {
+                    left -= PART_HEAD + parts[at].len();
+                    at += 1;
+                }
+                if left < PART_HEAD {
+                    (parts[at].len() >> (8 * left)) as u8
+                } else {
+                    parts[at][left - PART_HEAD]
+                }
+            }
+        }
+    }
+}
+
+const fn digest_of(message: Message) -> [u8; DIGEST_LENGTH] {
+    let length = message.length();
     let blocks = (length + 1 + LENGTH_BYTES + BLOCK - 1) / BLOCK;
     let mut state = INITIAL_STATE;
     let mut number = 0;
     while number < blocks {
         let mut block = [0; BLOCK];
-        let mut place = 0;
-        while place < BLOCK {
-            block[place] = byte_at(number * BLOCK + place, first, second);
-            place += 1;
+        let mut at = 0;
+        while at < BLOCK {
+            let place = number * BLOCK + at;
+            // A byte of the padding without the length [5.1.1], or of the message.
+            if place == length {
+                block[at] = END_OF_MESSAGE;
+            } else if place < length {
+                block[at] = message.byte(place);
+            }
+            at += 1;
         }
         if number + 1 == blocks {
             block = with_length(block, length);
@@ -66,21 +138,6 @@ const fn digest_of(first: &[u8], second: &[u8]) -> [u8; DIGEST_LENGTH] {
         number += 1;
     }
     bytes_of(state)
-}
-
-/// A byte of the message, or of its padding without the length [5.1.1].
-const fn byte_at(place: usize, first: &[u8], second: &[u8]) -> u8 {
-    if place < first.len() {
-        return first[place];
-    }
-    let rest = place - first.len();
-    if rest < second.len() {
-        second[rest]
-    } else if rest == second.len() {
-        END_OF_MESSAGE
-    } else {
-        0
-    }
 }
 
 /// The last block with the message's length in bits.

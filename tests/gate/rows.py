@@ -1,0 +1,269 @@
+"""Keys of rows in C (sdk/rows.h): by both compilers against a model, what they cost, and what does not compile."""
+
+import random
+import re
+from collections.abc import Sequence
+from dataclasses import dataclass
+from functools import partial
+
+from gate.calls import command, rvstm
+from gate.cases import TOP, Case, Run, holds, same
+from gate.machine import CONTRACTS, Tool
+from gate.stumbles import COMPILERS, FLAGS
+from gate.texts import Call, block, receipts, written
+
+MAKEFILE = TOP / "sdk/Makefile"
+FULL = 28
+NEEDS = {"clang": CONTRACTS, "gnu": (Tool.GCC, Tool.MAKE)}
+
+CONSTANT_LENGTHS = "\n".join(f"    case {n}: ROW_KEY(&keys[0], acct, BYTES(row, {n})); break;" for n in range(1, FULL))
+KEYS = f"""#include "rows.h"
+TABLE(acct);
+TABLE(B);
+FULL_TABLE(pay);
+
+/* A count of bytes that are left out, and a row: its key with a constant length, and that with a length known only now. */
+static void keys_of_bytes(const u8 *row, u32 length) {{
+    struct key keys[2];
+    switch (length) {{
+    case {FULL}: ROW_KEY(&keys[0], pay, BYTES(row, {FULL})); return_output(keys, KEY_LENGTH);
+{CONSTANT_LENGTHS}
+    }}
+    ROW_KEY_OF(&keys[1], B, row, length);
+    return_output(keys, sizeof keys);
+}}
+
+/* Rows of several parts. */
+static void keys_of_parts(const u8 *input) {{
+    struct key keys[4];
+    const struct account *who = (const struct account *)input;
+    u64 large = read_u64(input + 20);
+    u32 word = (u32)large;
+    __UINT16_TYPE__ half = (__UINT16_TYPE__)large;
+    u8 low = (u8)large, bytes[3] = {{input[0], input[1], input[2]}};
+    ROW_KEY(&keys[0], pay, *who, large);
+    ROW_KEY(&keys[1], acct, word, *who, half);
+    ROW_KEY(&keys[2], acct, low, half, bytes, large);
+    ROW_KEY(&keys[3], B, low, BYTES(input, 26));
+    return_output(keys, sizeof keys);
+}}
+
+static const struct key constants[] = {{TEXT_KEY(acct, "pot"), TEXT_KEY(B, "abcdefghijklmnopqrstuvwxyz0"), NUMBER_KEY(acct, 0x123456789abcdef0)}};
+
+void contract(const u8 *input, u32 length) {{
+    if (length == 0) {{
+        return_output(constants, sizeof constants);
+    }} else if (input[0] == 4) {{
+        keys_of_parts(input + 4);
+    }} else {{
+        keys_of_bytes(input + 1 + input[0], length - 1 - input[0]);
+    }}
+}}
+"""
+
+
+def key(table: str, row: bytes) -> bytes:
+    """The key of a row, as docs/contracts.md defines it."""
+    if len(row) == FULL:
+        return table.encode().ljust(4, b"\0") + row
+    return table.encode().ljust(4, b"\0") + row.ljust(FULL - 1, b"\0") + bytes([len(row)])
+
+
+def some_rows(seed: int) -> list[bytes]:
+    """Rows of all lengths: zeros, one text that is cut, and random bytes, of which some differ in zeros at their ends alone."""
+    chance = random.Random(seed)
+    found = [row for length in range(1, FULL + 1) for row in (bytes(length), b"\x1b" * length, bytes(range(1, length + 1)), chance.randbytes(length))]
+    for _ in range(30):
+        start = chance.randbytes(chance.randint(1, FULL - 1))
+        found += [start, start.ljust(chance.randint(len(start), FULL), b"\0")]
+    return sorted(set(found))
+
+
+def keys_by_model(run: Run, compiler: str) -> None:
+    """Each key is that of the model, and no two rows have one key."""
+    written(run.place / "keys.c", KEYS)
+    command(["make", "-s", "-f", MAKEFILE, f"TOOLS={compiler}", "keys.elf"], run.place).done()
+    rows = some_rows(run.setting.seed)
+    calls = [Call(data=(bytes([left]) + bytes(left) + row).hex()) for row in rows for left in range(4)]
+    parts = bytes(random.Random(run.setting.seed).randbytes(28))
+    calls += [Call(data=(b"\4\0\0\0" + parts).hex()), Call()]
+    outputs = [bytes.fromhex(one.output) for part in batches(calls) for one in receipts(rvstm(run, "seq", part_of(run, part), folder=run.place).done())]
+    seen = dict[bytes, tuple[str, bytes]]()
+    for row, at in ((row, 4 * number + left) for number, row in enumerate(rows) for left in range(4)):
+        tables = ["pay"] if len(row) == FULL else ["acct", "B"]
+        same(outputs[at].hex(), b"".join(key(table, row) for table in tables).hex(), f"{row.hex()} at byte {at % 4}")
+        for table, made in zip(tables, (outputs[at][:32], outputs[at][32:])):
+            same(seen.setdefault(made, (table, row)), (table, row), "a key of two rows")
+    who, large = parts[:20], parts[20:]
+    wanted = [("pay", who + large), ("acct", large[:4] + who + large[:2]), ("acct", large[:1] + large[:2] + who[:3] + large), ("B", large[:1] + parts[:26])]
+    same(outputs[-2].hex(), b"".join(key(table, row) for table, row in wanted).hex(), "parts")
+    number = 0x123456789ABCDEF0.to_bytes(8, "little")
+    same(outputs[-1], key("acct", b"pot") + key("B", b"abcdefghijklmnopqrstuvwxyz0") + key("acct", number), "constants")
+
+
+def batches(calls: Sequence[Call]) -> list[Sequence[Call]]:
+    """The calls of blocks, of which each has at most 1,000."""
+    return [calls[at : at + 1000] for at in range(0, len(calls), 1000)]
+
+
+def part_of(run: Run, calls: Sequence[Call]) -> str:
+    """The file of a block of these calls."""
+    written(run.place / "keys.block", block(["keys.elf"], calls))
+    return "keys.block"
+
+
+HOST = """#include "host.h"
+#include <stdio.h>
+
+int main(void) {
+    for (u8 length = 1; length <= 28; length++) {
+        for (u8 left = 0; left < 4; left++) {
+            u8 input[32] = {left};
+            for (u8 at = 0; at < length; at++) {
+                input[1 + left + at] = (u8)(at + 1);
+            }
+            struct result result = call_contract(input, 1u + left + length);
+            for (u32 at = 0; at < result.length; at++) {
+                printf("%02x", result.output[at]);
+            }
+            printf("\\n");
+        }
+    }
+    return 0;
+}
+"""
+
+
+def keys_on_this_machine(run: Run) -> None:
+    """Keys of rows of all lengths and at all places, compiled for this machine with its sanitizers."""
+    written(run.place / "keys.c", KEYS)
+    written(run.place / "keys-test.c", HOST)
+    command(["make", "-s", "-f", MAKEFILE, "CC=cc", "keys-test"], run.place).done()
+    rows = [bytes(range(1, length + 1)) for length in range(1, FULL + 1) for _ in range(4)]
+    wanted = [b"".join(key(table, row) for table in (["pay"] if len(row) == FULL else ["acct", "B"])).hex() for row in rows]
+    same(command([run.place / "keys-test"]).done(), "".join(f"{line}\n" for line in wanted))
+
+
+# ---- costs
+
+@dataclass(frozen=True)
+class Cost:
+    """A key that a call makes and removes, the length of its input, and the most gas that the key may cost."""
+
+    statement: str
+    length: int
+    most: int
+
+
+PLACE = "*(const struct account *)input"
+COSTS = (
+    Cost(f"ROW_KEY(&key, acct, {PLACE});", 20, 40),
+    Cost(f"ROW_KEY(&key, pay, {PLACE}, *(const u64 *)(const void *)(input + 20));", 28, 40),
+    Cost("ROW_KEY(&key, acct, *(const u64 *)(const void *)input);", 8, 40),
+    Cost("ROW_KEY(&key, acct, *(const u32 *)(const void *)input);", 4, 40),
+    Cost("ROW_KEY(&key, acct, *(const odd *)(const void *)input);", 27, 40),
+    Cost("ROW_KEY(&key, pay, BYTES(input + 1, 28));", 29, 90),
+    Cost("ROW_KEY(&key, acct, BYTES(input + 2, 27));", 29, 90),
+    Cost("ROW_KEY(&key, acct, BYTES(input + 3, 20));", 23, 90),
+    Cost("ROW_KEY(&key, acct, BYTES(input + 1, 7));", 8, 90),
+    *(Cost("ROW_KEY_OF(&key, acct, input, length);", length, 30 + 8 * length) for length in (1, 13, 20, 27)),
+)
+COST = """#include "rows.h"
+TABLE(acct);
+FULL_TABLE(pay);
+typedef u8 odd[27] __attribute__((aligned(4)));
+static const struct key constant = TEXT_KEY(acct, "pot");
+RUNS
+static void (*const runs[])(const u8 *, u32) = {NAMES};
+void contract(const u8 *input, u32 length) {
+    runs[input[0]](input + 4, length - 4);
+}
+"""
+ONE_RUN = "static void run{}(const u8 *input, u32 length) {{ struct key key; {} }}"
+
+
+def costs(run: Run, compiler: str) -> None:
+    """The gas of each key, beside that of a constant one, which costs nothing."""
+    bodies = ["storage_remove(&constant);", *(f"{cost.statement} storage_remove(&key);" for cost in COSTS)]
+    runs = "\n".join(ONE_RUN.format(number, body) for number, body in enumerate(bodies))
+    names = ", ".join(f"run{number}" for number in range(len(bodies)))
+    written(run.place / "costs.c", COST.replace("RUNS", runs).replace("NAMES", names))
+    command(["make", "-s", "-f", MAKEFILE, f"TOOLS={compiler}", "costs.elf"], run.place).done()
+    calls = [Call(data=(bytes([number, 0, 0, 0]) + bytes(length)).hex()) for number, length in enumerate([0, *(cost.length for cost in COSTS)])]
+    written(run.place / "costs.block", block(["costs.elf"], calls))
+    constant, *others = receipts(rvstm(run, "seq", "costs.block", folder=run.place).done())
+    for cost, one in zip(COSTS, others):
+        same(one.end, "returned", cost.statement)
+        holds(one.gas - constant.gas <= cost.most, f"{one.gas - constant.gas} gas of {cost.statement}", f"at most {cost.most}")
+
+
+# ---- what does not compile
+
+@dataclass(frozen=True)
+class Wrong:
+    """A declaration and a statement that do not compile together, and a part of what both compilers say."""
+
+    declared: str
+    statement: str
+    said: str
+
+
+NAME = "the name of a table has 1 to 4 letters, A to Z and a to z"
+PART = "a part of a row is a number, a struct account, an array of u8, or BYTES(at, count)"
+LENGTH = "a row has 1 to 27 bytes, or 28 in a full table"
+CONSTANT = "a constant row has 1 to 27 bytes, and TABLE declares its table"
+WHOLE = "a row of a full table has 28 bytes"
+WRONG = (
+    Wrong("TABLE(acct); FULL_TABLE(acct);", "ROW_KEY(&key, acct, *who);", "row_is_full_acct"),
+    Wrong("TABLE(accts);", "ROW_KEY(&key, accts, *who);", NAME),
+    Wrong("TABLE(lot7);", "ROW_KEY(&key, lot7, *who);", NAME),
+    Wrong("FULL_TABLE(l_t);", "ROW_KEY(&key, l_t, BYTES(input, 28));", NAME),
+    Wrong("", "ROW_KEY(&key, acct, *who);", "row_is_full_acct"),
+    Wrong("FULL_TABLE(pay);", "ROW_KEY(&key, pay, *who);", WHOLE),
+    Wrong("FULL_TABLE(pay);", "ROW_KEY(&key, pay, BYTES(input, 29));", WHOLE),
+    Wrong("FULL_TABLE(pay);", "ROW_KEY_OF(&key, pay, input, length);", "a row of a full table has 28 bytes: use ROW_KEY"),
+    Wrong("TABLE(acct);", "u64 number = 7; ROW_KEY(&key, acct, *who, number);", LENGTH),
+    Wrong("TABLE(acct);", "ROW_KEY(&key, acct, BYTES(input, 0));", LENGTH),
+    Wrong("TABLE(acct);", "ROW_KEY(&key, acct, who);", PART),
+    Wrong("TABLE(acct);", "struct { u8 kind; u32 number; } row = {1, 2}; ROW_KEY(&key, acct, row);", PART),
+    Wrong("TABLE(acct);", "float number = 1; ROW_KEY(&key, acct, number);", PART),
+    Wrong("TABLE(acct);", "ROW_KEY(&key, acct, length + 1);", "value"),
+    Wrong("TABLE(acct);", "ROW_KEY(&key, acct, length, length, length, length, length);", "acct"),
+    Wrong("TABLE(acct);", 'static const struct key text = TEXT_KEY(acct, "1234567890123456789012345678"); key = text;', CONSTANT),
+    Wrong("TABLE(acct);", 'static const struct key text = TEXT_KEY(acct, ""); key = text;', CONSTANT),
+    Wrong("FULL_TABLE(pay);", 'static const struct key text = TEXT_KEY(pay, "pot"); key = text;', CONSTANT),
+    Wrong("FULL_TABLE(pay);", "static const struct key number = NUMBER_KEY(pay, 7); key = number;", CONSTANT),
+    Wrong("TABLE(acct);", "static const struct key number = NUMBER_KEY(acct, length); key = number;", "constant"),
+)
+SOURCE = """#include "rows.h"
+DECLARED
+void contract(const u8 *input, u32 length) {
+    struct key key;
+    const struct account *who = (const struct account *)input;
+    STATEMENT
+    storage_remove(who == 0 || length == 0 ? (const void *)input : &key);
+}
+"""
+
+
+def refused(run: Run, compiler: str) -> None:
+    """What does not compile, and what is said of it."""
+    for number, wrong in enumerate(WRONG):
+        text = SOURCE.replace("DECLARED", wrong.declared).replace("STATEMENT", wrong.statement)
+        written(run.place / f"wrong{number}.c", text)
+        done = command([*COMPILERS[compiler], *FLAGS, "-c", f"wrong{number}.c"], run.place)
+        holds(done.status != 0, f"{wrong} compiled", "a refusal")
+        said = " ".join(re.findall(r"(?:error|warning): (.*)", done.errors))
+        holds(wrong.said in said, f"{wrong}: {said}", wrong.said)
+
+
+def cases() -> list[Case]:
+    """All of them."""
+    found = [Case("rows on this machine", keys_on_this_machine, (Tool.CC, Tool.MAKE))]
+    for compiler, needs in NEEDS.items():
+        found += [
+            Case(f"rows by {compiler}: keys by a model", partial(keys_by_model, compiler=compiler), needs, cost=2),
+            Case(f"rows by {compiler}: costs", partial(costs, compiler=compiler), needs, cost=3),
+            Case(f"rows by {compiler}: what does not compile", partial(refused, compiler=compiler), needs, cost=4),
+        ]
+    return found
