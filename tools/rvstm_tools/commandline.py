@@ -10,7 +10,7 @@ from rvstm_tools import errors
 from rvstm_tools.options import Command
 
 NAMES = (
-    "block", "conflicts", "coverage", "example", "explore", "gdb", "library", "node", "preview", "release", "result", "schedule",
+    "block", "conflicts", "coverage", "example", "explore", "gdb", "library", "new", "preview", "release", "result", "schedule", "session",
     "test", "trace", "verify",
 )
 """Of the commands. Each is the `COMMAND` of the module of its name, which is loaded only if it is asked for: most of the time of

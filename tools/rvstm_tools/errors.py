@@ -7,8 +7,11 @@ A mistake of the user is reported in one line: a wrong word in a list, a file th
 import enum
 import io
 import os
+import signal
 import sys
-from collections.abc import Callable
+from collections.abc import Callable, Iterator
+from contextlib import contextmanager
+from types import FrameType
 
 
 class Status(enum.IntEnum):
@@ -58,6 +61,20 @@ def ended(name: str, run: Callable[[], int], others: tuple[type[Exception], ...]
     drop_output()
     print(f"{name}: {fault}", file=sys.stderr)
     return status
+
+
+@contextmanager
+def ended_by_signal() -> Iterator[None]:
+    """Takes SIGTERM for Ctrl-C, so that a command can print what it has so far."""
+
+    def interrupt(number: int, frame: FrameType | None) -> None:
+        raise KeyboardInterrupt
+
+    before = signal.signal(signal.SIGTERM, interrupt)
+    try:
+        yield
+    finally:
+        signal.signal(signal.SIGTERM, before)
 
 
 def drop_output() -> None:

@@ -1,12 +1,43 @@
 """What all subcommands share: their shape, and the options that several of them have."""
 
 import argparse
+import os
 from collections.abc import Callable
 from dataclasses import dataclass
 from pathlib import Path
 
-from rvstm_tools.texts import lists
-from rvstm_tools.texts.keys import Names
+from rvstm_tools.texts import lists, numbers
+from rvstm_tools.texts.views import View
+
+
+MOST_ASKED_FOR = 2**63 - 1
+
+
+def count(word: str) -> int:
+    """A number of at least 1."""
+    number = numbers.at_most(word, MOST_ASKED_FOR) if numbers.is_decimal(word) else None
+    if not number:
+        raise argparse.ArgumentTypeError(f"{word}: it is a number of at least 1")
+    return number
+
+
+def positive(word: str) -> float:
+    """A number above 0, which may have a fraction."""
+    try:
+        number = float(word)
+    except ValueError:
+        number = 0.0
+    if not 0 < number < float("inf"):
+        raise argparse.ArgumentTypeError(f"{word}: it is a number above 0")
+    return number
+
+
+def new_file(word: str) -> Path:
+    """The path of a file that is written at the end of a long run: its folder has to be there at the beginning."""
+    path = Path(word)
+    if not path.parent.is_dir():
+        raise argparse.ArgumentTypeError(f"{word}: its folder is not there")
+    return path
 
 
 @dataclass(frozen=True)
@@ -53,17 +84,17 @@ def program_choice(given: argparse.Namespace) -> ProgramChoice:
 
 
 def list_parser() -> argparse.ArgumentParser:
-    """The option that names a list, for its words of keys."""
+    """The option that names a list, for its words of keys and its shapes."""
     parser = argparse.ArgumentParser(add_help=False)
     parser.add_argument(
-        "--list", metavar="LIST", help="a list; a key that it names table:TAG:text is printed by these words"
+        "--list", metavar="LIST", help="a list: keys are printed by its words table: and row:, values by its lines shape"
     )
     return parser
 
 
-def table_names(given: argparse.Namespace) -> Names:
-    """What the list of `list_parser` calls its keys."""
-    return lists.table_names(given.list) if given.list is not None else {}
+def view(given: argparse.Namespace) -> View:
+    """What the list of `list_parser` says of keys and values."""
+    return lists.read_view(given.list) if given.list is not None else View()
 
 
 def call_parser() -> argparse.ArgumentParser:
@@ -78,4 +109,14 @@ def seed_parser() -> argparse.ArgumentParser:
     """The option that names the seed of what is drawn."""
     parser = argparse.ArgumentParser(add_help=False)
     parser.add_argument("--seed", type=int, default=1, metavar="N", help="another number draws other things (1)")
+    return parser
+
+
+def jobs_parser() -> argparse.ArgumentParser:
+    """The option that names how many processes run at once."""
+    parser = argparse.ArgumentParser(add_help=False)
+    processors = len(os.sched_getaffinity(0))
+    parser.add_argument(
+        "--jobs", type=count, default=processors, metavar="N", help="how many run at once (as many as there are processors)"
+    )
     return parser

@@ -1,10 +1,12 @@
 """The commands as a user calls them: output, errors and statuses."""
 
+import json
 import os
 import shutil
 import subprocess
 import sys
 import unittest
+import xml.etree.ElementTree as ElementTree
 from pathlib import Path
 from unittest import mock
 
@@ -92,6 +94,79 @@ class Test(InFolder):
         }.items():
             with self.subTest(message):
                 self.assertEqual(called("test", "--program", self.program(), *words), (2, "", f"test: {message}\n"))
+
+    def test_lines_of_json(self) -> None:
+        self.write("b.list", LIST)
+        self.write("a.list", LIST + "expect gas at most 4\nstorage\nexpect key:1 u8:7\n")
+        status, output, _ = called("test", "--program", self.program(), "--json", str(self.folder))
+        rows = [json.loads(line) for line in output.splitlines()]
+        self.assertEqual(status, 1)
+        self.assertEqual([row["misses"] for row in rows[:2]], [[
+            {"line": 5, "call": 0, "expected": "expect gas at most 4", "wanted": "gas at most 4", "came": "gas 5", "place": ""},
+            {"line": 7, "call": None, "expected": "expect key:1 u8:7", "wanted": "07  7", "came": "gone", "place": ""},
+        ], []])
+        self.assertEqual([row["gas"] for row in rows[:2]], [[5], [5]])
+        self.assertEqual(rows[2], {"kind": "sums", "tests": 2, "failed": 1, "calls": 2, "expectations": 4, "not_met": 2})
+
+    def test_junit(self) -> None:
+        """Of two runs one fails, with a letter in its path that XML does not have."""
+        self.write("b.list", LIST)
+        self.write("a\1<.list", LIST.replace('returned "hi"', "reverted"))
+        out = self.folder / "tests.xml"
+        self.assertEqual(called("test", "--program", self.program(), "--junit", str(out), str(self.folder))[0], 1)
+        (suite,) = ElementTree.parse(out).getroot()
+        self.assertEqual([suite.get(name) for name in ("tests", "failures", "errors")], ["2", "1", "0"])
+        bad, good = suite
+        self.assertEqual((bad.get("name"), good.get("name")), (f"{self.folder}/a\ufffd<.list", f"{self.folder}/b.list"))
+        self.assertEqual([failure.get("message") for failure in bad], ["1 of 1 not met"])
+        self.assertIn("came    returned", bad[0].text or "")
+        self.assertEqual(len(good), 0)
+
+    def test_a_table_of_gas(self) -> None:
+        path, table = self.write("a.list", LIST), self.folder / "gas"
+        words = ("test", "--program", self.program(), path, "--gas", str(table))
+        self.assertEqual(called(*words, "--write")[0], 0)
+        self.assertEqual(table.read_text().splitlines()[1:], ["       5     0  a.list"])
+        self.assertEqual(called(*words)[0], 0)
+        for row, within, line in (
+            ("4 0 a.list", "24.9", "a.list, call 0: 4 -> 5, 25.0 percent more"),
+            ("4 0 a.list", "25", None),
+            ("10 0 a.list", "0", "a.list, call 0: 10 -> 5, 50.0 percent less"),
+            ("0 0 a.list", "100", "a.list, call 0: 0 -> 5 more"),
+            ("", "0", "a.list, call 0: 5, and not in the table"),
+            ("5 0 a.list\n7 1 a.list", "0", "a.list, call 1: 7 in the table, and not in the list"),
+            ("# 5\n5 0 a.list\n7 0 b.list", "0", None),
+        ):
+            with self.subTest(row):
+                table.write_text(f"{row}\n")
+                status, output, _ = called(*words, "--within", within)
+                said = [f"1 call of {table} differs by more than {float(within):g} percent", f"    {line}"] if line else []
+                self.assertEqual((status, output.splitlines()[1:-1]), (int(line is not None), said))
+        table.write_text("nothing\n")
+        message = f"test: {table}, line 1: a row has the gas, the number of the call and the list\n"
+        self.assertEqual(called(*words), (2, "", message))
+
+    def test_a_table_is_not_written_if_a_test_fails(self) -> None:
+        path, table = self.write("a.list", LIST.replace('"hi"', '"ho"')), self.folder / "gas"
+        status, output, _ = called("test", "--program", self.program(), path, "--gas", str(table), "--write")
+        self.assertEqual((status, table.exists()), (1, False))
+        self.assertIn(f"{table} is not written: a test failed\n", output)
+
+    def test_wrong_options(self) -> None:
+        for words, message in (
+            (("--within", "x"), "--within: x: it is a number of percent"),
+            (("--within", "-1"), "--within: -1: it is a number of percent"),
+            (("--junit", "/nowhere/a.xml"), "--junit: /nowhere/a.xml: its folder is not there"),
+            (("--jobs", "0"), "--jobs: 0: it is a number of at least 1"),
+        ):
+            with self.subTest(words):
+                status, _, faults = called("test", "x", *words)
+                self.assertEqual((status, faults.splitlines()[-1]), (2, f"rvstm-tools test: error: argument {message}"))
+
+    def test_options_without_their_table(self) -> None:
+        for words in (("--write",), ("--within", "3")):
+            self.assertEqual(called("test", "x", "--program", self.program(), *words),
+                             (2, "", "test: --within and --write are for --gas FILE\n"))
 
     def test_no_program(self) -> None:
         path = f"{self.folder}/nowhere"

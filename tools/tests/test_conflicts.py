@@ -9,6 +9,7 @@ from rvstm_tools.pictures.waits import Picture
 from rvstm_tools.texts import conflicts
 from rvstm_tools.texts.conflicts import Wait, WaitedKey, WaitingCall
 from rvstm_tools.texts.keys import Key
+from rvstm_tools.texts.views import View
 from tests.helpers import InFolder, called
 
 A, B = b"a".ljust(32, b"\0"), b"b".ljust(32, b"\0")
@@ -68,7 +69,7 @@ class Text(unittest.TestCase):
 
 class OfAPicture(unittest.TestCase):
     def setUp(self) -> None:
-        self.picture = Picture("the <block>", conflicts.conflicts_of(TEXT), {Key(B): "table:b&c:1"})
+        self.picture = Picture("the <block>", conflicts.conflicts_of(TEXT), View({Key(B): "table:b&c:1"}))
 
     def titles(self) -> list[str]:
         root = ElementTree.fromstring(self.picture.svg())
@@ -98,12 +99,12 @@ class OfAPicture(unittest.TestCase):
         self.assertEqual(self.picture.legend(3)[-1].text, "3 of 4 waits are drawn")
 
     def test_no_calls(self) -> None:
-        svg = Picture("none", conflicts.conflicts_of("all calls 0 gas 0 path 0\n"), {}).svg()
+        svg = Picture("none", conflicts.conflicts_of("all calls 0 gas 0 path 0\n"), View()).svg()
         self.assertIn("none: 0 calls, 0 gas, 0 waits; the longest path has 0 gas", svg)
         ElementTree.fromstring(svg)
 
     def test_long_names_are_cut(self) -> None:
-        self.assertEqual(waits.name_of(Key(bytes(31) + b"\1"), {}), f"{'0' * 18}..{'0' * 17}1")
+        self.assertEqual(waits.name_of(Key(bytes(31) + b"\1"), View()), f"{'0' * 18}..{'0' * 17}1")
 
 
 class Command(InFolder):

@@ -2,9 +2,12 @@
 
 import unittest
 from collections import Counter
+from pathlib import Path
 
+from rvstm_tools.commands.coverage import counts_of_inputs
 from rvstm_tools.debugging import coverage
 from rvstm_tools.debugging.coverage import AtBranch, BranchOfSource, SourceFile, Steps, Ways
+from tests.helpers import InFolder
 
 
 def source() -> SourceFile:
@@ -75,6 +78,17 @@ end_of_record"""
         rows = coverage.rows_of(range(0, 200, 2))
         self.assertEqual(", ".join(rows).replace(" ", "").split(","), [str(number) for number in range(0, 200, 2)])
         self.assertLessEqual(max(map(len, rows)), 110)
+
+
+class Inputs(InFolder):
+    def test_counts(self) -> None:
+        """By the shapes of all lists; an input that no call has is 0, and one that fits no shape has no name."""
+        calls = "".join(f"call a 5 {data}\n" for data in ("u8:0 u8:7", "u8:1", "u8:0", "", "u8:1"))
+        paths = [
+            self.write("one.list", f"program a a.elf\nshape input add u8:0 u8\nshape input done u8:2\n{calls}"),
+            self.write("two.list", f"program a a.elf\nshape input take u8:1\n{calls}"),
+        ]
+        self.assertEqual(counts_of_inputs(list(map(Path, paths))), {"add": 2, "done": 0, "take": 4, "": 4})
 
 
 if __name__ == "__main__":

@@ -5,7 +5,8 @@ import unittest
 from rvstm_tools.texts import differences, shown
 from rvstm_tools.texts.differences import Difference
 from rvstm_tools.texts.keys import Key, numbered_key
-from rvstm_tools.texts.results import Added, Removed, Written
+from rvstm_tools.texts.results import Added, Change, Removed, Written
+from rvstm_tools.texts.views import View
 
 
 class Shown(unittest.TestCase):
@@ -32,14 +33,16 @@ class Shown(unittest.TestCase):
         self.assertEqual(shown.shown_change(Added(0)), "+0")
 
     def test_keys(self) -> None:
-        names = {numbered_key(1): "table:t:a"}
-        self.assertEqual(shown.shown_key(numbered_key(1), names), "table:t:a")
-        self.assertEqual(shown.shown_key(numbered_key(1), {}), "0" * 63 + "1")
-        self.assertEqual(shown.shown_key(numbered_key(0), names), "00")
-        self.assertEqual(shown.shown_key(Key(b"alice".ljust(32, b"\0")), names), '"alice"')
-        self.assertEqual(shown.shown_key(Key(b"!~".ljust(32, b"\0")), names), '"!~"')
-        self.assertEqual(shown.shown_key(Key(b"a b".ljust(32, b"\0")), names), "612062")
-        self.assertEqual(shown.shown_key(Key(b'a"'.ljust(32, b"\0")), names), "6122")
+        self.assertEqual(View({numbered_key(1): "table:t:a"}).key(numbered_key(1)), "table:t:a")
+        for key, wanted in {
+            numbered_key(1): "0" * 63 + "1",
+            numbered_key(0): "00",
+            Key(b"alice".ljust(32, b"\0")): '"alice"',
+            Key(b"!~".ljust(32, b"\0")): '"!~"',
+            Key(b"a b".ljust(32, b"\0")): "612062",
+            Key(b'a"'.ljust(32, b"\0")): "6122",
+        }.items():
+            self.assertEqual(View().key(key), wanted)
 
 
 class OfBytes(unittest.TestCase):
@@ -65,13 +68,16 @@ class OfBytes(unittest.TestCase):
 
 class OfChanges(unittest.TestCase):
     def test_of_different_kinds(self) -> None:
-        self.assertEqual(differences.of_changes(Removed(), Added(5)), Difference("gone", "+5"))
+        def difference(wanted: Change, came: Change) -> Difference:
+            return View().difference(numbered_key(1), wanted, came)
+
+        self.assertEqual(difference(Removed(), Added(5)), Difference("gone", "+5"))
         long = Written(bytes(41))
-        self.assertEqual(differences.of_changes(Removed(), long), Difference("gone", "00" * 20 + "..  (41 bytes)"))
-        self.assertEqual(differences.of_changes(long, Added(1)), Difference("00" * 20 + "..  (41 bytes)", "+1"))
+        self.assertEqual(difference(Removed(), long), Difference("gone", "00" * 20 + "..  (41 bytes)"))
+        self.assertEqual(difference(long, Added(1)), Difference("00" * 20 + "..  (41 bytes)", "+1"))
 
     def test_values(self) -> None:
-        self.assertEqual(differences.of_changes(Written(b"\1"), Written(b"\2")), Difference("01  1", "02  2"))
+        self.assertEqual(View().difference(numbered_key(1), Written(b"\1"), Written(b"\2")), Difference("01  1", "02  2"))
 
 
 class OfLines(unittest.TestCase):

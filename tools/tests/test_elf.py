@@ -127,6 +127,11 @@ class OfSources(InFolder):
         self.assertEqual(chains[0x10004], [Inlined("tally::vote", "")])
         self.assertEqual(chains[0x10008], [Inlined("vote", "/src/a.c:?")])
 
+    def test_a_label_is_no_function(self) -> None:
+        """What llvm-addr2line 14 prints of a jump's target in a function of Rust's own library, whose lines are not there."""
+        file = ElfFile(self.write("a.elf", elf_file()))
+        self.assertEqual(sources.chains_of(file, [0x10004], self.tool("0x10004\n.LBB0_1\n??:0\n")), {0x10004: [Inlined("tally::vote", "??:0")]})
+
     def test_without_a_tool(self) -> None:
         file = ElfFile(self.write("a.elf", elf_file()))
         self.assertEqual(sources.chains_of(file, [0x10000], None), {0x10000: [Inlined("start", "")]})

@@ -11,12 +11,13 @@ from rvstm_tools.texts.expectations import (
 )
 from rvstm_tools.texts.keys import Key, Storage, numbered_key
 from rvstm_tools.texts.results import Added, End, Receipt, Removed, Written
+from rvstm_tools.texts.views import View
 
 ONE, TWO = numbered_key(1), numbered_key(2)
 
 
 def scene(*keys: Key, lines: LineDifference | None = None) -> Scene:
-    return Scene(frozenset(keys), {TWO: "table:t:two"}, lambda workers: lines)
+    return Scene(frozenset(keys), View({TWO: "table:t:two"}), lambda workers: lines)
 
 
 def receipt(end: End = End.RETURNED, output: bytes = b"", gas: int = 5) -> Receipt:
@@ -50,11 +51,15 @@ class AfterACall(unittest.TestCase):
     def test_messages(self) -> None:
         forms = "returned, reverted, out-of-gas, trapped, gas at most, same by, no other or a key"
         trapped = "trapped: it is followed by one of illegal, misaligned, memory-fault, fetch-fault, breakpoint, unknown-call, "
+        words_of_lists = (
+            'not bytes in hex, "text", u8:N .. u64:N, i8:N .. i64:N, key:text, key:N, account:name, row:TABLE:name, '
+            "table:TAG:text or hex:BYTES"
+        )
         amount = "an amount is a number of 0 to 18446744073709551615"
         check_messages(self, expectations.of_call, {
             "": f"expect: {forms} follows it",
             "wrong": f"wrong: none of {forms}",
-            "wrong:": 'wrong:: neither bytes in hex nor "text", u8:N, u16:N, u32:N, u64:N, key:text, key:N or table:TAG:text',
+            "wrong:": f"wrong:: {words_of_lists}",
             "out-of-gas 5": "5: nothing follows out-of-gas",
             "trapped": f"{trapped}bad-length, too-many-writes",
             "trapped returned": f"{trapped}bad-length, too-many-writes",
@@ -76,7 +81,7 @@ class AfterACall(unittest.TestCase):
             "key:1 add 5 5": "add: one amount follows it, and the line follows a call",
             "key:1 add 18446744073709551616": f"18446744073709551616: {amount}",
             "key:1 add \u0663": f"\u0663: {amount}",
-            "key:1 gone 00": 'gone: neither bytes in hex nor "text", u8:N, u16:N, u32:N, u64:N, key:text, key:N or table:TAG:text',
+            "key:1 gone 00": f"gone: {words_of_lists}",
         })
 
     def test_met(self) -> None:

@@ -1,20 +1,31 @@
 """Exploring: each line of a description, expressions that raise, what is drawn, and sequences that are shortened."""
 
+import io
+import json
 import random
 import unittest
 from pathlib import Path
+from types import SimpleNamespace
+from unittest import mock
 
 from rvstm_tools.errors import UserError
-from rvstm_tools.exploring import expressions, runs, searches
+from rvstm_tools.exploring import expressions, foundlists, saved, shortening, storages
 from rvstm_tools.exploring.descriptions import Description
 from rvstm_tools.exploring.expressions import Raised, Rule
 from rvstm_tools.exploring.places import AnyBytes, DrawnBytes, Numbers, Span, Words
-from rvstm_tools.exploring.runs import Broken, Call, Counted, Run, StorageByReceipts
-from rvstm_tools.exploring.searches import Limits, Search
+from rvstm_tools.exploring.progress import Progress
+from rvstm_tools.exploring.reached import Reached, Sample, Sampler, Way
+from rvstm_tools.exploring.runs import Call, Finding, Run
+from rvstm_tools.exploring.saved import SavedCall
+from rvstm_tools.exploring.shortening import Shorter
+from rvstm_tools.exploring.storages import StorageByReceipts
 from rvstm_tools.texts import words
 from rvstm_tools.texts.keys import Key
+from rvstm_tools.texts.lists import STORAGE
 from rvstm_tools.texts.results import Added, End, Receipt, Removed, Written
+from rvstm_tools.texts.views import View
 from tests.helpers import InFolder, called
+from tests.test_elf import elf_file
 
 A = Key(b"a".ljust(32, b"\0"))
 BEGIN = "program echo echo.elf\ndraw some 1..9\ndraw who alice bob\ndraw data bytes:0..2\n"
@@ -49,7 +60,7 @@ class OfDescriptions(InFolder):
                          b"alice".ljust(32, b"\0") + b"b".ljust(32, b"\0") + b"\xff")
 
     def test_messages(self) -> None:
-        kinds = "not rules, program, store, draw, let, always, call, returned, reverted, holds, may-end or storage"
+        kinds = "not rules, program, shape, store, draw, let, model, always, call, method, returned, reverted, holds, may-end or storage"
         words_of_call = "call: a program's name, the gas and the input follow it, and no line `storage` is above it"
         for text, line, message in (
             ("nonsense\n", 1, f"nonsense: {kinds}"),
@@ -57,7 +68,9 @@ class OfDescriptions(InFolder):
             ("draw 1x 5\n", 1, "1x: a name has letters, digits and _, and is not a word of Python"),
             ("draw for 5\n", 1, "for: a name has letters, digits and _, and is not a word of Python"),
             ("draw gas 5\n", 1, "gas: this name is taken"),
-            ("draw a\n", 1, "draw: words, numbers, ranges of numbers or bytes:FIRST..LAST follow the name"),
+            ("draw a\n", 1, "draw: words, numbers, ranges of numbers, bytes:FIRST..LAST, keys:N or accounts:N follow the name"),
+            ("draw a keys:0\n", 1, "0: how many keys there are is a number of 1 to 64"),
+            ("draw a accounts:65\n", 1, "65: how many accounts there are is a number of 1 to 64"),
             ("draw a 5\ndraw a 6\n", 2, "a: another line `draw` has this name"),
             ("draw a 9..1\n", 1, "9..1: the first number is above the last one"),
             ("draw a 1 x\n", 1, "draw: only words follow the name, or only numbers, or one bytes:FIRST..LAST"),
@@ -85,8 +98,8 @@ class OfDescriptions(InFolder):
             (f"{CALL}holds some == other\n", 6, "other: there is no such name here"),
             (f"{CALL}may-end\n", 6, None),
             (f"{CALL}may-end returned\n", 6, None),
-            (f"{CALL}storage x\n", 6, "storage: the line has no other word, and comes once"),
-            (f"{CALL}storage\nstorage\n", 7, "storage: the line has no other word, and comes once"),
+            (f"{CALL}storage x\n", 6, STORAGE),
+            (f"{CALL}storage\nstorage\n", 7, STORAGE),
             (f"{CALL}storage\nreturned True\n", 7, "returned: only lines `holds` may follow `storage`"),
             (f"{CALL}storage\nmay-end illegal\n", 7, "may-end: no call is above it; `always` holds after each call"),
             (f"{CALL}storage\ncall echo 9 00\n", 7, words_of_call),
@@ -180,9 +193,21 @@ class OfPlaces(unittest.TestCase):
         self.assertEqual(f"{DrawnBytes(bytes([255, 1]))}", "ff01")
 
 
+class OfRandomWords(InFolder):
+    def test_keys_and_accounts(self) -> None:
+        """They are the same each time, differ by their place, and are random in all bytes: each byte of 64 keys is many."""
+        path = self.write("a.explore", f"{BEGIN}draw one keys:64\ndraw two keys:64\ndraw three accounts:2\ncall echo 9 {{one}} row:t:hex:{{three}}\n")
+        found, again = Description(path), Description(path)
+        one, two, three = (found.word_places()[name].words for name in ("one", "two", "three"))
+        self.assertEqual(found.word_places(), again.word_places())
+        self.assertEqual((len({*one, *two}), {len(word) for word in one}, [len(word) for word in three]), (128, {64}, [40, 40]))
+        for byte in range(32):
+            self.assertGreater(len({word[2 * byte : 2 * byte + 2] for word in one}), 32)
+
+
 class OfStorage(unittest.TestCase):
     def test_changes(self) -> None:
-        storage = StorageByReceipts()
+        storage = StorageByReceipts(View())
         b, c = Key(b"b".ljust(32, b"\0")), Key(b"c".ljust(32, b"\0"))
         storage.begin({A: (5).to_bytes(8, "little"), b: b"x"})
         storage.take({A: Added(2**64 - 1), b: Removed(), c: Written(b"new")})
@@ -194,18 +219,38 @@ class OfStorage(unittest.TestCase):
         self.assertEqual(storage.value_before("key:c"), b"new")
 
     def test_numbers(self) -> None:
-        storage = StorageByReceipts()
+        storage = StorageByReceipts(View())
         storage.begin({A: b"\2\1"})
-        self.assertEqual(runs.number_at(storage.value, 2, "key:a"), 258)
-        self.assertEqual(runs.number_at(storage.value, 2, "key:b"), 0)
+        self.assertEqual(storages.number_at(storage.value, "u16", "key:a"), 258)
+        self.assertEqual(storages.number_at(storage.value, "u16", "key:b"), 0)
+        storage.begin({A: b"\2\xff"})
+        self.assertEqual(storages.number_at(storage.value, "i16", "key:a"), -254)
         with self.assertRaises(ValueError) as caught:
-            runs.number_at(storage.value, 8, "key:a")
+            storages.number_at(storage.value, "u64", "key:a")
         self.assertEqual(str(caught.exception), "the value at key:a has 2 bytes and not 8")
 
+    def test_fields(self) -> None:
+        view = View()
+        view.take_shape(["row:lots", "bid:u16", "name:text:3", "by:account,share:u8.."])
+        storage = StorageByReceipts(view)
+        account = b"bob".ljust(20, b"\0")
+        storage.begin({words.key_of("row:lots:lamp"): b"\2\1ab\0" + account + b"\7", words.key_of("row:lots:vase"): b"\1", A: b"\1"})
+        fields = storage.view().fields
+        self.assertEqual(fields("row:lots:lamp"), SimpleNamespace(bid=258, name="ab", by=[account], share=[7]))
+        self.assertEqual(str(fields("row:lots:lamp")), 'bid 258, name "ab", by [bob], share [7]')
+        self.assertIsNone(fields("row:lots:none"))
+        for key, message in {
+            "key:a": "key:a has no line `shape`",
+            "row:lots:vase": "the value at row:lots:vase: it has 1 bytes in place of at least 5",
+        }.items():
+            with self.subTest(key), self.assertRaises(ValueError) as caught:
+                fields(key)
+            self.assertEqual(str(caught.exception), message)
+
     def test_changes_that_are_shown(self) -> None:
-        self.assertEqual(list(runs.change_lines("n", 1, 2)), ["n: 1 -> 2"])
-        self.assertEqual(list(runs.change_lines("n", 1, 1)), [])
-        self.assertEqual(list(runs.change_lines("n", {"a": b"\1", "b": 1}, {"a": b"\2", "c": 3})),
+        self.assertEqual(list(storages.change_lines("n", 1, 2)), ["n: 1 -> 2"])
+        self.assertEqual(list(storages.change_lines("n", 1, 1)), [])
+        self.assertEqual(list(storages.change_lines("n", {"a": b"\1", "b": 1}, {"a": b"\2", "c": 3})),
                          ["n['a']: 01 -> 02", "n['b']: 1 -> None", "n['c']: None -> 3"])
 
 
@@ -219,12 +264,12 @@ class OfWords(unittest.TestCase):
 
     def test_expect_lines(self) -> None:
         receipt = Receipt(0, End.RETURNED, 5, 0, b"ok", changes={A: Written(b"\1"), Key(bytes(32)): Removed()})
-        self.assertEqual(list(searches.expect_lines(receipt, {A: "key:a"})), [
+        self.assertEqual(list(foundlists.expect_lines(receipt, View({A: "key:a"}))), [
             'expect returned "ok"', "expect key:a 01", f"expect {'00' * 32} gone", "expect no other write"])
         for end, line in {End.OUT_OF_GAS: "expect out-of-gas", End.ILLEGAL: "expect trapped illegal"}.items():
-            self.assertEqual(list(searches.expect_lines(Receipt(0, end, 5, 0, b""), {})), [line])
-        self.assertEqual(searches.shown_change(Written(A), {A: "key:a"}), "key:a")
-        self.assertEqual(searches.shown_change(Added(7), {}), "add 7")
+            self.assertEqual(list(foundlists.expect_lines(Receipt(0, end, 5, 0, b""), View())), [line])
+        self.assertEqual(foundlists.shown_change(A, Written(A), View({A: "key:a"})), "key:a")
+        self.assertEqual(foundlists.shown_change(A, Added(7), View()), "add 7")
 
 
 # A session whose calls return their input, and write the last byte of it at the key `a`; 66 is never written.
@@ -251,6 +296,9 @@ while line := sys.stdin.buffer.readline():
 class OfRuns(InFolder):
     def setUp(self) -> None:
         super().setUp()
+        few = mock.patch.object(shortening, "OTHERS", 20)  # so that the tests are fast
+        few.start()
+        self.addCleanup(few.stop)
         self.program = Path(self.write("rvstm", CHAIN))
         self.program.chmod(0o755)
         self.write("echo.elf", "a program")
@@ -310,10 +358,323 @@ class OfRuns(InFolder):
         self.assertEqual(called(*words), (2, "", f"explore: {self.folder}/echo.elf: refused elf BadMagic 2\n"))
 
     def test_wrong_command_lines(self) -> None:
-        for words in ((), ("a", "--calls", "0"), ("a", "--length", "x"), ("a", "b")):
-            self.assertEqual(called("explore", *words)[0], 2)
+        for words, message in (
+            (("a", "--calls", "0"), "--calls: 0: it is a number of at least 1"),
+            (("a", "--length", "x"), "--length: x: it is a number of at least 1"),
+            (("a", "--jobs", "-1"), "--jobs: -1: it is a number of at least 1"),
+            (("a", "--seconds", "0"), "--seconds: 0: it is a number above 0"),
+            (("a", "--seconds", "nan"), "--seconds: nan: it is a number above 0"),
+            (("a", "--out", "/nowhere/a.list"), "--out: /nowhere/a.list: its folder is not there"),
+        ):
+            with self.subTest(words):
+                status, _, faults = called("explore", *words)
+                self.assertEqual((status, faults.splitlines()[-1]), (2, f"rvstm-tools explore: error: argument {message}"))
         status, _, faults = called("explore", "--program", str(self.program), f"{self.folder}/nowhere")
         self.assertEqual((status, faults), (2, f"explore: {self.folder}/nowhere: No such file or directory\n"))
+
+
+# A session over a balance at key `a`: 00 N adds N, 01 N takes N away if so much is there, and otherwise reverts.
+BANK = """\
+#!/usr/bin/env python3
+import sys
+key, balance = b"a".hex().ljust(64, "0"), 0
+while line := sys.stdin.buffer.readline():
+    words = line.split()
+    body = sys.stdin.buffer.read(int(words[-1])) if len(words) > 1 else b""
+    said = []
+    if words[0] == b"begin":
+        balance = 0
+    if words[0] == b"frame":
+        calls = [row.split()[3] for row in body.decode().splitlines() if row.startswith("call ")]
+        for number, data in enumerate(calls):
+            amount = int(data[2:], 16) * (-1 if data[:2] == "01" else 1)
+            if balance + amount < 0:
+                said.append("call %d reverted gas 5 pc 00010000 out 6e6f\\n" % number)
+                continue
+            balance += amount
+            value = balance.to_bytes(8, "little").hex()
+            said.append("call %d returned gas 5 pc 00010000 out %s\\nwrite %d %s %s\\n" % (number, value, number, key, value))
+        said.append("end\\n")
+    text = "".join(said)
+    sys.stdout.write("ok %d\\n%s" % (len(text), text))
+    sys.stdout.flush()
+"""
+BANK_CALLS = "program bank echo.elf\ndraw n 1..200\n{model}call bank 100 00 u8:{{n}}\n{more}call bank 100 01 u8:{{n}}\n{most}"
+MODEL = """\
+class Bank:
+    def __init__(self, storage):
+        self.balance = storage.u64("key:a")
+
+    def put(self, n):
+        self.balance += n
+        return self.balance
+
+    def take(self, n):
+        if n > self.balance:
+            return "no"
+        self.balance -= n
+        return self.balance.to_bytes(8, "little")
+
+    def invariant(self, storage):
+        assert storage.u64("key:a") == self.balance
+"""
+
+
+class OverBank(InFolder):
+    """Tests with a session whose calls depend on one another."""
+
+    CALLS = 1000
+
+    def setUp(self) -> None:
+        super().setUp()
+        self.program = Path(self.write("rvstm", BANK))
+        self.program.chmod(0o755)
+        self.write("echo.elf", "a program")
+        few = mock.patch.object(shortening, "OTHERS", 20)  # so that the tests are fast
+        few.start()
+        self.addCleanup(few.stop)
+
+    def described(self, *, model: str = "", more: str = "", most: str = "") -> str:
+        """The path of a description."""
+        return self.write("a.explore", BANK_CALLS.format(model=model, more=more, most=most))
+
+    def explored(self, path: str, *options: str) -> tuple[int, list[str], str]:
+        """The status of an exploration, its lines, and its errors."""
+        words = ["explore", "--program", str(self.program), path, "--calls", f"{self.CALLS}", "--jobs", "1", *options]
+        status, output, faults = called(*words)
+        return status, output.splitlines(), faults.replace(f"{self.folder}/", "")
+
+
+class OfShortening(OverBank):
+    RULE = "returned before.u64('key:a') != n or n < 50\n"
+
+    def finding(self, run: Run, *calls: tuple[int, int]) -> Finding:
+        """What calls break, each by the number of its kind and its amount."""
+        found = run.finding_of([Call(run.description.kinds[kind], {"n": amount}) for kind, amount in calls])
+        assert found
+        return found
+
+    def shorter(self, *calls: tuple[int, int]) -> list[str]:
+        """The calls that are left if one is left out and numbers of others are changed with it."""
+        with Run(self.program, Description(self.described(most=self.RULE))) as run:
+            shorter = Shorter(run, self.finding(run, *calls), 60)
+            while shorter.leave_out_one_and_change():
+                pass
+            return [call.words() for call in shorter.calls]
+
+    def test_a_number_that_depends_on_the_call_that_is_left_out(self) -> None:
+        """Without 60 the last call takes 50. Without 30, which is added to 20, it still does."""
+        self.assertEqual(self.shorter((0, 20), (0, 30), (0, 60), (1, 110)), ["call bank 100 00 u8:50", "call bank 100 01 u8:50"])
+
+    def test_an_amount_of_the_call_that_is_left_out_is_added_elsewhere(self) -> None:
+        """None of the calls alone puts 50."""
+        self.assertEqual(self.shorter((0, 20), (0, 20), (0, 20), (1, 60)), ["call bank 100 00 u8:60", "call bank 100 01 u8:60"])
+
+    def test_two_numbers_are_lowered_together(self) -> None:
+        with Run(self.program, Description(self.described(most=self.RULE))) as run:
+            shorter = Shorter(run, self.finding(run, (0, 120), (1, 120)), 60)
+            while shorter.make_simpler():
+                pass
+            self.assertEqual([call.values["n"] for call in shorter.calls], [50, 50])
+
+    def test_the_best_so_far_is_kept(self) -> None:
+        def interrupt(shorter: Shorter) -> None:
+            if len(shorter.calls) < 3:
+                raise KeyboardInterrupt
+
+        with Run(self.program, Description(self.described(most=self.RULE))) as run:
+            finding = self.finding(run, (0, 60), (0, 1), (1, 1), (1, 60))
+            late = Shorter(run, finding, 0)
+            self.assertEqual((late.shorten(random.Random(1)), late.finding), ("; the time was over", finding))
+            interrupted = Shorter(run, finding, 60, interrupt)
+            self.assertEqual((interrupted.shorten(random.Random(1)), len(interrupted.calls)), ("; it was interrupted", 2))
+
+    def test_calls_that_were_kept(self) -> None:
+        description = Description(self.described())
+        for line, values, message in (
+            (1, {"n": "5"}, f"line 1 of {description.path} is not the call that was kept: another folder is needed"),
+            (3, {"m": "5"}, f"line 3 of {description.path} is not the call that was kept: another folder is needed"),
+            (3, {"n": "0"}, "0: the description has no such value in this place: another folder is needed"),
+            (3, {"n": "x"}, "x: the description has no such value in this place: another folder is needed"),
+        ):
+            with self.subTest(values), self.assertRaises(UserError) as caught:
+                saved.restored(description, [SavedCall(line, values)])
+            self.assertEqual(str(caught.exception), message)
+
+
+class OfSearches(OverBank):
+    def test_the_same_is_found_by_any_number_of_processes(self) -> None:
+        path = self.described(most="returned before.u64('key:a') != n or n < 50\n")
+        found = [self.explored(path, "--length", "20", "--jobs", jobs)[1] for jobs in ("1", "3")]
+        one, other = ([line for line in lines if " s, " not in line and " s" != line[-2:]] for lines in found)
+        self.assertEqual(one, other)
+        self.assertIn("call bank 100 00 u8:50", one)
+
+    def test_a_list_is_written_before_it_is_shortened(self) -> None:
+        out, lists = self.folder / "found.list", list[str]()
+
+        def keep(_: Shorter, __: random.Random) -> str:
+            lists.append(out.read_text())
+            return "; nothing was tried"
+
+        with mock.patch.object(Shorter, "shorten", keep):
+            status, lines, _ = self.explored(self.described(most=self.rule()), "--out", str(out))
+        self.assertEqual(status, 1)
+        self.assertIn("The last call breaks\n", lists[0])
+        self.assertRegex(lines[-2], "^of [0-9]+ calls [0-9]+ are left, after 0 runs in .* s; nothing was tried$")
+
+    def rule(self) -> str:
+        """A line that is broken."""
+        return "returned n != 77\n"
+
+    def test_a_run_goes_on_from_a_folder(self) -> None:
+        words = ("--folder", str(self.folder / "kept"), "--length", "100")
+        right = self.described()
+        self.assertEqual(self.explored(right, *words)[1][-1], "nothing is broken")
+        state = json.loads((self.folder / "kept/explored.json").read_text())
+        self.assertEqual((state["next"], state["found"]), (10, None))
+        self.explored(right, *words)
+        self.assertEqual(json.loads((self.folder / "kept/explored.json").read_text())["next"], 20)
+        other = self.write("b.explore", Path(right).read_text() + self.rule())
+        self.assertEqual(self.explored(other, *words)[::2], (
+            2, "explore: kept/explored.json: the run there has another description, seed or length: name another folder\n"))
+        (self.folder / "kept/explored.json").write_text("{}")
+        self.assertEqual(self.explored(right, *words)[::2], (
+            2, "explore: kept/explored.json: this is not what a run leaves: remove it, or name another folder\n"))
+
+    def test_what_was_found_is_tried_first(self) -> None:
+        path, words = self.described(most=self.rule()), ("--folder", str(self.folder / "kept"))
+        self.assertEqual(self.explored(path, *words)[0], 1)
+        status, lines, _ = self.explored(path, *words)
+        self.assertEqual((status, lines[0].replace(f"{self.folder}/", "")), (1, "still broken by the calls of kept/found.list: line 5: returned n != 77"))
+        self.program.write_text(BANK.replace('data[:2] == "01"', 'data == "014d"').replace("balance + amount < 0", 'data == "014d"'))
+        self.write("echo.elf", "another program")
+        status, lines, _ = self.explored(path, *words)
+        self.assertEqual((status, lines[0], lines[-1]), (0, "the calls that were found before break nothing now", "nothing is broken"))
+
+    def test_the_line_of_progress(self) -> None:
+        class Terminal(io.StringIO):
+            def isatty(self) -> bool:
+                return True
+
+        output = Terminal()
+        description = Description(self.described(most=self.rule()))
+        progress = Progress(self.program, description, output)
+        with Run(self.program, description) as run:
+            finding = run.finding_of([Call(description.kinds[0], {"n": 80}), Call(description.kinds[1], {"n": 77})])
+            assert finding
+            progress.of_shorter(Shorter(run, finding, 60))
+            progress.of_shorter(Shorter(run, finding, 60))  # too soon
+        progress.end()
+        self.assertEqual(output.getvalue(), "\r\x1b[K2 calls break line 5; 0 runs in 0 s\r\x1b[K")
+
+
+class OfReached(OverBank):
+    DEBUG = """\
+#!/bin/sh
+while read word rest; do
+    case $word in
+    g) echo 2 00010008 ecall ;;
+    w) echo 0 00010000 addi x0, x0, 0 ;;
+    s) echo 1 00010004 beq x0, x0, 8 ;;
+    esac
+done
+"""
+    LINES = "0x10000\\nvote\\n/src/a.c:5\\n0x10004\\nvote\\n/src/a.c:5\\n0x10008\\nvote\\n/src/a.c:9\\n"
+
+    def test_a_sample_of_each_way_to_end(self) -> None:
+        with Run(self.program, Description(self.described())) as run:
+            sampler = Sampler(run)
+            run.begin()
+            put, take = run.description.kinds
+            run.go_on([Call(put, {"n": 5}), Call(put, {"n": 5}), Call(take, {"n": 3}), Call(take, {"n": 200})])
+            first, second, third = sampler.taken()
+        self.assertEqual((first.storage, first.data), ({}, b"\0\5"))
+        self.assertEqual((second.storage, second.data), ({A: (10).to_bytes(8, "little")}, b"\1\3"))
+        self.assertEqual((third.way.end, third.storage), (End.REVERTED, {A: (7).to_bytes(8, "little")}))
+        self.assertEqual(sampler.taken(), [])
+
+    def said(self, sample_of: str) -> str:
+        """What is said after a sample was replayed, which runs the first two instructions."""
+        self.write("echo.elf", elf_file())
+        debug = Path(self.write("debug", self.DEBUG))
+        debug.chmod(0o755)
+        reached = Reached(debug, Description(self.described()))
+        reached.add([Sample(Way(3, End.RETURNED, 0, 5), sample_of, 100, b"", {})])
+        reached.samples.put(None)
+        reached.thread.join()
+        reached.end()
+        return reached.said()
+
+    def test_lines_and_instructions(self) -> None:
+        self.assertEqual(self.said("bank"), "2 of 3 instructions reached")
+        self.write("echo.lines.elf", elf_file())
+        tool = Path(self.write("tool", f"#!/bin/sh\ncat >/dev/null; printf '{self.LINES}'\n"))
+        tool.chmod(0o755)
+        with mock.patch("rvstm_tools.debugging.sources.address_tool", lambda: str(tool)):
+            self.assertEqual(self.said("bank"), "1 of 2 lines reached")
+
+
+class OfModels(OverBank):
+    CALLS = 100
+    METHODS: dict[str, str] = {"model": "model bank.py Bank\n", "more": "method put\n", "most": "method take\n"}
+
+    def test_a_model_that_is_right(self) -> None:
+        self.write("bank.py", MODEL)
+        path = self.described(**self.METHODS | {"most": "method take\nalways model.balance == u64('key:a')\n"})
+        self.assertEqual(self.explored(path)[1][-1], "nothing is broken")
+
+    def test_other_answers_and_a_broken_invariant(self) -> None:
+        for old, new, line, calls in (
+            ("+= n\n        return self", "+= n\n        return 1 + self", "# line 5: method put: the model says returned 2, and the call returned u64:1", 1),
+            ('"no"', '"yes"', '# line 7: method take: the model says reverted "yes", and the call reverted "no"', 1),
+            ('"little")', '"big")', '# line 7: method take: the model says returned u64:72057594037927936, and the call returned u64:1', 2),
+            ("-= n", "-= n - 1", "# line 7: method take: the model says returned u64:1, and the call returned u64:0", 2),
+            ("return self.balance\n", "return None\n", None, 0),
+            ('return "no"', 'return ""', None, 0),
+            ("+= n\n        return self.balance", "+= n + 1", "# bank.py, line 15: invariant: assert storage.u64(\"key:a\") == self.balance", 1),
+            ("assert storage.u64", "return storage.u64", None, 0),
+            ("assert storage.u64(\"key:a\") ==", "return storage.u64(\"key:a\") + 1 ==", "# bank.py: invariant is False", 0),
+            ("u64(\"key:a\") ==", "u8(\"key:a\") ==", "# bank.py, line 16: invariant: the value at key:a has 8 bytes and not 1", 1),
+        ):
+            with self.subTest(new):
+                self.write("bank.py", MODEL.replace(old, new))
+                status, lines, faults = self.explored(self.described(**self.METHODS))
+                self.assertEqual((status, faults), (0 if line is None else 1, ""))
+                if line is not None:
+                    self.assertIn(line, [found.replace(f"{self.folder}/", "") for found in lines])
+                    self.assertEqual(sum(found.startswith("call ") for found in lines), calls)
+
+    def test_mistakes_of_the_author(self) -> None:
+        form = "model: a file of Python and the name of a class follow it; it comes once, before all calls"
+        of_method = "method: the name of a method follows it, once for a call; a line `model` is above it"
+        mistakes: tuple[tuple[str, str, dict[str, str], str | None], ...] = (
+            ("", "", {"model": "model bank.py\n"}, f"a.explore, line 3: {form}"),
+            ("", "", {"model": "model bank.py Bank\nmodel bank.py Bank\n"}, f"a.explore, line 4: {form}"),
+            ("", "", {"model": ""}, f"a.explore, line 4: {of_method}"),
+            ("", "", {"more": "method put\nmethod put\n"}, f"a.explore, line 6: {of_method}"),
+            ("", "", {"model": "model nothing.py Bank\n"}, "nothing.py: No such file or directory"),
+            ("", "", {"model": "model echo.elf Bank\n"}, "a.explore, line 3: echo.elf: a model is a file of Python, with a name that ends with .py"),
+            ("", "", {"model": "model bank.py Banks\n"}, "a.explore, line 3: bank.py: there is no class Banks"),
+            ("", "", {"more": "method give\n"}, "a.explore, line 5: give: the class Bank of bank.py has no such method"),
+            ("put(self, n)", "put(self)", {}, "a.explore, line 5: put: bank.py, line 5: got an unexpected keyword argument 'n'; the call has the places n"),
+            ("put(self, n)", "put(self, n, m)", {}, "a.explore, line 5: put: bank.py, line 5: missing a required argument: 'm'; the call has the places n"),
+            ("class Bank:", "class Bank", {}, "a.explore, line 3: bank.py, line 1: SyntaxError: expected ':'"),
+            ("class Bank:", "nothing\nclass Bank:", {}, "a.explore, line 3: bank.py, line 1: NameError: name 'nothing' is not defined"),
+            ("= storage.u64", "= storage.u65", {}, "bank.py, line 3: Bank: AttributeError: 'types.SimpleNamespace' object has no attribute 'u65'"),
+            ("= storage.u64(\"key:a\")", "= storage.u64(\"kye:a\")", {}, None),
+            ("+= n", "+= m", {}, "bank.py, line 6: Bank.put: NameError: name 'm' is not defined"),
+            ("return self.balance\n", "return True\n", {}, "bank.py, line 5: Bank.put: it returned True; it returns bytes, a number, a text, or None"),
+            ("return self.balance\n", "return 1.5\n", {}, "bank.py, line 5: Bank.put: it returned 1.5; it returns bytes, a number, a text, or None"),
+            ("assert storage", "assert store", {}, "bank.py, line 16: Bank.invariant: NameError: name 'store' is not defined"),
+        )
+        for old, new, changed, message in mistakes:
+            with self.subTest(message):
+                self.write("bank.py", MODEL.replace(old, new, 1) if old else MODEL)
+                status, _, faults = self.explored(self.described(**self.METHODS | changed))
+                self.assertEqual(status, 2)
+                if message:
+                    self.assertEqual(faults, f"explore: {message}\n")
 
 
 if __name__ == "__main__":

@@ -12,6 +12,7 @@ from rvstm_tools.debugging.packets import Ends, Wire
 from rvstm_tools.debugging.sessions import CallOf
 from rvstm_tools.errors import UserError
 from rvstm_tools.texts.results import End
+from rvstm_tools.texts.views import View
 from tests.helpers import InFolder
 
 # A call of 61 steps: three instructions again and again, and RETURN. The first one of the three counts a byte up.
@@ -53,10 +54,16 @@ for line in sys.stdin:
 REGISTERS = "01:01000000;02:02000000;08:08000000;20:{pc};21:{moment};"
 
 
-def stop(reason: str, pc: int, moment: int) -> str:
+TRAP = 5
+"""GDB's number of the signal by which a call stops at a breakpoint or after a step."""
+INTERRUPT = 2
+"""GDB's number of the signal by which a person stops a call."""
+
+
+def stop(pc: int, moment: int, reason: str = "", signal: int = TRAP) -> str:
     """The packet of a stop."""
     place = REGISTERS.format(pc=pc.to_bytes(4, "little").hex(), moment=moment.to_bytes(8, "little").hex())
-    return f"{reason}{place}"
+    return f"T{signal:02x}{reason}{place}"
 
 
 class Replayed(InFolder):
@@ -73,7 +80,7 @@ class Replayed(InFolder):
         self.shown: list[str] = []
         self.heard = 0
         wire = mock.Mock(hear=self.hear, show=self.shown.append)
-        self.server = Server(wire, lambda hear: Call(CallOf(program, self.block, 0), {}, hear))
+        self.server = Server(wire, lambda hear: Call(CallOf(program, self.block, 0), View(), hear))
         self.addCleanup(self.server.close)
 
     def hear(self) -> None:
@@ -88,62 +95,62 @@ class Replayed(InFolder):
 
 class Moves(Replayed):
     def test_steps(self) -> None:
-        self.assertEqual(self.ask("?"), stop("T05", 0x10000, 0))
-        self.assertEqual(self.ask("s"), stop("T05", 0x10004, 1))
-        self.assertEqual(self.ask("vCont;s:1"), stop("T05", 0x10008, 2))
-        self.assertEqual(self.ask("bs"), stop("T05", 0x10004, 1))
-        self.assertEqual(self.ask("bs", "bs"), stop("T05replaylog:begin;", 0x10000, 0))
+        self.assertEqual(self.ask("?"), stop(0x10000, 0))
+        self.assertEqual(self.ask("s"), stop(0x10004, 1))
+        self.assertEqual(self.ask("vCont;s:1"), stop(0x10008, 2))
+        self.assertEqual(self.ask("bs"), stop(0x10004, 1))
+        self.assertEqual(self.ask("bs", "bs"), stop(0x10000, 0, "replaylog:begin;"))
 
     def test_to_the_end_and_back(self) -> None:
-        self.assertEqual(self.ask("c"), stop("T05replaylog:end;", 0x1000C, 60))
+        self.assertEqual(self.ask("c"), stop(0x1000C, 60, "replaylog:end;"))
         self.assertEqual(self.shown, ['call 0 of a.block: returned 6869  26984  "hi", 61 steps, gas 639\n'])
-        self.assertEqual(self.ask("s"), stop("T05replaylog:end;", 0x1000C, 60))
-        self.assertEqual(self.ask("bc"), stop("T05replaylog:begin;", 0x10000, 0))
+        self.assertEqual(self.ask("s"), stop(0x1000C, 60, "replaylog:end;"))
+        self.assertEqual(self.ask("bc"), stop(0x10000, 0, "replaylog:begin;"))
 
     def test_signals_of_the_end(self) -> None:
         """GDB's manual numbers them: ABRT 6, ILL 4, SYS 12, XFSZ 25."""
         for end, signal in {"reverted": 6, "illegal": 4, "bad-length": 12, "too-many-writes": 25, "out-of-gas": 24}.items():
             self.serve(end)
-            self.assertEqual(self.ask("c"), stop(f"T{signal:02x}", 0x1000C, 60))
+            self.assertEqual(self.ask("c"), stop(0x1000C, 60, signal=signal))
 
     def test_breakpoints(self) -> None:
         self.assertEqual(self.ask("Z0,10004,4"), "OK")
-        self.assertEqual(self.ask("c"), stop("T05", 0x10004, 1))
-        self.assertEqual(self.ask("vCont;c"), stop("T05", 0x10004, 4))
-        self.assertEqual(self.ask("bc"), stop("T05", 0x10004, 1))
-        self.assertEqual(self.ask("bc"), stop("T05replaylog:begin;", 0x10000, 0))
+        self.assertEqual(self.ask("c"), stop(0x10004, 1))
+        self.assertEqual(self.ask("vCont;c"), stop(0x10004, 4))
+        self.assertEqual(self.ask("bc"), stop(0x10004, 1))
+        self.assertEqual(self.ask("bc"), stop(0x10000, 0, "replaylog:begin;"))
         self.assertEqual(self.ask("z0,10004,4"), "OK")
-        self.assertEqual(self.ask("c"), stop("T05replaylog:end;", 0x1000C, 60))
+        self.assertEqual(self.ask("c"), stop(0x1000C, 60, "replaylog:end;"))
 
     def test_all_of_many_hits(self) -> None:
         with mock.patch.object(moments, "REACH", Reach(far=4, span=4, times_more=2, few_steps=0)):
             self.ask("Z1,10000,4")
             places = [self.ask("c") for _ in range(19)]
-            self.assertEqual(places, [stop("T05", 0x10000, 3 * number) for number in range(1, 20)])
+            self.assertEqual(places, [stop(0x10000, 3 * number) for number in range(1, 20)])
             places = [self.ask("bc") for _ in range(19)]
-            self.assertEqual(places, [stop("T05", 0x10000, 3 * number) for number in range(18, -1, -1)])
+            self.assertEqual(places, [stop(0x10000, 3 * number) for number in range(18, -1, -1)])
 
     def test_changes_of_memory(self) -> None:
         self.assertEqual(self.ask("Z2,100000,4"), "OK")
-        self.assertEqual(self.ask("c"), stop("T05watch:100000;", 0x10004, 1))
-        self.assertEqual(self.ask("c"), stop("T05watch:100000;", 0x10004, 4))
-        self.assertEqual(self.ask("bc"), stop("T05watch:100000;", 0x10000, 3))  # before the change
-        self.assertEqual(self.ask("s"), stop("T05watch:100000;", 0x10004, 4))
-        self.assertEqual(self.ask("bs"), stop("T05watch:100000;", 0x10000, 3))
-        self.assertEqual(self.ask("?"), stop("T05", 0x10000, 3))
-        self.assertEqual(self.ask("z2,100000,4", "c"), stop("T05replaylog:end;", 0x1000C, 60))
+        self.assertEqual(self.ask("c"), stop(0x10004, 1, "watch:100000;"))
+        self.assertEqual(self.ask("c"), stop(0x10004, 4, "watch:100000;"))
+        self.assertEqual(self.ask("bc"), stop(0x10000, 3, "watch:100000;"))  # before the change
+        self.assertEqual(self.ask("s"), stop(0x10004, 4, "watch:100000;"))
+        self.assertEqual(self.ask("bs"), stop(0x10000, 3, "watch:100000;"))
+        self.assertEqual(self.ask("?"), stop(0x10000, 3))
+        self.assertEqual(self.ask("z2,100000,4", "c"), stop(0x1000C, 60, "replaylog:end;"))
 
     def test_ranges(self) -> None:
-        self.assertEqual(self.ask("vCont;r10000,10008:1"), stop("T05", 0x10008, 2))
-        self.assertEqual(self.ask("vCont;r10000,1000c:1"), stop("T05", 0x1000C, 60))
-        self.assertEqual(self.ask("vCont;r10000,20000:1"), stop("T05replaylog:end;", 0x1000C, 60))
+        self.assertEqual(self.ask("vCont;r10000,10008:1"), stop(0x10008, 2))
+        self.assertEqual(self.ask("vCont;r10000,1000c:1"), stop(0x1000C, 60))
+        self.assertEqual(self.ask("vCont;r10000,20000:1"), stop(0x1000C, 60, "replaylog:end;"))
 
     def test_interrupts(self) -> None:
         self.heard = 1
-        self.assertEqual(self.ask("c"), stop("T02", 0x10000, 0))
+        self.assertEqual(self.ask("c"), stop(0x10000, 0, signal=INTERRUPT))
         self.ask("Z0,20000,4")
         self.heard = 2
-        self.assertEqual(self.ask("c"), stop("T02", 0x10000, 0))
+        self.assertEqual(self.ask("c"), stop(0x10000, 0, signal=INTERRUPT))
 
 
 class Questions(Replayed):
@@ -174,7 +181,7 @@ class Questions(Replayed):
         self.assertEqual(self.monitor(f"value {'00' * 32}"), "00: absent\n")
         self.assertEqual(self.monitor("value 00"), "00: a key has 32 bytes, and this is 1\n")
         self.assertEqual(self.monitor(f"value {'00' * 33}"), f"{'00' * 33}: a key has at most 32 bytes, and this is 33\n")
-        self.assertIn("0g: neither bytes in hex nor", self.monitor("value 0g"))
+        self.assertIn("0g: not bytes in hex, ", self.monitor("value 0g"))
         for line in ("", "go", "go x", "go -1", "go \u0663", "end now", "what", "go 99999999999999999999"):
             self.assertEqual(self.monitor(line), gdb.COMMANDS)
 

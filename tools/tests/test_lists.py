@@ -25,7 +25,7 @@ class Reading(InFolder):
         self.assertEqual(block.storage, {numbered_key(1): b"\1", numbered_key(2): b"\2", numbered_key(3): b"kept"})
 
     def test_an_empty_list_is_an_empty_block(self) -> None:
-        for content in ("", "\n\n", "# nothing", "storage\nexpect x\nstorage again\n"):
+        for content in ("", "\n\n", "# nothing", "storage\nexpect x\nstorage\n"):
             with self.subTest(content):
                 self.assertEqual(lists.read_block(self.write("a.list", content), {}).text(), "rvblock 1\n")
 
@@ -52,8 +52,8 @@ class Messages(InFolder):
         self.assertEqual(str(caught.exception), f"{path}, line {line}: {message}")
 
     def test_kinds(self) -> None:
-        self.check("prog a b\n", 1, "prog: not rules, program, store, call, expect or storage")
-        self.check('"call" a\n', 1, '"call": not rules, program, store, call, expect or storage')
+        self.check("prog a b\n", 1, "prog: not rules, program, shape, store, call, expect or storage")
+        self.check('"call" a\n', 1, '"call": not rules, program, shape, store, call, expect or storage')
         self.check("storage\nstore 00 00\n", 2, "store: only lines `expect` may follow `storage`")
         self.check("storage\n\nnonsense\n", 3, "nonsense: only lines `expect` may follow `storage`")
 
@@ -98,26 +98,70 @@ class Messages(InFolder):
     def test_hostile_bytes(self) -> None:
         self.check(b"program a b\n# \xff\n", 2, "not UTF-8")
         self.check(b"\xfe\xff\0r\0u\0l\0e\0s", 1, "not UTF-8")
-        self.check(b"\x7fELF\x01\x01\x01\0", 1, "\x7fELF\1\1\1\0: not rules, program, store, call, expect or storage")
-        self.check("store " + "0" * 99_999, 1, "0" * 99_999 + ': neither bytes in hex nor "text", u8:N, u16:N, u32:N, u64:N, '
-                   "key:text, key:N or table:TAG:text")
+        self.check(b"\x7fELF\x01\x01\x01\0", 1, "\x7fELF\1\1\1\0: not rules, program, shape, store, call, expect or storage")
+        self.check("store " + "0" * 99_999, 1, "0" * 99_999 + ': not bytes in hex, "text", u8:N .. u64:N, i8:N .. i64:N, '
+                   "key:text, key:N, account:name, row:TABLE:name, table:TAG:text or hex:BYTES")
 
     def test_a_missing_file_is_an_error_of_the_system(self) -> None:
         with self.assertRaises(FileNotFoundError):
             lists.read_block(str(self.folder / "nowhere.list"), {})
 
 
+class Dumps(InFolder):
+    """A list that begins with the storage of a file."""
+
+    KEYS = f"store {'0' * 63}1 07\nstore {'0' * 63}2 -\n"
+
+    def test_a_storage_under_the_lines_store(self) -> None:
+        self.write("dump", f"rvblock 2\ngas 3\n{self.KEYS}")
+        block = lists.read_block(self.write("a.list", "storage dump\nstore key:2 u8:9\nstorage\n"), {})
+        self.assertEqual(block.storage, {numbered_key(1): b"\7", numbered_key(2): b"\t"})
+        self.assertEqual(block.rules, 3)
+
+    def test_a_result_and_an_older_dump(self) -> None:
+        for content in (f"{self.KEYS}end\n", f"rvblock 1\n{self.KEYS}"):
+            self.write("dump", content)
+            block = lists.read_block(self.write("a.list", "rules 2\nstorage dump\n"), {})
+            self.assertEqual((block.storage, block.rules), ({numbered_key(1): b"\7", numbered_key(2): b""}, 2))
+
+    def test_messages(self) -> None:
+        long = f"store {'0' * 64} {'00' * 65}\n"
+        for dump, content, line, message in (
+            ("end\n", "storage dump dump\n", 1, lists.STORAGE),
+            ("end\n", "program a a.elf\ncall a 9\nstorage dump\n", 3, lists.STORAGE),
+            ("end\n", "store key:1 00\nstorage dump\n", 2, lists.STORAGE),
+            ("end\n", "storage\nstorage dump\n", 2, lists.STORAGE),
+            (f"{self.KEYS}end\n", "storage dump\nstorage dump\n", 2, lists.STORAGE),
+            ("rvblock 2\ngas 3\n", "rules 2\nstorage dump\n", 2, "dump: the dump is of rules 3, and the list has rules 2"),
+            (f"{long}end\n", "storage dump\n", 1, "dump: a value has 65 bytes, which rules 1 do not allow"),
+            ("end\n", "storage dump\nrules 2\n", 2, None),
+            ("rvblock 3\n", "storage dump\n", 1, "{0}/dump: line 1 is not one of a dump: rvblock 3"),
+            ("rvblock 2\n", "storage dump\n", 1, "{0}/dump: line 2 is not one of a dump: "),
+            ("rvblock 2\ngas 4\n", "storage dump\n", 1, "{0}/dump: line 2 is not one of a dump: gas 4"),
+            ("rvblock 1\nprogram 0 a.elf\n", "storage dump\n", 1, "{0}/dump: line 2 is not one of a dump: program 0 a.elf"),
+            ("rvblock 1\nstore 00 00\n", "storage dump\n", 1, "{0}/dump: line 2 is not one of a dump: store 00 00"),
+            (self.KEYS, "storage dump\n", 1, "{0}/dump: the last line is not `end`, so it is no whole result"),
+        ):
+            self.write("dump", dump)
+            with self.subTest(content=content, dump=dump), self.assertRaises(UserError) as caught:
+                lists.read_block(self.write("a.list", content), {})
+            said = str(caught.exception)
+            self.assertTrue(said.startswith(f"{self.folder}/a.list, line {line}: "), said)
+            if message is not None:
+                self.assertEqual(said, f"{self.folder}/a.list, line {line}: {message.format(self.folder)}")
+
+
 class TableNames(InFolder):
     def test_names(self) -> None:
         path = self.write("a.list", "# table:not:this\nstore table:t:a u8:1\ncall x 5 table:t:1\nexpect table:t:a gone\n")
-        found = lists.table_names(path)
+        found = lists.read_view(path).names
         self.assertEqual(sorted(found.values()), ["table:t:1", "table:t:a"])
         self.assertTrue(all(len(key) == 32 for key in found))
 
     def test_a_wrong_word(self) -> None:
         path = self.write("a.list", "\nstore table:t 00\n")
         with self.assertRaises(UserError) as caught:
-            lists.table_names(path)
+            lists.read_view(path)
         self.assertEqual(str(caught.exception), f"{path}, line 2: table:t: a tag and a text follow it, as in table:TAG:text")
 
 

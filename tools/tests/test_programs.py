@@ -46,12 +46,20 @@ class Finding(InFolder):
         package = self.folder / "share/rvstm-sdk/tools/rvstm_tools"
         package.mkdir(parents=True)
         top = self.folder / "share/rvstm-sdk"
+        (top / "sdk").mkdir()
         self.assertEqual(finding.home_of(package), Home(top, False))
         (self.folder / "bin").mkdir()
         program = self.program("bin/rvstm")
         self.assertEqual(finding.home_of(package), Home(top, False, program))
         self.write("share/rvstm-sdk/crates.txt", "")
         self.assertEqual(finding.home_of(package), Home(top))
+
+    def test_homes_of_pip(self) -> None:
+        """The package is among Python's, and the SDK is in one of the prefixes."""
+        package, prefixes = self.folder / "venv/lib/python3/site-packages/rvstm_tools", [self.folder / "venv", self.folder / "usr"]
+        self.assertEqual(finding.home_of(package, prefixes), Home(self.folder / "venv/share/rvstm-sdk", False))
+        (self.folder / "usr/share/rvstm-sdk/sdk").mkdir(parents=True)
+        self.assertEqual(finding.home_of(package, prefixes), Home(self.folder / "usr/share/rvstm-sdk", False))
 
     def test_messages(self) -> None:
         checkout, installed, missing = Home(self.folder), Home(self.folder, False), self.folder / "missing"

@@ -1,6 +1,8 @@
 """Releases: archives as Debian's tools read them, damaged packages, comparisons, man pages and completions."""
 
 import io
+import os
+import re
 import shutil
 import struct
 import subprocess
@@ -12,7 +14,8 @@ from unittest import mock
 
 from rvstm_tools import commandline
 from rvstm_tools.errors import UserError
-from rvstm_tools.releases import archives, helps, parsers, parts, products, roff, verifying
+from rvstm_tools.programs import checkouts
+from rvstm_tools.releases import archives, helps, packing, page_links, parsers, parts, products, roff, verifying
 from rvstm_tools.releases.archives import Entries, File, Link, Member
 from rvstm_tools.releases.helps import Item
 from rvstm_tools.releases.products import Product
@@ -24,46 +27,29 @@ ENTRIES: Entries = {"usr/bin/rvstm": File(b"\x7fELF and more", 0o755), "usr/lib/
 FIELDS = {"Package": "rvstm", "Version": "1.2.3", "Architecture": "amd64", "Maintainer": "A <a@b>", "Description": "what\n more"}
 
 
-def deb() -> bytes:
-    return archives.deb_of(FIELDS, {"prerm": File(b"#!/bin/sh\n", 0o755)}, ENTRIES, 1_700_000_000)
+SECONDS = 1_700_000_000
+HAS_PACKER = shutil.which("dpkg-deb") is not None
+
+
+def deb(entries: Entries = ENTRIES) -> bytes:
+    return packing.deb_of(FIELDS, {"prerm": File(b"#!/bin/sh\n", 0o755)}, entries, SECONDS)
+
+
+def ar(*members: Member) -> bytes:
+    """An archive of ar, by hand: deb(5) has the widths."""
+    heads = (b"%-16s%-12d%-6d%-6d%-8s%-10d`\n" % (name.encode(), 0, 0, 0, b"100644", len(data)) for name, data in members)
+    bodies = (data + b"\n" * (len(data) % 2) for _, data in members)
+    return b"!<arch>\n" + b"".join(head + body for head, body in zip(heads, bodies))
 
 
 class OfArchives(InFolder):
     def test_what_is_read_is_what_was_written(self) -> None:
-        self.assertEqual(archives.files_in(deb()), ENTRIES)
         packed = archives.gzip_of(archives.tar_of(ENTRIES, 5))
         self.assertEqual(archives.files_in(packed), ENTRIES)
 
-    def test_the_same_bytes_each_time(self) -> None:
-        self.assertEqual(deb(), deb())
-
-    @unittest.skipUnless(shutil.which("dpkg-deb"), "there is no dpkg-deb")
-    def test_as_debian_reads_it(self) -> None:
-        path = self.write("a.deb", deb())
-
-        def run(*words: str) -> str:
-            return subprocess.run(["dpkg-deb", *words], capture_output=True, text=True, check=True).stdout
-
-        self.assertEqual(run("--field", path, "Package", "Version", "Installed-Size"),
-                         "Package: rvstm\nVersion: 1.2.3\nInstalled-Size: 6\n")  # two files, a link and three folders
-        rows = [line.split() for line in run("--contents", path).splitlines()]
-        self.assertEqual([row[0] for row in rows], ["drwxr-xr-x", "drwxr-xr-x", "-rwxr-xr-x", "drwxr-xr-x", "lrwxrwxrwx", "-rw-r--r--"])
-        self.assertTrue(all(row[1] == "root/root" for row in rows))
-        self.assertIn("prerm", run("--info", path))
-
     def test_ar(self) -> None:
-        made = archives.ar_of([Member("one", b"odd"), Member("two", b"even")], 0)
-        self.assertEqual(list(archives.ar_members(made)), [Member("one", b"odd"), Member("two", b"even")])
-        self.assertEqual(len(made), 8 + 60 + 4 + 60 + 4)
-
-    def test_a_cut_at_places(self) -> None:
-        """A cut package is refused, or has all of its files."""
-        data = deb()
-        for end in range(0, len(data), 7):
-            try:
-                self.assertEqual(archives.files_in(data[:end]), ENTRIES)
-            except UserError:
-                pass
+        members = [Member("one", b"odd"), Member("two", b"even")]
+        self.assertEqual(list(archives.ar_members(ar(*members))), members)
 
     def test_any_byte_may_be_wrong(self) -> None:
         data = archives.gzip_of(archives.tar_of(ENTRIES, 5))
@@ -89,7 +75,7 @@ class OfArchives(InFolder):
             archives.gzip_of(device.getvalue()): "d is there twice, or is neither a file nor a link",
             b"!<arch>\nnonsense": "it is a damaged archive of ar",
             b"!<arch>\n" + b"x" * 60: "it is a damaged archive of ar",
-            archives.ar_of([Member("x", b"")], 0): "it is an archive of ar, and not a package of Debian",
+            ar(Member("x", b"")): "it is an archive of ar, and not a package of Debian",
         }.items():
             with self.subTest(message), self.assertRaises(UserError) as caught:
                 archives.files_in(data)
@@ -97,6 +83,51 @@ class OfArchives(InFolder):
         with self.assertRaises(UserError) as caught:
             archives.files_in(archives.gzip_of(b"nonsense"))
         self.assertTrue(str(caught.exception).startswith("its files cannot be read: "))
+
+
+@unittest.skipUnless(HAS_PACKER, "there is no dpkg-deb")
+class OfPackages(InFolder):
+    def run_packer(self, *words: str) -> str:
+        return subprocess.run(["dpkg-deb", *words], capture_output=True, text=True, check=True).stdout
+
+    def test_what_is_read_is_what_was_written(self) -> None:
+        self.assertEqual(archives.files_in(deb()), ENTRIES)
+
+    def test_two_builds_give_one_file(self) -> None:
+        """Whatever the mask of rights, the zone, and the order in which the files were written."""
+        first = deb()
+        before = os.umask(0o077)
+        self.addCleanup(os.umask, before)
+        with mock.patch.dict(os.environ, {"TZ": "Asia/Tokyo", "XZ_DEFAULTS": "-9"}):
+            self.assertEqual(deb(dict(reversed(ENTRIES.items()))), first)
+
+    def test_as_debian_reads_it(self) -> None:
+        path = self.write("a.deb", deb())
+        self.assertEqual(self.run_packer("--field", path, "Package", "Version", "Installed-Size"),
+                         "Package: rvstm\nVersion: 1.2.3\nInstalled-Size: 6\n")  # two files, a link and three folders
+        rows = [line.split() for line in self.run_packer("--contents", path).splitlines()]
+        self.assertEqual([row[0] for row in rows],
+                         ["drwxr-xr-x", "drwxr-xr-x", "drwxr-xr-x", "-rwxr-xr-x", "drwxr-xr-x", "-rw-r--r--", "lrwxrwxrwx"])
+        self.assertEqual({row[1] for row in rows}, {"root/root"})
+        self.assertEqual({row[3] for row in rows}, {"2023-11-14"})  # of SECONDS
+        self.assertIn("prerm", self.run_packer("--info", path))
+
+    def test_a_cut_at_places(self) -> None:
+        """A cut package is refused, or has all of its files."""
+        data = deb()
+        for end in range(0, len(data), 7):
+            try:
+                self.assertEqual(archives.files_in(data[:end]), ENTRIES)
+            except UserError:
+                pass
+
+    def test_messages(self) -> None:
+        with self.assertRaises(UserError) as caught:
+            packing.deb_of({**FIELDS, "Version": "no version"}, {}, ENTRIES, SECONDS)
+        self.assertIn("dpkg-deb ended with status 2: ", str(caught.exception))
+        with mock.patch.dict(os.environ, {"PATH": str(self.folder)}), self.assertRaises(UserError) as caught:
+            deb()
+        self.assertEqual(str(caught.exception), "there is no dpkg-deb: packages are made on Debian")
 
 
 def program_of_64_bits(code: bytes) -> bytes:
@@ -208,6 +239,34 @@ Options:
 """
 
 
+class OfPages(unittest.TestCase):
+    def test_links_in_a_package(self) -> None:
+        pages = ("README.md", "docs/formats.md", "docs/operators.md")
+        rows = {
+            ("README.md", "[formats](docs/formats.md#result), [more](docs/formats.md)"): "[formats](formats.md#result), [more](formats.md)",
+            ("README.md", "[auditing](docs/auditing.md#the-notation)."): "auditing (docs/auditing.md).",
+            ("docs/formats.md", "[here](#result), [there](operators.md), [gone](../bench/README.md#x)"): (
+                "[here](#result), [there](operators.md), gone (bench/README.md)"
+            ),
+            ("docs/formats.md", "[site](https://example.org/a#b), ![a picture](../bench/a.svg)"): (
+                "[site](https://example.org/a#b), a picture (bench/a.svg)"
+            ),
+            ("README.md", "a\n\n    [code](docs/auditing.md)\n"): "a\n\n    [code](docs/auditing.md)\n",
+        }
+        for (page, text), wanted in rows.items():
+            self.assertEqual(page_links.in_package(page, text, pages), wanted)
+
+    def test_no_link_of_a_package_leads_out_of_it(self) -> None:
+        made = parts.Parts(products.Products(checkouts.Checkout(Path(__file__).resolve().parents[2])))
+        for package in parts.PAGES:
+            found = made.pages(package, is_packed=False)
+            names = {path.rpartition("/")[2] for path in found}
+            for path, file in found.items():
+                assert isinstance(file, File)
+                links = re.findall(r"\]\(([^()\s#]+)[^()\s]*\)", re.sub(r"(?m)^    .*$", "", file.data.decode()))
+                self.assertEqual([link for link in links if link not in names and "://" not in link], [], path)
+
+
 class OfManPages(InFolder):
     def test_a_help(self) -> None:
         found = helps.help_of(HELP, "rvstm run")
@@ -216,6 +275,7 @@ class OfManPages(InFolder):
         with self.assertRaises(UserError) as caught:
             helps.help_of(f"{HELP}nonsense\n", "rvstm run")
         self.assertEqual(str(caught.exception), "the help of rvstm run has a line that was not looked for: nonsense")
+        self.assertEqual((found.ending, helps.help_of(f"{HELP}\nRequests:\n  q  End\n", "rvstm run").ending), ([], ["Requests:", "  q  End"]))
 
     def test_roff(self) -> None:
         self.assertEqual(roff.escaped(".a-b\\"), "\\&.a\\-b\\e")

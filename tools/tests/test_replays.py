@@ -13,6 +13,7 @@ from rvstm_tools.texts import blockfiles
 from rvstm_tools.texts.blockfiles import CallHead
 from rvstm_tools.texts.keys import Key
 from rvstm_tools.texts.results import End, Receipt
+from rvstm_tools.texts.views import View
 from tests.helpers import InFolder
 
 # The call: start calls a function, which reads a key; start returns two bytes.
@@ -72,10 +73,10 @@ class Replayed(InFolder):
 
     def test_storage_calls(self) -> None:
         read, back = Replay(self.call(), 1).storage_calls
-        self.assertEqual(read.text({}), 'READ "a" up to 64 bytes: 0a0b0c')
-        self.assertEqual(read.text({Key(b"a".ljust(32, b"\0")): "table:t:a"}), "READ table:t:a up to 64 bytes: 0a0b0c")
+        self.assertEqual(read.text(View()), 'READ "a" up to 64 bytes: 0a0b0c')
+        self.assertEqual(read.text(View({Key(b"a".ljust(32, b"\0")): "table:t:a"})), "READ table:t:a up to 64 bytes: 0a0b0c")
         self.assertEqual((read.moment, read.pc, read.gas, read.cost, read.answer), (1, 0x10010, 1, 200, 3))
-        self.assertEqual(back.text({}), 'RETURN 6869  26984  "hi"')
+        self.assertEqual(back.text(View()), 'RETURN 6869  26984  "hi"')
         self.assertEqual((back.moment, back.gas), (5, GAS - 12))
 
     def test_what_a_read_copies_costs_under_later_rules(self) -> None:
@@ -104,7 +105,7 @@ class Replayed(InFolder):
         places = traces.Places.__new__(traces.Places)
         chains = {0x10000: "start", 0x10004: "start", 0x10008: "start", 0x10010: "vote", 0x10014: "vote", 0x10018: "vote"}
         places.chains = {pc: [Inlined(name, f"/src/a.c:{pc % 16}")] for pc, name in chains.items()}
-        self.assertEqual(list(traces.storage_lines(replay, places, receipt, {})), [
+        self.assertEqual(list(traces.storage_lines(replay, places, receipt, View())), [
             "storage calls",
             "    step  gas before      gas  pc        call",
             '       1           1      200  00010010  READ "a" up to 64 bytes: 0a0b0c',
@@ -173,8 +174,8 @@ class Lines(unittest.TestCase):
         ):
             with self.subTest(text):
                 step = StorageStep(0, 0, number, key, 9, data, amount, answer=answer)
-                self.assertEqual(step.text({}), text)
-        self.assertEqual(StorageStep(0, 0, 2, None, 0, None, 0).text({}), "REMOVE a key outside memory")
+                self.assertEqual(step.text(View()), text)
+        self.assertEqual(StorageStep(0, 0, 2, None, 0, None, 0).text(View()), "REMOVE a key outside memory")
 
 
 class Charges(unittest.TestCase):
@@ -192,10 +193,10 @@ class Charges(unittest.TestCase):
 class Heads(InFolder):
     def test_the_head_of_a_call(self) -> None:
         path = self.write("a.block", "rvblock 2\ngas 3\nprogram 0 a.elf\nprogram 1 b.elf\nstore 00 01\ncall 1 500 -\ncall 0 9 00\n")
-        self.assertEqual(blockfiles.head_of_call(path, 0), CallHead(3, "b.elf", 500))
-        self.assertEqual(blockfiles.head_of_call(path, 1), CallHead(3, "a.elf", 9))
+        self.assertEqual(blockfiles.head_of_call(path, 0), CallHead(3, "b.elf", 500, b""))
+        self.assertEqual(blockfiles.head_of_call(path, 1), CallHead(3, "a.elf", 9, b"\0"))
         old = self.write("b.block", "rvblock 1\nprogram 0 a.elf\ncall 0 7 -\n")
-        self.assertEqual(blockfiles.head_of_call(old, 0), CallHead(1, "a.elf", 7))
+        self.assertEqual(blockfiles.head_of_call(old, 0), CallHead(1, "a.elf", 7, b""))
 
     def test_files_that_changed(self) -> None:
         for text in ("", "rvblock 1\n", "call 0 7 -\n", "program 0 a\ncall x 7 -\n", "program 0\ncall 0 7 -\n", "\n"):

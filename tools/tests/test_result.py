@@ -1,16 +1,14 @@
-"""Results for people and as JSON. The table is written by hand, and the schema is that of docs/formats.md."""
+"""Results for people and as JSON. The table is written by hand, and each object is checked by the schema that --schema prints."""
 
 import json
 import re
 import unittest
-from pathlib import Path
 from typing import Any
 
 from tests.helpers import InFolder, called_with
 
 Form = dict[str, Any]
 
-FORMATS = Path(__file__).resolve().parents[2] / "docs/formats.md"
 ZERO, ALICE = "00" * 32, b"alice".hex().ljust(64, "0")
 REGISTERS = " ".join(f"{number:08x}" for number in range(32))
 RESULT = f"""\
@@ -58,14 +56,13 @@ OBJECTS: list[Form] = [
 
 
 def schema() -> Form:
-    """The schema that the page has."""
-    page = FORMATS.read_text().partition("JSON Schema, 2020-12")[2]
-    form: Form = json.loads(re.sub("(?m)^    ", "", page[page.index("    {\n") :].partition("\n\nBytes are hex")[0]))
+    """The schema that --schema prints."""
+    form: Form = json.loads(called_with("", "result", "--schema")[1])
     return form
 
 
 def is_as(value: Any, form: Form, root: Form) -> bool:
-    """Whether a value of JSON is as a schema says; of the words that the page's schema has."""
+    """Whether a value of JSON is as a schema says; of the words that this schema has."""
     if "$ref" in form:
         return is_as(value, root["$defs"][form["$ref"].rpartition("/")[2]], root)
     return all(meets(value, word, said, form, root) for word, said in form.items())
@@ -94,7 +91,7 @@ def meets(value: Any, word: str, said: Any, form: Form, root: Form) -> bool:
             return set(value) <= set(form["properties"])
         case "properties":
             return all(is_as(value[name], one, root) for name, one in said.items() if name in value)
-    return word == "$defs"
+    return word in ("$schema", "$defs", "description")
 
 
 class Table(InFolder):
@@ -135,7 +132,7 @@ class Json(unittest.TestCase):
         status, output, faults = called_with(RESULT, "result", "--json")
         self.assertEqual((status, [json.loads(line) for line in output.splitlines()], faults), (0, OBJECTS, ""))
 
-    def test_all_are_as_the_schema_of_the_page_says(self) -> None:
+    def test_all_are_as_the_schema_says(self) -> None:
         form = schema()
         for words in ((), ("--registers",)):
             for line in called_with(RESULT, "result", "--json", *words)[1].splitlines():

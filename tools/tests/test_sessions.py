@@ -2,6 +2,7 @@
 
 import hashlib
 import io
+import sys
 import unittest
 from collections.abc import Sequence
 from pathlib import Path
@@ -12,7 +13,7 @@ from rvstm_tools.programs.pipes import Pipes
 from rvstm_tools.programs.running import Printed
 from rvstm_tools.sessions import answers, frames, requests
 from rvstm_tools.sessions.answers import Answer, Done, Kind, Refusal, State
-from rvstm_tools.sessions.nodes import Node
+from rvstm_tools.sessions.kept import KeptSession
 from rvstm_tools.sessions.processes import Session, Settings
 from rvstm_tools.sessions.requests import Fault, Found, Input, Request, Word
 from rvstm_tools.texts.blocks import Rules
@@ -276,44 +277,79 @@ class Processes(InFolder):
             self.assertEqual(bool(mask >> 24 & 1), is_as_here)
 
 
-CHAIN = """\
-import sys
-count = 0
+CHAIN = f"""\
+#!{sys.executable}
+# A session whose file has its height. It dies once over a frame that says so.
+import os, pathlib, signal, sys
+height, died = pathlib.Path("FOLDER/height"), pathlib.Path("FOLDER/died")
+def die(text, *, wanted):
+    if text == wanted and not died.exists():
+        died.touch()
+        os.kill(os.getpid(), signal.SIGKILL)
 while line := sys.stdin.buffer.readline():
     words = line.split()
-    if words[0] in (b"program", b"frame", b"try", b"begin"):
-        sys.stdin.buffer.read(int(words[-1]))
-    if words[0] == b"q":
-        break
-    body = b"end\\n" if words[0] in (b"frame", b"try") else b""
-    sys.stdout.buffer.write(b"ok %d\\n" % len(body) + body)
+    body = sys.stdin.buffer.read(int(words[-1])) if words[0] in (b"program", b"frame") else b""
+    answer = b""
+    if words[0] == b"frame":
+        die(body, wanted=b"die before")
+        height.write_text(str(int(height.read_text()) + (2 if body == b"two" else 1)))
+        die(body, wanted=b"die after")
+        if body == b"two":
+            os.kill(os.getpid(), signal.SIGKILL)
+        answer = b"answer to " + body
+    elif words[0] == b"last":
+        answer = b"the last answer"
+    elif words[0] == b"state":
+        answer = b"rules 1\\nheight %s\\nkeys 0\\nprograms 0\\nframe-limit 9\\nframe-gas none\\nbrief 0\\n" % height.read_bytes()
+    sys.stdout.buffer.write(b"ok %d\\n" % len(answer) + answer)
     sys.stdout.flush()
 """
 
 
-class OfANode(InFolder):
-    def test_it_continues_when_its_process_dies(self) -> None:
-        """The process answers `end` to each frame."""
-        program = Path(self.write("program", f"#!/usr/bin/env python3\n{CHAIN}"))
+class OfAKeptSession(InFolder):
+    def setUp(self) -> None:
+        super().setUp()
+        self.write("height", "0")
+
+    def kept(self, text: str = CHAIN) -> KeptSession:
+        program = Path(self.write("program", text.replace("FOLDER", str(self.folder))))
         program.chmod(0o755)
-        node = Node(lambda: Session(program), [], b"rvblock 1\n")
-        self.addCleanup(lambda: node.session.kill())
-        self.assertEqual(node.run(b"one"), Done(b"end\n"))
-        self.assertEqual(node.digest, hashlib.sha256(bytes(32) + b"ok 4\nend\n").digest())
-        node.session.process.kill()
-        node.session.process.wait()
-        self.assertEqual(node.run(b"two"), Done(b"end\n"))
-        self.assertEqual([counted.frame.body for counted in node.since], [b"one", b"two"])
+        found = KeptSession(lambda: Session(program), [Request(Word.PROGRAM, (), b"file")])
+        self.addCleanup(lambda: found.session.kill())
+        return found
+
+    def test_a_frame_that_was_not_kept_is_given_again(self) -> None:
+        kept = self.kept()
+        self.assertEqual(kept.run(b"one"), Done(b"answer to one"))
+        self.assertEqual(kept.run(b"die before"), Done(b"answer to die before"))
+        self.assertEqual((kept.height, kept.deaths, Path(f"{self.folder}/height").read_text()), (2, 1, "2"))
+
+    def test_a_frame_that_was_kept_is_not_given_again(self) -> None:
+        kept = self.kept()
+        self.assertEqual(kept.run(b"die after"), Done(b"the last answer"))
+        self.assertEqual((kept.height, kept.deaths, Path(f"{self.folder}/height").read_text()), (1, 1, "1"))
+
+    def test_a_process_that_is_killed_between_two_requests(self) -> None:
+        kept = self.kept()
+        kept.session.process.kill()
+        kept.session.process.wait()
+        self.assertEqual(kept.ask(Request(Word.LAST)), Done(b"the last answer"))
+        kept.end()
+
+    def test_another_height_is_an_error(self) -> None:
+        with self.assertRaises(UserError) as caught:
+            self.kept().run(b"two")
+        self.assertEqual(str(caught.exception), "the session is at height 2, and 0 was the last that was answered")
 
     def test_messages(self) -> None:
         for text, message in {
-            "exit 0": "the session does not begin: the process died",
-            "read line; echo refused frame NotADump 6; read line": "the session does not begin: refused frame NotADump 6",
+            "#!/bin/sh\nexit 0\n": "the session ended with status 0",
+            "#!/bin/sh\necho rvstm: store Busy 1 >&2\nexit 1\n": "rvstm: store Busy 1",
+            "#!/bin/sh\nread line\necho refused elf BadMagic 2\nread line\necho refused frame NoFrame 7\nread line\n":
+                "the session does not begin: refused elf BadMagic 2",
         }.items():
-            program = Path(self.write("program", f"#!/bin/sh\n{text}\n"))
-            program.chmod(0o755)
             with self.subTest(message), self.assertRaises(UserError) as caught:
-                Node(lambda: Session(program), [], b"")
+                self.kept(text)
             self.assertEqual(str(caught.exception), message)
 
 

@@ -3,18 +3,17 @@
 The results are those of a program that is used in place of rvstm.
 """
 
-import contextlib
-import io
 from pathlib import Path
 from unittest import mock
 
 from rvstm_tools.errors import UserError
 from rvstm_tools.programs.running import Printed
-from rvstm_tools.testing import listed
+from rvstm_tools.testing import listed, reports, testers
 from rvstm_tools.testing.listed import CallPart, ListedTest, StoragePart
 from rvstm_tools.testing.testers import Tester
 from rvstm_tools.texts.expectations import CostsAtMost, EndsBy, Holds
 from rvstm_tools.texts.keys import numbered_key
+from rvstm_tools.texts.lists import STORAGE
 from rvstm_tools.texts.results import End
 from tests.helpers import FakeProgram, InFolder
 
@@ -37,10 +36,10 @@ class InFolderWithProgram(InFolder):
 
     def tried(self, content: str, program: FakeProgram, *variants: str, is_update: bool = False) -> list[str]:
         """What is printed of a test, with its sums."""
-        tester = Tester(program, is_update=is_update)
-        with contextlib.redirect_stdout(io.StringIO()) as output:
-            tester.try_test(self.read(content), variants)
-        return [*output.getvalue().replace(f"{self.folder}/", "").splitlines(), str(tester.sums)]
+        tried = list(Tester(program, is_update=is_update).tried([self.read(content)], variants))
+        lines = [line for run in tried for line in reports.lines_of_run(run)]
+        lines += testers.updated(tried) if is_update else []
+        return [line.replace(f"{self.folder}/", "") for line in [*lines, str(reports.sums_of(tried))]]
 
 
 class Reading(InFolder):
@@ -65,8 +64,8 @@ class Reading(InFolder):
         for content, line, message in (
             ("expect returned\n", 1, "expect: no call is above it"),
             ("expect wrong\n", 1, "expect: no call is above it"),
-            (f"{BEGIN}storage x\n", 3, "storage: the line has no other word, and comes once"),
-            (f"{BEGIN}storage\nstorage\n", 4, "storage: the line has no other word, and comes once"),
+            (f"{BEGIN}storage x\n", 3, STORAGE),
+            (f"{BEGIN}storage\nstorage\n", 4, STORAGE),
             (f"{BEGIN}storage\ncall a 9\n", 4, "call: only lines `expect` may follow `storage`"),
             (f"{BEGIN}storage\nexpect returned\n", 4, "returned: it follows a call, not `storage`"),
             (f"{BEGIN}expect no other key\ncall\n", 3, "no other: here it is `no other write`"),

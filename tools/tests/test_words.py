@@ -65,13 +65,19 @@ class BytesOfAWord(unittest.TestCase):
                 self.assertEqual(words.bytes_of(word).hex(), wanted)
 
     def test_messages(self) -> None:
-        forms = 'neither bytes in hex nor "text", u8:N, u16:N, u32:N, u64:N, key:text, key:N or table:TAG:text'
+        forms = (
+            'not bytes in hex, "text", u8:N .. u64:N, i8:N .. i64:N, key:text, key:N, account:name, row:TABLE:name, '
+            "table:TAG:text or hex:BYTES"
+        )
         cases = {
             "0": forms,
             "0g": forms,
             "u7:1": forms,
             "u8:": forms,
             "u8:-1": forms,
+            "i8:+1": forms,
+            "hex:": forms,
+            "hex:0": forms,
             "u8:\u0663": forms,  # a digit, but none of ASCII
             "u8:256": "a number of 8 bits is at most 255",
             "u16:65536": "a number of 16 bits is at most 65535",

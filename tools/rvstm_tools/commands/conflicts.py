@@ -30,10 +30,10 @@ def add_options(parser: argparse.ArgumentParser) -> None:
 
 def run(given: argparse.Namespace) -> int:
     """Writes the picture."""
-    names = options.table_names(given)
+    view = options.view(given)
     program = finding.chosen(options.program_choice(given), "conflicts")
     found = conflicts.conflicts_of(running.run_file(program, "conflicts", given.file))
-    given.svg.write_text(Picture(Path(given.file).name, found, names).svg(), encoding="ascii", errors="xmlcharrefreplace")
+    given.svg.write_text(Picture(Path(given.file).name, found, view).svg(), encoding="ascii", errors="xmlcharrefreplace")
     return Status.DONE
 
 

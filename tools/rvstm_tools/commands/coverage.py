@@ -2,7 +2,8 @@
 
 import argparse
 import os
-from collections import defaultdict
+from collections import Counter, defaultdict
+from collections.abc import Sequence
 from pathlib import Path
 
 from rvstm_tools import options
@@ -14,6 +15,7 @@ from rvstm_tools.options import Command
 from rvstm_tools.programs import finding, running
 from rvstm_tools.programs.running import Program
 from rvstm_tools.texts import lists
+from rvstm_tools.texts.views import View
 
 DETAILS = """\
 `rvstm debug` replays each call of a LIST, a test or not, step by step, in the folder of the list. Several lists count together.
@@ -29,6 +31,8 @@ which did not go both ways. A line counts if the program has instructions of it.
 inlined there. A branch is a conditional branch of the program, and has two ways. Copies of a function that is inlined in several
 places count as one. So lines and branches are those that the compiler left: with MORE=-O0 for both programs they are most like
 the source. Files of the SDK are left out without --sdk.
+
+If a list has lines `shape input NAME`, it prints how many calls have each of these inputs.
 
 With --lcov the same is written in the format of lcov; genhtml (package lcov) makes pages of it:
 
@@ -49,12 +53,16 @@ def run(given: argparse.Namespace) -> int:
     """Prints what ran."""
     program = finding.chosen(options.program_choice(given), "coverage")
     programs, covered = defaultdict[str, Steps](Steps), Covered(SourceFile)
-    calls = sum(add_list(program, path.absolute(), programs) for path in given.lists)
+    for path in given.lists:
+        add_list(program, path.absolute(), programs)
+    inputs = counts_of_inputs(given.lists)
     for path, steps in programs.items():
         coverage.add_program(covered, path, steps)
     sdk = os.path.realpath(finding.home().top / "sdk") + os.sep
     shown = {path: covered[path] for path in sorted(covered) if given.sdk or not path.startswith(sdk)}
-    print(f"{calls:,} calls, {sum(steps.total for steps in programs.values()):,} steps")
+    print(f"{inputs.total():,} calls, {sum(steps.total for steps in programs.values()):,} steps")
+    if any(inputs):
+        print(f"inputs: {', '.join(f'{name} {count:,}' for name, count in inputs.items() if name)}; others {inputs['']:,}")
     for path, source in shown.items():
         for line in coverage.source_lines(os.path.relpath(path), source):
             print(line)
@@ -64,8 +72,19 @@ def run(given: argparse.Namespace) -> int:
     return Status.DONE
 
 
-def add_list(program: Program, path: Path, programs: defaultdict[str, Steps]) -> int:
-    """Replays each call of a list, and adds it to the steps of its program. Returns how many calls there are."""
+def counts_of_inputs(paths: Sequence[Path]) -> Counter[str]:
+    """How many calls of the lists have each input that one of them has a shape of; all others have no name."""
+    view = View()
+    for path in paths:
+        view.inputs = lists.read_view(str(path)).inputs | view.inputs
+    counts = Counter[str](dict.fromkeys(view.inputs, 0))
+    for path in paths:
+        counts.update(view.name_of_input(call.data) for call in lists.read_block(str(path), {}).calls)
+    return counts
+
+
+def add_list(program: Program, path: Path, programs: defaultdict[str, Steps]) -> None:
+    """Replays each call of a list, and adds it to the steps of its program."""
     block = lists.read_block(str(path), {})
     folder = path.parent
     with running.temporary_file(block.text(), ".block") as made:
@@ -76,7 +95,6 @@ def add_list(program: Program, path: Path, programs: defaultdict[str, Steps]) ->
         for number, call in enumerate(block.calls):
             file = os.path.abspath(folder / block.programs[call.program].path)
             programs[file].add(CallOf(program.path, made, number, folder))
-    return len(block.calls)
 
 
 COMMAND = Command(

@@ -32,7 +32,8 @@ before it has the end, the output, the steps and the gas.
 
     monitor end               how the call ends
     monitor calls             the storage calls up to here, each with its moment
-    monitor value KEY         what a READ of KEY would find here; KEY is a word of a list, such as key:alice, or 64 hex digits
+    monitor value KEY         what a READ of KEY would find here; KEY is a word of a list, such as key:alice, or 64 hex digits;
+                              with --list a value is shown by its lines `shape`
     monitor go MOMENT         goes to a moment; after it `maintenance flush register-cache` shows gdb the new place
 
 Going forward, to breakpoints and to changes of memory too, is as fast as a run. Going back is a run from the call's start.
@@ -47,11 +48,11 @@ def add_options(_: argparse.ArgumentParser) -> None:
 def run(given: argparse.Namespace) -> int:
     """Serves gdb."""
     program = finding.chosen(options.program_choice(given), "gdb")
-    names = options.table_names(given)
+    view = options.view(given)
 
     def open_call(hear: Callable[[], None]) -> Call:
         try:
-            return Call(CallOf(program.path, given.file, given.call), names, hear)
+            return Call(CallOf(program.path, given.file, given.call), view, hear)
         except UserError as error:
             raise UserError(running.placed_refusal(program, given.file, str(error))) from error
 

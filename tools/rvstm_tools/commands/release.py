@@ -10,7 +10,7 @@ from pathlib import Path
 from rvstm_tools.errors import Status
 from rvstm_tools.options import Command
 from rvstm_tools.programs import checkouts
-from rvstm_tools.releases import archives, helps, parts
+from rvstm_tools.releases import archives, helps, packing, parts
 from rvstm_tools.releases.archives import EXECUTABLE, Entries, File
 from rvstm_tools.releases.parts import Parts
 from rvstm_tools.releases.products import Product, Products
@@ -27,10 +27,12 @@ SDK_TEXT = """writes, builds and tests contracts for rvstm
  Headers, start-up code, a linker script and a Makefile for contracts in C,
  a crate for contracts in Rust, examples, and the command rvstm-tools, which
  tests and traces calls. The SDK is in /usr/share/rvstm-sdk."""
+SDK_SUGGESTS = "cargo, rustc, rust-src, librust-compiler-builtins-dev, python3-cryptography"
+"""For contracts in Rust, and for the example of a node."""
 CLEAN = f"#!/bin/sh\nset -e\nfind /usr/{parts.SDK}/tools -name __pycache__ -prune -exec rm -r {{}} +\n"
 DETAILS = """\
 FOLDER is made. The checkout must be as its commit has it, and the program and the library must be there as its sources make them,
-by `rvstm-tools example` and `rvstm-tools library`. Nothing is proved, built or fetched. FOLDER gets, for version VERSION,
+by `rvstm-tools example` and `rvstm-tools library`. Nothing is proved, built or fetched. dpkg-deb makes the packages. FOLDER gets, for version VERSION,
 
     rvstm_VERSION_amd64.deb            the program, its man page and its completion
     librvstm-dev_VERSION_amd64.deb     the library for C, and what linking to it needs
@@ -103,7 +105,7 @@ class Release:
         )
         yield Package(
             "rvstm-sdk", "all", "devel", SDK_TEXT, self.parts.sdk(), "clang, lld, llvm, make, python3 (>= 3.11)",
-            {"Recommends": "rvstm"}, {"prerm": File(CLEAN.encode(), EXECUTABLE)},
+            {"Recommends": "rvstm", "Suggests": SDK_SUGGESTS}, {"prerm": File(CLEAN.encode(), EXECUTABLE)},
         )
 
     def deb_of(self, package: Package) -> bytes:
@@ -118,7 +120,7 @@ class Release:
             "Description": package.text,
         }
         placed: Entries = {f"usr/{path}": entry for path, entry in entries.items()}
-        return archives.deb_of(fields, package.control, placed, self.seconds)
+        return packing.deb_of(fields, package.control, placed, self.seconds)
 
     def archive(self, folder: str) -> bytes:
         """The bytes of the archive, which may be unpacked anywhere."""

@@ -2,40 +2,44 @@
 
 import argparse
 import io
+import json
 import sys
 
 from rvstm_tools import options
 from rvstm_tools.errors import Status
 from rvstm_tools.options import Command
-from rvstm_tools.texts import objects, results, tables
+from rvstm_tools.texts import objects, result_schema, results, tables
 
 DETAILS = """\
 It reads a result from standard input, as rvstm prints it: each call, what it wrote, and the storage.
 
-Keys lose the zeros at their end. They are in quotes if they are a text, and otherwise in hex. If all bytes of a value are
-printable, the text is after the hex. 1, 2, 4 or 8 bytes are a number too, the lowest byte first. An amount that a call
-added to a key is a number with a + before it."""
+A key of a row of a table is printed as row:TABLE:ROW (`rvstm-tools block --help`). Other keys lose the zeros at their end. They
+are in quotes if they are a text, and otherwise in hex. If all bytes of a value are printable, the text is after the hex. 1, 2, 4
+or 8 bytes are a number too, the lowest byte first. An amount that a call added to a key is a number with a + before it.
+
+With --list, keys and values are printed by the words and the lines `shape` of a list (`rvstm-tools block --help`)."""
 
 
 def add_options(parser: argparse.ArgumentParser) -> None:
     """Adds the options of the command."""
-    parser.add_argument(
-        "--json", action="store_true",
-        help="an object a line: each call with its writes, each key of the storage, and the end; formats.md has the schema",
-    )
+    parser.add_argument("--json", action="store_true", help="an object a line: each call with its writes, each key of the storage, and the end")
+    parser.add_argument("--schema", action="store_true", help="prints the JSON schema of the objects of --json, and reads nothing")
     parser.add_argument("--registers", action="store_true", help="prints the registers of each call at its end, too")
 
 
 def run(given: argparse.Namespace) -> int:
     """Prints the result that standard input has."""
-    names = options.table_names(given)
+    if given.schema:
+        print(json.dumps(result_schema.SCHEMA, indent=2))
+        return Status.DONE
+    view = options.view(given)
     if isinstance(sys.stdin, io.TextIOWrapper):
         sys.stdin.reconfigure(encoding="ascii", errors="backslashreplace")
     items = results.items_of(sys.stdin)
     if given.json:
         lines = objects.json_lines(items, has_registers=given.registers)
     else:
-        lines = tables.table_lines(items, names, has_registers=given.registers)
+        lines = tables.table_lines(items, view, has_registers=given.registers)
     for line in lines:
         print(line)
     return Status.DONE

@@ -2,18 +2,19 @@
 
 import argparse
 import sys
-from collections.abc import Iterator
+from collections.abc import Iterator, Sequence
 from dataclasses import dataclass
 from pathlib import Path
 
 from rvstm_tools import errors
 from rvstm_tools import options as common
-from rvstm_tools.errors import Status, UserError
+from rvstm_tools.errors import MisuseError, Status, UserError
 from rvstm_tools.options import Command
 from rvstm_tools.programs import finding
-from rvstm_tools.testing import listed
+from rvstm_tools.testing import junit, listed, reports, testers
+from rvstm_tools.testing.gastables import Gas, GasDifference, GasTable
 from rvstm_tools.testing.listed import ListedTest
-from rvstm_tools.testing.testers import Tester
+from rvstm_tools.testing.testers import Tester, Tried
 
 DETAILS = """\
 A test is a list of a block (`rvstm-tools block --help`), with what is expected of a call in the lines after it:
@@ -28,7 +29,9 @@ A test is a list of a block (`rvstm-tools block --help`), with what is expected 
     storage
     expect key:bob u64:8
 
-All calls of a list run in one block by `rvstm seq`, in the folder of the list, from where its programs' paths are taken.
+All calls of a list run in one block by `rvstm seq`, in the folder of the list, from where paths are taken. As many lists run at
+once as --jobs says. A line `storage DUMP` before the calls begins with the storage of a file: what `rvstm chain` answers to `dump`,
+or a result.
 
     expect returned BYTES..     the call returns, with this output; without BYTES with any, and with "" with an empty one
     expect reverted BYTES..     the call reverts, in the same three ways
@@ -50,9 +53,15 @@ After a call, the last one too, KEY is compared with what this call writes, whic
 `storage` it is compared with what the storage has then. A call with no lines after it may end in any way.
 
 A line is printed for each test, below it each line that is not met, and at the end the sums. Of bytes that are too long
-for a line a piece is printed, around the place where the two part, and a key of a table is printed by the words of the list.
-The status is 0 if all tests pass, 1 if one fails, and 2 if a list or the command line is wrong or there is no rvstm;
-then no test is run."""
+for a line a piece is printed, around the place where the two part. A key of a table is printed by the words of the list, and a
+value with a `shape` by its fields, with the name of the first one that differs.
+With --json an object of JSON is printed in place of each such line, with the gas of all calls, and one for the sums.
+
+--gas FILE compares the gas of each call with its row in FILE: the gas, the number of the call, and the list. Calls that differ by
+more than --within percent, and those that only one of both has, are printed. --write makes FILE again, if all tests pass.
+
+The status is 0 if all tests pass, 1 if one fails or gas differs, and 2 if a list, FILE or the command line is wrong or there is no
+rvstm; then no test is run."""
 
 
 @dataclass(frozen=True)
@@ -60,9 +69,26 @@ class Options:
     """The command line."""
 
     files: list[str]
-    filter: str
+    only: list[str]
     variants: list[str]
     is_update: bool
+    is_json: bool
+    junit: Path | None
+    gas: Path | None
+    within: float
+    is_write: bool
+    jobs: int
+
+
+def percent(word: str) -> float:
+    """A number of percent, which may have a fraction."""
+    try:
+        number = float(word)
+    except ValueError:
+        number = -1.0
+    if not 0 <= number < float("inf"):
+        raise argparse.ArgumentTypeError(f"{word}: it is a number of percent")
+    return number
 
 
 def add_options(parser: argparse.ArgumentParser) -> None:
@@ -71,7 +97,10 @@ def add_options(parser: argparse.ArgumentParser) -> None:
         "files", nargs="+", metavar="FILE",
         help="a list, or a folder: its lists NAME.list, and those of folders in it, that have a line `expect`",
     )
-    parser.add_argument("--filter", default="", metavar="WORD", help="only lists that have WORD in their path")
+    parser.add_argument(
+        "--only", "--filter", action="append", default=[], metavar="NAME",
+        help="only lists that have NAME in their path; may be given again",
+    )
     parser.add_argument(
         "--variant", action="append", default=[], metavar="NAME",
         help="runs each list again with PROGRAM-NAME.elf in place of PROGRAM.elf, if that is there; may be given again",
@@ -81,29 +110,68 @@ def add_options(parser: argparse.ArgumentParser) -> None:
         help="writes the numbers of the lines `gas at most` again if all other lines are met: the gas that came, the "
         "most of all variants",
     )
+    parser.add_argument("--json", action="store_true", help="an object a line: each test, gas that differs, and the sums")
+    parser.add_argument("--junit", type=common.new_file, metavar="XML", help="a file for the tests in the format of JUnit")
+    parser.add_argument("--gas", type=common.new_file, metavar="FILE", help="a table of the gas of all calls, to compare with")
+    parser.add_argument(
+        "--within", type=percent, default=0.0, metavar="N", help="by how many percent gas may differ from the table (0)"
+    )
+    parser.add_argument("--write", action="store_true", help="makes the table of --gas again, if all tests pass")
 
 
 def run(given: argparse.Namespace) -> int:
-    """Runs the tests. All lists are read before the first one is run."""
-    options = Options(given.files, given.filter, given.variant, given.update)
+    """Runs the tests. All lists and the table are read before the first one is run."""
+    options = Options(
+        given.files, given.only, given.variant, given.update, given.json, given.junit, given.gas, given.within, given.write,
+        given.jobs,
+    )
     try:
+        if options.gas is None and (options.is_write or options.within):
+            raise MisuseError("--within and --write are for --gas FILE")
         program = finding.chosen(common.program_choice(given), "test")
         tests = tests_of(options)
+        table = GasTable(options.gas) if options.gas else None
+        rows = table.read() if table and not options.is_write else {}
     except (UserError, OSError) as error:
         print(f"test: {errors.reason(error)}", file=sys.stderr)
         return Status.MISUSED
-    tester = Tester(program, is_update=options.is_update)
-    for test in tests:
-        tester.try_test(test, options.variants)
-    print(tester.sums)
-    return Status.FAILED if tester.sums.failed else Status.DONE
+    tried = []
+    for one in Tester(program, is_update=options.is_update, jobs=options.jobs).tried(tests, options.variants):
+        tried.append(one)
+        for line in [reports.json_of_run(one)] if options.is_json else reports.lines_of_run(one):
+            print(line, flush=True)
+    return ended(options, tried, table, rows)
+
+
+def ended(options: Options, tried: Sequence[Tried], table: GasTable | None, rows: Gas) -> Status:
+    """Prints and writes what all tests are needed for."""
+    sums = reports.sums_of(tried)
+    notes = list(testers.updated(tried)) if options.is_update else []
+    differences: list[GasDifference] = []
+    if table and options.is_write:
+        if sums.failed:
+            notes.append(f"{table.path} is not written: a test failed")
+        else:
+            table.write(tried)
+            notes.append(f"written to {table.path}")
+    elif table:
+        differences = list(table.differences(rows, tried, options.within))
+    if options.junit:
+        junit.write(options.junit, tried, differences, f"{table.path}" if table and not options.is_write else "")
+    if options.is_json:
+        lines = [*map(reports.json_of_gas, differences), reports.json_of_sums(sums)]
+    else:
+        lines = [*notes, *reports.lines_of_gas(differences, f"{options.gas}", options.within), f"{sums}"]
+    for line in lines:
+        print(line)
+    return Status.FAILED if sums.failed or differences else Status.DONE
 
 
 def tests_of(options: Options) -> list[ListedTest]:
     """The tests of the lists that the command line names. A list that is named alone has to be one."""
     tests = []
     for path, is_named in lists_of(options.files):
-        if options.filter not in str(path):
+        if options.only and not any(name in str(path) for name in options.only):
             continue
         test = listed.read_test(path)
         if test.count():
@@ -111,7 +179,7 @@ def tests_of(options: Options) -> list[ListedTest]:
         elif is_named:
             raise UserError(f"{path}: no line `expect`, so it tests nothing")
     if not tests:
-        of = f"whose path has {options.filter} " if options.filter else ""
+        of = f"whose path has {' or '.join(options.only)} " if options.only else ""
         raise UserError(f"none of these lists {of}has a line `expect`")
     return tests
 
@@ -132,5 +200,5 @@ COMMAND = Command(
     example="rvstm-tools test --variant gnu examples/token",
     add_options=add_options,
     run=run,
-    shared=(common.program_parser,),
+    shared=(common.program_parser, common.jobs_parser),
 )

@@ -24,8 +24,9 @@ It prints the storage calls of the call, and its gas by function. `rvstm debug` 
 Of each storage call it prints the step at which it is, the gas before it, its own gas, its address, what it is given and what
 it answers. In the line below are the functions that it is in, the innermost last, each with the line of its source. Then it
 prints the gas of each function: of its own instructions, most first, and with all that it calls. A storage call counts as a
-function that is called, by its name. With --svg the same is drawn as a flame graph: a bar is as wide as the gas of the function
-with all that it calls, and is on the bar of its caller.
+function that is called, by its name. With --list, keys, values and the input of the call are shown by the words and the lines
+`shape` of the list. With --svg the gas is drawn as a flame graph: a bar is as wide as the gas of the function with all that it
+calls, and is on the bar of its caller.
 
 Functions and lines come from ELF, the program with its symbols and the lines of its source, which the SDK makes:
 
@@ -50,7 +51,7 @@ def add_options(parser: argparse.ArgumentParser) -> None:
 def run(given: argparse.Namespace) -> int:
     """Prints the trace."""
     program = finding.chosen(options.program_choice(given), "trace")
-    names = options.table_names(given)
+    view = options.view(given)
     receipt = receipt_of(program, given.file, given.call)
     head = blockfiles.head_of_call(given.file, given.call)
     replay = Replay(CallOf(program.path, given.file, given.call), head.rules)
@@ -60,7 +61,7 @@ def run(given: argparse.Namespace) -> int:
     root = traces.bars_of(replay, places, title)
     for line in (
         f"{title}: {receipt.end}, {replay.total} steps, gas {receipt.gas} of {head.limit}, pc {receipt.pc:08x}",
-        "", *traces.storage_lines(replay, places, receipt, names), *traces.end_lines(replay, places, receipt),
+        *filter(None, [view.input(head.data)]), "", *traces.storage_lines(replay, places, receipt, view), *traces.end_lines(replay, places, receipt),
         "", *traces.sum_lines(root),
     ):
         print(line)

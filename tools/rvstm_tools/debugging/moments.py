@@ -16,8 +16,9 @@ from rvstm_tools.errors import UserError
 from rvstm_tools.models.charges import StorageCall
 from rvstm_tools.programs.running import Program
 from rvstm_tools.texts import blockfiles, shown, words
-from rvstm_tools.texts.keys import KEY_LENGTH, Key, Names
+from rvstm_tools.texts.keys import KEY_LENGTH, Key
 from rvstm_tools.texts.results import End
+from rvstm_tools.texts.views import View
 
 FIRST_ADDRESS, END_ADDRESS = 0x00010000, 0x00110000
 NEVER = 2**64
@@ -240,10 +241,10 @@ def end_of(answer: str) -> EndOfCall:
 class Call:
     """The replay of a call, and the moment that is looked at."""
 
-    def __init__(self, subject: CallOf, names: Names, hear: Callable[[], None]) -> None:
+    def __init__(self, subject: CallOf, view: View, hear: Callable[[], None]) -> None:
         """`hear` is asked often, and raises `InterruptedMove` if the user asks to stop."""
         self.subject = subject
-        self.names = names
+        self.view = view
         self.hear = hear
         self.idle: list[AnyMoment] = []
         self.opened: list[AnyMoment] = []
@@ -362,8 +363,10 @@ class Call:
     def end_text(self) -> str:
         """How the call ends."""
         output = f" {shown.shown_bytes(self.end.output)}" if self.end.output else ""
-        name = os.path.basename(self.subject.file)
-        return f"call {self.subject.number} of {name}: {self.end.end}{output}, {self.end.steps} steps, gas {self.end.gas}\n"
+        head = blockfiles.head_of_call(self.subject.file, self.subject.number)
+        meaning = f", {text}" if (text := self.view.input(head.data)) else ""
+        name = f"call {self.subject.number} of {os.path.basename(self.subject.file)}{meaning}"
+        return f"{name}: {self.end.end}{output}, {self.end.steps} steps, gas {self.end.gas}\n"
 
     def value_text(self, word: str) -> str:
         """What a READ of a key would find now; the key is a word of a list."""
@@ -374,8 +377,8 @@ class Call:
         if len(data) != KEY_LENGTH:
             return f"{word}: a key has {KEY_LENGTH} bytes, and this is {len(data)}\n"
         kind, *value = self.here_at(self.now).answer(f"v {data.hex()}").split(" ")
-        found = shown.shown_bytes(bytes.fromhex(value[0].replace("-", ""))) if value else kind
-        return f"{shown.shown_key(Key(data), self.names)}: {found}\n"
+        found = self.view.value(Key(data), bytes.fromhex(value[0].replace("-", ""))) if value else kind
+        return f"{self.view.key(Key(data))}: {found}\n"
 
     def ecalls(self) -> list[int]:
         """The addresses of all ECALLs of the program."""
@@ -395,5 +398,5 @@ class Call:
             if call.number == StorageCall.READ and moment < self.last:
                 replays.take_answer(place, call)
                 place.take(place.answer_bytes("w"))
-            rows.append(f"{moment:>8} {call.pc:08x} {call.text(self.names)}\n")
+            rows.append(f"{moment:>8} {call.pc:08x} {call.text(self.view)}\n")
         return "".join(rows) or "no storage calls\n"

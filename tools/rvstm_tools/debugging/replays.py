@@ -12,8 +12,9 @@ from rvstm_tools.errors import UserError
 from rvstm_tools.models import charges
 from rvstm_tools.models.charges import StorageCall
 from rvstm_tools.texts import shown
-from rvstm_tools.texts.keys import KEY_LENGTH, Key, Names
+from rvstm_tools.texts.keys import KEY_LENGTH, Key
 from rvstm_tools.texts.results import End, Receipt
+from rvstm_tools.texts.views import View
 
 SECONDS_BETWEEN_REPORTS = 2
 LINKS = ("x1", "x5")  # the registers that hold return addresses
@@ -100,19 +101,19 @@ class StorageStep:
         """The name of the storage call."""
         return charges.NAMES[self.number] if self.is_known() else f"ECALL {self.number}"
 
-    def text(self, names: Names) -> str:
+    def text(self, view: View) -> str:
         """Its name, what it is given, and what it answers."""
-        return f"{self.name()} {self._words(names)}".rstrip()
+        return f"{self.name()} {self._words(view)}".rstrip()
 
-    def _words(self, names: Names) -> str:
+    def _words(self, view: View) -> str:
         if not self.is_known():
             return ""
-        key = "a key outside memory" if self.key is None else shown.shown_key(self.key, names)
+        key = "a key outside memory" if self.key is None else view.key(self.key)
         match StorageCall(self.number):
             case StorageCall.READ:
-                return f"{key} up to {self.length} bytes: {self._shown_answer()}"
+                return f"{key} up to {self.length} bytes: {self._shown_answer(view)}"
             case StorageCall.WRITE:
-                return f"{key}: {shown_data(self.data)}"
+                return f"{key}: {self._shown_value(view)}"
             case StorageCall.ADD:
                 return f"{key}: +{self.amount}"
             case StorageCall.REMOVE:
@@ -120,9 +121,12 @@ class StorageStep:
             case _:  # RETURN and REVERT
                 return shown_data(self.data)
 
-    def _shown_answer(self) -> str:
+    def _shown_answer(self, view: View) -> str:
         answers = {None: "no answer", ABSENT: "absent", LONGER: "longer"}
-        return answers.get(self.answer) or shown_data(self.data)
+        return answers.get(self.answer) or self._shown_value(view)
+
+    def _shown_value(self, view: View) -> str:
+        return shown_data(self.data) if self.key is None or self.data is None else view.value(self.key, self.data)
 
 
 def shown_data(data: bytes | None) -> str:

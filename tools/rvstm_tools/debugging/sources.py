@@ -12,6 +12,8 @@ from rvstm_tools.programs.elf import ElfFile, plain_name
 ADDRESS_TOOLS = ("llvm-addr2line", "riscv64-unknown-elf-addr2line", "riscv32-unknown-elf-addr2line")
 NO_TOOL = f"there is none of {', '.join(ADDRESS_TOOLS)}; install the package llvm"
 UNKNOWN = "??"
+LOCAL_LABEL = ".L"
+"""How a label begins that a compiler made for a jump. A tool takes it for a function if no line is known."""
 
 
 class Inlined(NamedTuple):
@@ -60,16 +62,17 @@ def chains_of(program: ElfFile, addresses: Sequence[int], tool: str | None) -> C
         raise UserError(f"{tool} ended with status {done.returncode}: {done.stderr.strip()}")
     for part in f"\n{done.stdout}".split("\n0x")[1:]:
         address, *lines = part.splitlines()
-        chain = chain_of(lines)
+        chain = chain_of(lines, program.function_at(int(address, 16)))
         if chain:
             chains[int(address, 16)] = chain
     return chains
 
 
-def chain_of(lines: Sequence[str]) -> list[Inlined]:
-    """The functions that a tool names for an address, in pairs of lines, the innermost first."""
-    pairs = zip(lines[::2], lines[1::2])
-    return [Inlined(plain_name(name), line) for name, line in pairs if name != UNKNOWN][::-1]
+def chain_of(lines: Sequence[str], function: str) -> list[Inlined]:
+    """The functions that a tool names for an address, in pairs of lines, the innermost first. `function` is what the symbols of
+    functions say, in place of a label."""
+    pairs = [(name, line) for name, line in zip(lines[::2], lines[1::2]) if name != UNKNOWN]
+    return [Inlined(function if name.startswith(LOCAL_LABEL) else plain_name(name), line) for name, line in reversed(pairs)]
 
 
 def short_place(line: str) -> str:

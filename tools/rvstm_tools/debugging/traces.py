@@ -11,8 +11,8 @@ from rvstm_tools.models import charges
 from rvstm_tools.pictures import flames
 from rvstm_tools.pictures.flames import Bar
 from rvstm_tools.programs.elf import ElfFile
-from rvstm_tools.texts.keys import Names
 from rvstm_tools.texts.results import End, Receipt
+from rvstm_tools.texts.views import View
 
 MOST_OUTER, MOST_INNER = 4, 12  # functions of a chain that are shown
 OUTPUT_ENDS = (End.RETURNED, End.REVERTED)
@@ -83,7 +83,7 @@ def chain_text(chain: Sequence[Inlined]) -> str:
     return " > ".join(words)
 
 
-def storage_lines(replay: Replay, places: Places, receipt: Receipt, names: Names) -> Iterator[str]:
+def storage_lines(replay: Replay, places: Places, receipt: Receipt, view: View) -> Iterator[str]:
     """The storage calls, each with the functions that it is in."""
     if not replay.storage_calls:
         yield "no storage calls"
@@ -93,7 +93,7 @@ def storage_lines(replay: Replay, places: Places, receipt: Receipt, names: Names
     for call in replay.storage_calls:
         is_last = call.moment == replay.total - 1
         end = f"; the call ends {receipt.end}" if is_last and receipt.end not in OUTPUT_ENDS else ""
-        yield f"{call.moment:>8}  {call.gas:>10}  {call.cost:>7}  {call.pc:08x}  {call.text(names)}{end}"
+        yield f"{call.moment:>8}  {call.gas:>10}  {call.cost:>7}  {call.pc:08x}  {call.text(view)}{end}"
         yield f"{'':41}{chain_text(places.chain(call.frame, call.pc))}"
 
 

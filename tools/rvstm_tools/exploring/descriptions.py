@@ -1,6 +1,5 @@
 """Descriptions of random calls: what is drawn, the calls, and what has to hold (`rvstm-tools explore --help`)."""
 
-import functools
 import os
 import re
 from collections.abc import Iterable, Mapping
@@ -9,8 +8,9 @@ from pathlib import Path
 from types import CodeType
 
 from rvstm_tools.errors import UserError
-from rvstm_tools.exploring import expressions, places
-from rvstm_tools.exploring.expressions import OF_BEFORE, OF_CALLS, OF_STORAGE, Rule
+from rvstm_tools.exploring import expressions, places, storages
+from rvstm_tools.exploring.expressions import MODEL, OF_BEFORE, OF_CALLS, OF_STORAGE, Rule
+from rvstm_tools.exploring.models import ModelClass
 from rvstm_tools.exploring.places import Place, Value, Words
 from rvstm_tools.texts import blocks, lists, words
 from rvstm_tools.texts.lists import BlockReader, Line
@@ -20,15 +20,17 @@ PLACE = re.compile(r"\{(?:([A-Za-z_]\w*)=)?([A-Za-z_]\w*)\}")
 ANY_PLACE, BRACES = re.compile(r"\{[A-Za-z_]\w*\}"), re.compile("[{}]")
 LET = re.compile(r"([A-Za-z_]\w*)\s*=\s*(.*)")
 OTHER_ENDS = (End.OUT_OF_GAS, *TRAPS)
-KINDS = "rules, program, store, draw, let, always, call, returned, reverted, holds, may-end or storage"
-OF_BLOCKS = ("rules", "program", "store")
+KINDS = "rules, program, shape, store, draw, let, model, always, call, method, returned, reverted, holds, may-end or storage"
+OF_BLOCKS = ("rules", "program", "shape", "store")
 OF_RULES = ("always", "returned", "reverted", "holds")
 
 
-@functools.lru_cache(maxsize=1 << 14)
-def bytes_of(word: str) -> bytes:
-    """The bytes of a word of a list; none of an empty one."""
-    return words.bytes_of(word) if word else b""
+@dataclass(frozen=True)
+class Method:
+    """A line `method`: its number, and the name of the model's method."""
+
+    line: int
+    name: str
 
 
 @dataclass
@@ -45,6 +47,8 @@ class Kind:
     rules: list[Rule] = field(default_factory=list)
     ends: set[End] = field(default_factory=lambda: {End.RETURNED, End.REVERTED})
     """How it may end."""
+    method: Method | None = None
+    """What a model is asked for."""
 
     def words_with(self, values: Mapping[str, Value]) -> list[str]:
         """The words of the input with these values in their places."""
@@ -52,7 +56,7 @@ class Kind:
 
     def data(self, values: Mapping[str, Value]) -> bytes:
         """The bytes of the input."""
-        return b"".join(map(bytes_of, self.words_with(values)))
+        return b"".join(map(storages.bytes_of, self.words_with(values)))
 
     def check(self) -> None:
         """Refuses a word of the input that is not one, whatever is in its places."""
@@ -80,6 +84,13 @@ class Description:
         self.kinds: list[Kind] = []
         self.stores: list[str] = []
         """The lines `store`."""
+        self.shapes: list[str] = []
+        """The lines `shape`."""
+        self.dump: str | None = None
+        """The file of the storage that they are put over."""
+        self.folder = Path(os.path.abspath(path)).parent
+        """Where paths are taken from."""
+        self.model: ModelClass | None = None
         self.is_over = False
         with open(path, encoding="utf-8", errors="surrogateescape") as file:
             for number, text in enumerate(file, 1):
@@ -88,8 +99,7 @@ class Description:
                     self._take(text.strip(), number)
         if not self.kinds:
             raise UserError(f"{path}: there is no line `call`")
-        folder = Path(os.path.abspath(path)).parent
-        self.programs = {name: str(folder / program.path) for name, program in self.blocks.block.programs.items()}
+        self.programs = {name: str(self.folder / program.path) for name, program in self.blocks.block.programs.items()}
         """The files of the programs, by their names."""
 
     def word_places(self) -> dict[str, Words]:
@@ -120,16 +130,20 @@ class Description:
     def _take_words(self, line: Line, text: str) -> None:
         if line.kind in OF_BLOCKS:
             self.blocks.take(line)
-            if line.kind == "store":
-                self.stores.append(text)
+            if line.kind in ("store", "shape"):
+                (self.stores if line.kind == "store" else self.shapes).append(text)
         elif line.kind == "draw":
             self._take_draw(line.words[1:])
         elif line.kind == "call":
             self._take_call(line, text)
         elif line.kind == "may-end":
             self._take_ends(line.words[1:])
+        elif line.kind == MODEL:
+            self._take_model(line)
+        elif line.kind == "method":
+            self._take_method(line)
         elif line.kind == "storage":
-            self._take_storage(line.words[1:])
+            self._take_storage(line)
         else:
             raise UserError(f"{line.kind}: not {KINDS}")
 
@@ -137,7 +151,7 @@ class Description:
         name = expressions.new_name(given[0] if given else "")
         if name in self.places:
             raise UserError(f"{name}: another line `draw` has this name")
-        self.places[name] = places.place_of(given[1:])
+        self.places[name] = places.place_of(name, given[1:])
 
     def _take_let(self, text: str, number: int) -> None:
         found = LET.fullmatch(text)
@@ -146,15 +160,19 @@ class Description:
         name = expressions.new_name(found[1])
         if name in self.lets or any(name in kind.places for kind in self.kinds):
             raise UserError(f"{name}: this name is taken")
-        code = self._code_of(found[2], (OF_STORAGE - {"before"}) | set(self.lets))
+        code = self._code_of(found[2], self._known() - {"before"})
         self.lets[name] = Rule("let", number, text, code)
+
+    def _known(self) -> frozenset[str]:
+        """The names that all expressions may have."""
+        return OF_STORAGE | set(self.lets) | ({MODEL} if self.model else set())
 
     def _code_of(self, text: str, known: frozenset[str]) -> CodeType:
         names = {"": known, "before": OF_BEFORE | set(self.lets), "every": frozenset(self.word_places())}
         return expressions.code_of(text, self.path, names)
 
     def _take_rule(self, when: str, text: str, number: int) -> None:
-        known = OF_STORAGE | set(self.lets)
+        known = self._known()
         if when == "always":
             rules = self.always
         elif self.is_over:
@@ -205,7 +223,25 @@ class Description:
             raise UserError(f"{' '.join(wrong) or 'may-end'}: it is followed by some of {', '.join(OTHER_ENDS)}")
         kind.ends |= set(map(End, given))
 
-    def _take_storage(self, given: list[str]) -> None:
-        if given or self.is_over:
-            raise UserError("storage: the line has no other word, and comes once")
-        self.is_over = True
+    def _take_model(self, line: Line) -> None:
+        if len(line.words) != 3 or self.model or self.kinds:
+            raise UserError("model: a file of Python and the name of a class follow it; it comes once, before all calls")
+        path, name = map(words.name_of, line.words[1:])
+        self.model = ModelClass(self.folder / path, name)
+
+    def _take_method(self, line: Line) -> None:
+        kind = self._last_kind("method")
+        if len(line.words) != 2 or kind.method or not self.model:
+            raise UserError("method: the name of a method follows it, once for a call; a line `model` is above it")
+        name = words.name_of(line.words[1])
+        self.model.check_method(name, kind.places)
+        kind.method = Method(line.number, name)
+
+    def _take_storage(self, line: Line) -> None:
+        if lists.is_dump(line) and not self.kinds:
+            self.blocks.take(line)
+            self.dump = str(self.folder / line.words[1])
+        elif lists.is_dump(line) or self.is_over:
+            raise UserError(lists.STORAGE)
+        else:
+            self.is_over = True

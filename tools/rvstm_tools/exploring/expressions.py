@@ -10,10 +10,11 @@ from typing import NamedTuple
 
 from rvstm_tools.errors import UserError
 
-NUMBERS = ("u8", "u16", "u32", "u64")
-OF_STORAGE = frozenset({"value", "keys", "every", "before", "number", "sha256", *NUMBERS})
+NUMBERS = ("u8", "u16", "u32", "u64", "i8", "i16", "i32", "i64")
+OF_STORAGE = frozenset({"value", "fields", "keys", "every", "before", "number", "sha256", *NUMBERS})
 OF_CALLS = frozenset({"end", "output", "gas"})
-OF_BEFORE = frozenset({"value", *NUMBERS})
+MODEL = "model"
+OF_BEFORE = frozenset({"value", "fields", *NUMBERS})
 OWNERS = ("before", "every")
 
 Names = dict[str, object]
@@ -58,7 +59,7 @@ def new_name(name: str) -> str:
     """A name that a description may give."""
     if not name.isidentifier() or keyword.iskeyword(name):
         raise UserError(f"{name}: a name has letters, digits and _, and is not a word of Python")
-    if name in OF_STORAGE | OF_CALLS:
+    if name in OF_STORAGE | OF_CALLS | {MODEL}:
         raise UserError(f"{name}: this name is taken")
     return name
 

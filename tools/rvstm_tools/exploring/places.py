@@ -1,5 +1,6 @@
 """Places of random calls: what may be in them, what is drawn, and what is simpler."""
 
+import hashlib
 import re
 from collections.abc import Sequence
 from dataclasses import dataclass
@@ -7,10 +8,12 @@ from random import Random
 from typing import NamedTuple
 
 from rvstm_tools.errors import UserError
-from rvstm_tools.texts import numbers
+from rvstm_tools.texts import keys, numbers
 
 RANGE = re.compile(r"([0-9]+)(?:\.\.([0-9]+))?")
 BYTES = re.compile(r"bytes:([0-9]+)(?:\.\.([0-9]+))?")
+RANDOM_WORDS = re.compile("(keys|accounts):([0-9]+)")
+MOST_RANDOM_WORDS = 64
 MOST = 2**64 - 1  # of a number that is drawn
 MOST_BYTES = 4096
 KINDS = 8  # of eight draws of a number one is an end of its range, and three were seen
@@ -127,10 +130,18 @@ def span_of(found: re.Match[str], most: int) -> Span:
     return Span(first, last)
 
 
-def place_of(words: Sequence[str]) -> Place:
-    """What may be in a place, by the words of a line `draw`."""
+def random_words(kind: str, count: int, name: str) -> Words:
+    """So many keys or accounts for a place, in hex: the same in each run, but otherwise random in all of their bytes."""
+    length = keys.KEY_LENGTH if kind == "keys" else keys.ACCOUNT_LENGTH
+    return Words(tuple(hashlib.sha256(f"{name} {number}".encode()).hexdigest()[: 2 * length] for number in range(count)))
+
+
+def place_of(name: str, words: Sequence[str]) -> Place:
+    """What may be in a place, by its name and the words after it in a line `draw`."""
     if not words:
-        raise UserError("draw: words, numbers, ranges of numbers or bytes:FIRST..LAST follow the name")
+        raise UserError("draw: words, numbers, ranges of numbers, bytes:FIRST..LAST, keys:N or accounts:N follow the name")
+    if len(words) == 1 and (found := RANDOM_WORDS.fullmatch(words[0])):
+        return random_words(found[1], numbers.number_of(found[2], 1, MOST_RANDOM_WORDS, f"how many {found[1]} there are"), name)
     of_bytes = BYTES.fullmatch(words[0])
     if of_bytes and len(words) == 1:
         return AnyBytes(span_of(of_bytes, MOST_BYTES))

@@ -1,30 +1,28 @@
 """Runs of sequences of random calls in one session of `rvstm chain`, and what they break."""
 
 import collections
-import functools
-import hashlib
-from collections.abc import Callable, Iterable, Iterator, Mapping, Sequence
+from collections.abc import Callable, Iterable, Mapping, Sequence
 from dataclasses import dataclass
 from pathlib import Path
 from random import Random
 from types import SimpleNamespace
-from typing import NamedTuple
+from typing import NamedTuple, Self
 
 from rvstm_tools.errors import UserError
-from rvstm_tools.exploring import descriptions, expressions
+from rvstm_tools.exploring import expressions, storages
 from rvstm_tools.exploring.descriptions import Description, Kind
-from rvstm_tools.exploring.expressions import Names, Raised, Rule
+from rvstm_tools.exploring.expressions import MODEL, Names, Raised, Rule
+from rvstm_tools.exploring.models import Model
 from rvstm_tools.exploring.places import Value
-from rvstm_tools.sessions import frames, nodes, requests
+from rvstm_tools.exploring.storages import StorageByReceipts
+from rvstm_tools.sessions import frames, requests
 from rvstm_tools.sessions.answers import Kind as AnswerKind
 from rvstm_tools.sessions.processes import Session, Settings
 from rvstm_tools.sessions.requests import Request, Word
-from rvstm_tools.texts import blocks, keys, results, shown, words
-from rvstm_tools.texts.keys import Key, Storage
-from rvstm_tools.texts.results import Added, Change, End, Receipt, Removed
+from rvstm_tools.texts import blocks, results, words
+from rvstm_tools.texts.results import ENDS_WITH_OUTPUT, End, Receipt
 
 MOST_SEEN = 64  # numbers of the storage and of outputs that are kept to draw from
-AMOUNTS = 2**64
 
 
 @dataclass
@@ -39,14 +37,14 @@ class Call:
         return " ".join(["call", self.kind.program, str(self.kind.gas), *filter(None, self.kind.words_with(self.values))])
 
 
-@dataclass
+@dataclass(frozen=True)
 class Broken:
     """What a sequence breaks: at which call, which rule, what that says, and what the last call changed."""
 
     at: int
     rule: str
     text: str
-    changes: list[str]
+    changes: Sequence[str]
 
     def is_as(self, other: "Broken | None") -> bool:
         """Whether another one breaks the same rule."""
@@ -61,82 +59,19 @@ class Counted(NamedTuple):
     output: bytes
 
 
+@dataclass(frozen=True)
+class Finding:
+    """A sequence that breaks something: its calls up to the one that does, how each ended, and what it breaks."""
+
+    calls: Sequence[Call]
+    outcomes: Sequence[Receipt]
+    broken: Broken
+
+
 def drawn_call(random: Random, kinds: Sequence[Kind], seen: Sequence[int]) -> Call:
     """A random call of one of some kinds."""
     kind = kinds[random.randrange(len(kinds))]
     return Call(kind, {name: place.drawn(random, seen) for name, place in kind.places.items()})
-
-
-def change_lines(name: str, old: object, new: object) -> Iterator[str]:
-    """What a value was and what it is, if the two differ; of two dicts, for each of their keys."""
-    if isinstance(old, dict) and isinstance(new, dict):
-        for key in dict.fromkeys([*old, *new]):
-            yield from change_lines(f"{name}[{key!r}]", old.get(key), new.get(key))
-    elif old != new:
-        yield f"{name}: {' -> '.join(value.hex() if isinstance(value, bytes) else str(value) for value in (old, new))}"
-
-
-class StorageByReceipts:
-    """The storage by the receipts, as it is and as it was before the last call."""
-
-    def __init__(self) -> None:
-        self.data: Storage = {}
-        self.changed: dict[Key, bytes | None] = {}
-        """What the keys had that the last call changed."""
-        self.words: dict[Key, str] = {}
-        """The words by which keys are called."""
-        self.key_of = functools.lru_cache(maxsize=1 << 14)(self.new_key)
-
-    def new_key(self, word: str | bytes) -> Key:
-        """The key of a word of a list, or of bytes. Its word is kept for people."""
-        if not isinstance(word, str):
-            return keys.key_of(bytes(word), repr(word))
-        key = keys.key_of(descriptions.bytes_of(word), word)
-        self.words.setdefault(key, word)
-        return key
-
-    def begin(self, storage: Storage) -> None:
-        """Begins with a storage."""
-        self.data, self.changed = dict(storage), {}
-
-    def take(self, changes: Mapping[Key, Change]) -> None:
-        """Takes over what a call changed."""
-        data, self.changed = self.data, {}
-        for key, change in changes.items():
-            old = self.changed[key] = data.get(key)
-            if isinstance(change, Removed):
-                data.pop(key, None)
-            elif isinstance(change, Added):
-                number = int.from_bytes(old, "little") if old and len(old) == 8 else 0
-                data[key] = ((number + change.amount) % AMOUNTS).to_bytes(8, "little")
-            else:
-                data[key] = change.value
-
-    def value(self, key: str | bytes) -> bytes | None:
-        """The value at a key."""
-        return self.data.get(self.key_of(key))
-
-    def value_before(self, key: str | bytes) -> bytes | None:
-        """The value at a key before the last call."""
-        found = self.key_of(key)
-        return self.changed[found] if found in self.changed else self.data.get(found)
-
-
-Reader = Callable[[str | bytes], bytes | None]
-
-
-def number_at(value: Reader, size: int, key: str | bytes) -> int:
-    """The number at a key; 0 if it has none."""
-    data = value(key)
-    if data is not None and len(data) != size:
-        name = key if isinstance(key, str) else key.hex()
-        raise ValueError(f"the value at {name} has {len(data)} bytes and not {size}")  # within an expression, which reports it
-    return int.from_bytes(data or b"", "little")
-
-
-def readers_of(value: Reader) -> Names:
-    """What expressions call to read a storage."""
-    return {"value": value, **{f"u{8 * size}": functools.partial(number_at, value, size) for size in shown.NUMBER_SIZES}}
 
 
 class Run:
@@ -145,7 +80,7 @@ class Run:
     def __init__(self, rvstm: Path, description: Description) -> None:
         self.rvstm = rvstm
         self.description = description
-        self.storage = StorageByReceipts()
+        self.storage = StorageByReceipts(description.blocks.view)
         self.counts = collections.Counter[Counted]()
         self.calls = 0
         """How many calls were made in all."""
@@ -154,18 +89,21 @@ class Run:
         self.outcomes: list[Receipt] = []
         """Of the sequence."""
         self.seen = collections.deque[int](maxlen=MOST_SEEN)
+        self.model: Model | None = None
+        self.watch: Callable[[Call, Receipt], None] | None = None
+        """What sees each call that was made."""
         self.numbers = {name: number for number, name in enumerate(description.programs)}
         for text in description.stores:
             self.storage.new_key(words.words_of(text)[1])
-        self.before = SimpleNamespace(**readers_of(self.storage.value_before))
+        self.view = self.storage.view()
+        self.before = SimpleNamespace(**self.storage.before())
         every = {name: place.samples() for name, place in description.word_places().items()}
         self.names: Names = {
-            **readers_of(self.storage.value),
-            "keys": lambda: sorted(self.storage.data), "before": self.before, "every": SimpleNamespace(**every),
-            "number": number_of, "sha256": digest_of,
+            **vars(self.view), "before": self.before, "every": SimpleNamespace(**every),
+            "number": storages.number_of, "sha256": storages.digest_of,
         }
 
-    def __enter__(self) -> "Run":
+    def __enter__(self) -> Self:
         self.session = Session(self.rvstm, Settings(brief=True))
         try:
             self._hand_in_programs()
@@ -190,7 +128,7 @@ class Run:
         """The bytes of the answer to a request that is not refused."""
         answer = self.session.ask(request)
         if answer is None or answer.kind is not AnswerKind.OK:
-            raise UserError(f"{what}: {'rvstm chain ended' if answer is None else nodes.said(answer)}")
+            raise UserError(f"{what}: {'rvstm chain ended' if answer is None else answer.said}")
         return answer.body
 
     def begin(self) -> Broken | None:
@@ -199,20 +137,23 @@ class Run:
         self.storage.begin(self.description.blocks.block.storage)
         self.done, self.outcomes = 0, []
         self.seen.clear()
+        if self.description.model:
+            self.model = self.description.model.begin(self.view)
+            self.names[MODEL] = self.model.state
         self.names |= dict.fromkeys(self.description.lets)
         self._keep_lets()
         broken = self._compute()
         self._keep_lets()
-        return broken or self._first_broken(self.description.always)
+        return broken or self._first_broken(self.description.always) or self._broken_invariant()
 
     def go_on(self, calls: Sequence[Call]) -> Broken | None:
         """Runs calls as one block. Returns what the first one breaks that breaks something."""
         text = self.head + "".join(map(self._line_of, calls))
         body = self.ask(Request(Word.FRAME, (), text.encode()), self.description.path)
         outcomes = results.result_of(body.decode()).receipts
-        self.outcomes += outcomes
         for call, outcome in zip(calls, outcomes, strict=True):
             self.calls += 1
+            self.outcomes.append(outcome)
             broken = self._after(call, outcome)
             if broken:
                 return broken
@@ -220,18 +161,22 @@ class Run:
         return None
 
     def end(self) -> Broken | None:
-        """What the storage after a sequence breaks."""
+        """What the storage after a sequence breaks. Its last call counts as the one that breaks it."""
+        self.done = max(0, self.done - 1)
         return self._first_broken(self.description.at_end)
 
-    def broken_by(self, calls: Sequence[Call]) -> Broken | None:
-        """What a whole sequence breaks."""
+    def finding_of(self, calls: Sequence[Call]) -> Finding | None:
+        """What a whole sequence breaks, with the calls up to the one that does."""
         broken = self.begin()
         for first in range(0, len(calls), blocks.MOST_CALLS):
             broken = broken or self.go_on(calls[first : first + blocks.MOST_CALLS])
         if not broken and calls:
-            self.done -= 1
             broken = self.end()
-        return broken
+        return self.finding_at(calls, broken) if broken else None
+
+    def finding_at(self, calls: Sequence[Call], broken: Broken) -> Finding:
+        """What the calls of this sequence break."""
+        return Finding(list(calls[: broken.at + 1]), self.outcomes[: broken.at + 1], broken)
 
     def _line_of(self, call: Call) -> str:
         data = blocks.field_of(call.kind.data(call.values))
@@ -252,26 +197,45 @@ class Run:
 
     def _after(self, call: Call, outcome: Receipt) -> Broken | None:
         """Takes over what a call did, and checks what has to hold after it."""
-        end = outcome.end
-        self.counts[Counted(call.kind.line, end, outcome.output if end is End.REVERTED else b"")] += 1
+        end, kind = outcome.end, call.kind
+        self.counts[Counted(kind.line, end, outcome.output if end is End.REVERTED else b"")] += 1
         self.storage.take(outcome.changes)
+        if self.watch:
+            self.watch(call, outcome)
         self._see([outcome.output] if end is End.RETURNED else [])
         self._see(self.storage.data.get(key) or b"" for key in self.storage.changed)
         self.names |= call.values
         self.names |= {"end": end.value, "gas": outcome.gas, "output": outcome.output}
         self._keep_lets()
-        broken = self._compute() if outcome.changes else None
+        if end not in kind.ends:
+            rule = f"line {kind.line}: ended {end}"
+            return Broken(self.done, rule, f"{rule}, and no line `may-end` allows it", self._changes())
+        broken = self._other_answer(call, outcome)
+        if not broken and (outcome.changes or self.model):
+            broken = self._compute()
         if broken:
             return broken
-        if end not in call.kind.ends:
-            rule = f"line {call.kind.line}: ended {end}"
-            return Broken(self.done, rule, f"{rule}, and no line `may-end` allows it", self._changes())
-        rules = [rule for rule in call.kind.rules if rule.when in ("holds", end)]
-        return self._first_broken(self.description.always + rules)
+        rules = [rule for rule in kind.rules if rule.when in ("holds", end)]
+        return self._first_broken(self.description.always + rules) or self._broken_invariant()
+
+    def _other_answer(self, call: Call, outcome: Receipt) -> Broken | None:
+        """What a call answered in place of what the model's method says."""
+        method = call.kind.method
+        if not self.model or not method or outcome.end not in ENDS_WITH_OUTPUT:
+            return None
+        difference = self.model.difference(method.name, call.values, outcome.end, outcome.output)
+        if difference is None:
+            return None
+        return Broken(self.done, f"line {method.line}", f"line {method.line}: method {method.name}: {difference}", self._changes())
+
+    def _broken_invariant(self) -> Broken | None:
+        """What does not hold of model and storage."""
+        text = self.model.broken_invariant(self.view) if self.model else None
+        return Broken(self.done, "the invariant", text, self._changes()) if text else None
 
     def _see(self, values: Iterable[bytes]) -> None:
         """Keeps numbers to draw from."""
-        self.seen.extend(number_of(data) for data in values if len(data) in shown.NUMBER_SIZES)
+        self.seen.extend(storages.number_of(data) for data in values if len(data) in words.NUMBER_SIZES)
 
     def _first_broken(self, rules: Iterable[Rule]) -> Broken | None:
         for rule in rules:
@@ -284,19 +248,11 @@ class Run:
 
     def _broken(self, rule: Rule, raised: Raised | None = None) -> Broken:
         why = f": {raised.text}" if raised else ""
-        return Broken(self.done, f"{rule.line}", rule.said() + why, self._changes())
+        return Broken(self.done, f"line {rule.line}", rule.said() + why, self._changes())
 
     def _changes(self) -> list[str]:
         """The lines `let` that the last call changed, and what they were."""
-        lets = self.description.lets
-        return [line for name in lets for line in change_lines(name, getattr(self.before, name), self.names[name])]
-
-
-def number_of(data: bytes) -> int:
-    """The number in bytes, the lowest first."""
-    return int.from_bytes(data, "little")
-
-
-def digest_of(data: bytes) -> bytes:
-    """The SHA-256 of bytes."""
-    return hashlib.sha256(data).digest()
+        lets: Mapping[str, Rule] = self.description.lets
+        return [
+            line for name in lets for line in storages.change_lines(name, getattr(self.before, name), self.names[name])
+        ]

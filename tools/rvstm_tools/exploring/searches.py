@@ -1,157 +1,272 @@
-"""The search for a sequence that breaks something, and what is printed of it."""
+"""The search for a sequence that breaks something, on all processors."""
 
-import os
+import collections
+import itertools
+import math
+import multiprocessing
 import random
+import signal
 import time
-from collections.abc import Iterator, Mapping, Sequence
-from dataclasses import dataclass
+from collections.abc import Callable, Iterator
+from dataclasses import dataclass, field
+from multiprocessing import connection
+from multiprocessing.connection import Connection
+from multiprocessing.context import ForkProcess
 from pathlib import Path
 
+from rvstm_tools import errors
+from rvstm_tools.errors import UserError
 from rvstm_tools.exploring import runs
-from rvstm_tools.exploring.runs import Broken, Call, Run
-from rvstm_tools.exploring.shortening import Shorter
-from rvstm_tools.texts import differences, words
-from rvstm_tools.texts.blocks import Rules
-from rvstm_tools.texts.keys import Key
-from rvstm_tools.texts.results import ENDS_WITH_OUTPUT, Added, Change, End, Receipt, Removed
+from rvstm_tools.exploring import saved as saving
+from rvstm_tools.exploring.descriptions import Description
+from rvstm_tools.exploring.reached import Sample, Sampler
+from rvstm_tools.exploring.runs import Broken, Call, Counted, Run
+from rvstm_tools.exploring.saved import SavedCall
 
 LENGTH = 100  # calls of a sequence, if no other number is asked for
 MOST_AT_ONCE = 16  # calls of a block
-SHOWN_ENDS = 8  # of a call, in the sums
 LEAST_SECONDS = 1e-9
+TICK = 0.2  # seconds between two looks at the time
+FORK = multiprocessing.get_context("fork")
+"""Workers begin with what the parent has read: expressions and models are code, which can't be handed over."""
 
 
 @dataclass(frozen=True)
 class Limits:
-    """How long a search lasts at most."""
+    """How long a search lasts at most, and what it draws."""
 
     calls: int
     length: int
     seconds: float | None
     seed: int
+    first: int = 0
+    """The number of the first sequence."""
+
+    def length_of(self, sequence: int) -> int:
+        """How many calls a sequence has at most; none if the search ends before it."""
+        return min(self.length, self.calls - (sequence - self.first) * self.length)
+
+    def sequences(self) -> int:
+        """How many sequences there are at most."""
+        return math.ceil(self.calls / self.length)
+
+    def place_of(self, sequence: int, at: int) -> int:
+        """The number of a call among all calls."""
+        return (sequence - self.first) * self.length + at + 1
+
+
+@dataclass(frozen=True)
+class Found:
+    """What was found: the number of the sequence, its calls up to the one that breaks something, and what that is."""
+
+    sequence: int
+    calls: list[SavedCall]
+    broken: Broken
+
+
+@dataclass(frozen=True)
+class Made:
+    """What came of a sequence, or of as much of it as there was time for."""
+
+    sequence: int
+    calls: int
+    counts: collections.Counter[Counted]
+    is_whole: bool
+    found: Found | None
+    samples: list[Sample]
+    """Calls that ended in a new way."""
+
+
+@dataclass(frozen=True)
+class Refused:
+    """Why a worker could not go on."""
+
+    text: str
+
+
+class Sequence:
+    """A sequence that is drawn, run and checked, part by part."""
+
+    def __init__(self, run: Run, limits: Limits, number: int) -> None:
+        self.run = run
+        self.number = number
+        self.most = limits.length_of(number)
+        self.choice = random.Random(f"{limits.seed}:{number}")
+        self.calls: list[Call] = []
+
+    def broken(self, deadline: float) -> Broken | None:
+        """What it breaks. It ends early if the time is over."""
+        broken = self.run.begin()
+        while not broken and len(self.calls) < self.most and time.monotonic() < deadline:
+            count = min(1 + self.choice.randrange(MOST_AT_ONCE), self.most - len(self.calls))
+            seen = list(self.run.seen)
+            part = [runs.drawn_call(self.choice, self.run.description.kinds, seen) for _ in range(count)]
+            self.calls += part
+            broken = self.run.go_on(part)
+        return broken or self.run.end()
+
+    def made(self, deadline: float, sampler: Sampler) -> Made:
+        """What came of it."""
+        self.run.counts.clear()
+        calls = self.run.calls
+        broken = self.broken(deadline)
+        found = Found(self.number, saving.saved(self.calls[: broken.at + 1]), broken) if broken else None
+        counts, is_whole = self.run.counts.copy(), len(self.calls) >= self.most
+        return Made(self.number, self.run.calls - calls, counts, is_whole, found, sampler.taken())
+
+
+@dataclass
+class Task:
+    """What a worker does: every `step`th sequence from the first one on, until the time is over."""
+
+    rvstm: Path
+    description: Description
+    limits: Limits
+    first: int
+    step: int
+    deadline: float
+    has_samples: bool
+    others: list[Connection] = field(default_factory=list)
+    """Of the parent. A worker shuts them, so that it notices that the parent has gone."""
+
+    def sequences(self) -> Iterator[int]:
+        """The numbers of its sequences."""
+        return itertools.takewhile(lambda number: self.limits.length_of(number) > 0, itertools.count(self.first, self.step))
+
+    def do(self, to: Connection) -> None:
+        """Sends what came of each sequence, up to one that breaks something."""
+        signal.signal(signal.SIGINT, signal.SIG_IGN)  # the parent ends it, and it ends the session
+        signal.signal(signal.SIGTERM, signal.SIG_DFL)
+        for other in self.others:
+            other.close()
+        try:
+            self._do(to)
+        except BrokenPipeError:
+            return
+        except (UserError, OSError) as error:
+            to.send(Refused(errors.reason(error)))
+
+    def _do(self, to: Connection) -> None:
+        with Run(self.rvstm, self.description) as run:
+            sampler = Sampler(run) if self.has_samples else Sampler.of_nothing()
+            for number in self.sequences():
+                made = Sequence(run, self.limits, number).made(self.deadline, sampler)
+                to.send(made)
+                if made.found or not made.is_whole:
+                    return
+
+
+class Worker:
+    """A process that makes sequences, and how far it is."""
+
+    def __init__(self, task: Task) -> None:
+        self.output, to = FORK.Pipe(duplex=False)
+        self.next = task.first
+        """All of its sequences below this one are made."""
+        self.step = task.step
+        task.others = [*task.others, self.output]
+        self.process: ForkProcess = FORK.Process(target=task.do, args=(to,), daemon=True)
+        self.process.start()
+        to.close()
+
+    def take(self) -> Made | None:
+        """The next thing that it sends; None if it has ended."""
+        try:
+            made: Made | Refused = self.output.recv()
+        except EOFError as error:
+            self.process.join()
+            if self.process.exitcode:
+                raise RuntimeError(f"a worker ended with status {self.process.exitcode}") from error
+            return None
+        if isinstance(made, Refused):
+            raise UserError(made.text)
+        if made.is_whole and not made.found:
+            self.next = made.sequence + self.step
+        return made
+
+    def kill(self) -> None:
+        """Ends it."""
+        self.process.kill()
+        self.process.join()
+        self.output.close()
 
 
 class Search:
-    """Draws sequences until one breaks something, or as many calls are made as were asked for, or the time is over."""
+    """Draws sequences until one breaks something, or as many calls are made as were asked for, or the time is over. Of several
+    that break something the one with the lowest number counts, so that one seed finds the same on every machine."""
 
-    def __init__(self, run: Run, limits: Limits) -> None:
-        self.run = run
+    def __init__(self, limits: Limits, watch: Callable[["Search", list[Sample]], None] | None = None) -> None:
         self.limits = limits
+        self.watch = watch
+        """What sees it while it lasts, with calls that ended in a new way."""
         self.begun = time.monotonic()
-        self.sequence = -1
-        self.calls: list[Call] = []
+        self.seconds = 0.0
+        """How long it lasted."""
+        self.calls = 0
+        self.counts = collections.Counter[Counted]()
+        self.next = limits.first
+        """All sequences below this one are made, and break nothing."""
+        self.found: Found | None = None
+        self._waiting: dict[int, Made] = {}
+        """Those above it."""
 
-    def spent(self) -> float:
-        """How many seconds it lasts so far."""
-        return time.monotonic() - self.begun
+    def search(self, rvstm: Path, description: Description, jobs: int) -> None:
+        """Does it, by so many processes."""
+        seconds = math.inf if self.limits.seconds is None else self.limits.seconds
+        step = min(jobs, self.limits.sequences())
+        workers: list[Worker] = []
+        try:
+            for at in range(step):
+                others = [worker.output for worker in workers]
+                deadline, is_watched = self.begun + seconds, self.watch is not None
+                task = Task(rvstm, description, self.limits, self.limits.first + at, step, deadline, is_watched, others)
+                workers.append(Worker(task))
+            self._follow(workers)
+        finally:
+            for worker in workers:
+                worker.kill()
+            self._merge_all()
+            self.seconds = time.monotonic() - self.begun
 
-    def left(self) -> int:
-        """How many calls are left."""
-        is_late = self.limits.seconds is not None and self.spent() >= self.limits.seconds
-        return 0 if is_late else self.limits.calls - self.run.calls
+    def _follow(self, workers: list[Worker]) -> None:
+        """Takes what the workers send until all of them have ended, or none can find anything before what is found."""
+        active = {worker.output: worker for worker in workers}
+        while active and not (self.found and all(worker.next >= self.found.sequence for worker in active.values())):
+            samples = []
+            for output in connection.wait(list(active), TICK):
+                assert isinstance(output, Connection)
+                made = active[output].take()
+                if made is None:
+                    del active[output]
+                    continue
+                samples += made.samples
+                self._take(made)
+            self.next = min(worker.next for worker in workers)
+            self._merge(self.next)
+            if self.watch:
+                self.watch(self, samples)
 
-    def broken(self) -> Broken | None:
-        """What the first sequence breaks that breaks something."""
-        while self.left() > 0:
-            self.sequence += 1
-            broken = self._broken_by_next()
-            if broken:
-                return broken
-        return None
+    def _take(self, made: Made) -> None:
+        self._waiting[made.sequence] = made
+        if made.found and (self.found is None or made.sequence < self.found.sequence):
+            self.found = made.found
 
-    def _broken_by_next(self) -> Broken | None:
-        choice, self.calls = random.Random(f"{self.limits.seed}:{self.sequence}"), []
-        broken = self.run.begin()
-        while not broken and len(self.calls) < self.limits.length:
-            count = min(1 + choice.randrange(MOST_AT_ONCE), self.limits.length - len(self.calls), self.left())
-            if count <= 0:
-                return None
-            seen = list(self.run.seen)
-            part = [runs.drawn_call(choice, self.run.description.kinds, seen) for _ in range(count)]
-            self.calls += part
-            broken = self.run.go_on(part)
-        if not broken:
-            self.run.done -= 1
-            broken = self.run.end()
-        return broken
+    def _merge(self, end: int) -> None:
+        """Counts the calls of the sequences below a number."""
+        for number in [number for number in self._waiting if number < end]:
+            made = self._waiting.pop(number)
+            self.calls += made.calls
+            self.counts += made.counts
 
+    def _merge_all(self) -> None:
+        """Counts what is left, up to the sequence that breaks something."""
+        last = self.found.sequence if self.found else max(self._waiting, default=0)
+        self._merge(last + 1)
 
-# ---- a sequence as a list
+    def made(self) -> int:
+        """How many calls are made so far."""
+        return self.calls + sum(made.calls for made in self._waiting.values())
 
-
-def shown_change(change: Change, names: Mapping[Key, str]) -> str:
-    """What became of a key; a value that is itself a key is printed by its words."""
-    if isinstance(change, Removed):
-        return "gone"
-    if isinstance(change, Added):
-        return f"add {change.amount}"
-    return names.get(Key(change.value)) or words.word_of(change.value)
-
-
-def expect_lines(outcome: Receipt, names: Mapping[Key, str]) -> Iterator[str]:
-    """What came of a call, as lines of a test."""
-    if outcome.end in ENDS_WITH_OUTPUT:
-        yield f"expect {outcome.end} {words.word_of(outcome.output)}"
-    else:
-        yield "expect out-of-gas" if outcome.end is End.OUT_OF_GAS else f"expect trapped {outcome.end}"
-    for key, change in outcome.changes.items():
-        yield f"expect {names.get(key, key.hex())} {shown_change(change, names)}"
-    if outcome.end is End.RETURNED:
-        yield "expect no other write"
-
-
-def names_of_keys(run: Run, calls: Sequence[Call]) -> Mapping[Key, str]:
-    """The words by which keys are called in the description and in the calls."""
-    for call in calls:
-        for word in call.kind.words_with(call.values):
-            if word.startswith(("key:", "table:")):
-                run.storage.new_key(word)
-    return run.storage.words
-
-
-def list_lines(run: Run, calls: Sequence[Call], broken: Broken, limits: Limits, folder: Path) -> Iterator[str]:
-    """A sequence as a list, with what came of each call. Paths are from a folder."""
-    description, rules = run.description, run.description.blocks.block.rules
-    length = f" --length {limits.length}" if limits.length != LENGTH else ""
-    name = os.path.basename(description.path)
-    yield f"# Made by rvstm-tools explore {name} --seed {limits.seed}{length}. The last call breaks"
-    yield f"# {broken.text}"
-    yield "# Each line `expect` says what came: put there what should come, and this is a test."
-    if rules is not Rules.ONE:
-        yield f"rules {rules}"
-    for program, path in description.programs.items():
-        yield f"program {program} {os.path.relpath(path, folder)}"
-    yield from description.stores
-    run.broken_by(calls)
-    names = names_of_keys(run, calls)
-    for call, outcome in zip(calls, run.outcomes):
-        yield from ["", call.words(), *expect_lines(outcome, names)]
-    yield from [f"# {differences.cut(change)}" for change in broken.changes]
-
-
-# ---- what is printed
-
-
-def count_lines(run: Run, search: Search) -> Iterator[str]:
-    """How many calls were made, and how they ended."""
-    spent, seed = search.spent(), search.limits.seed
-    speed = run.calls / max(spent, LEAST_SECONDS)
-    yield f"{run.description.path}: {run.calls:,} calls in {spent:.1f} s, {speed:,.0f} a second, seed {seed}"
-    for kind in run.description.kinds:
-        yield f"  line {kind.line}: {differences.cut(kind.text)}"
-        rows = sorted((-count, of.end, of.output) for of, count in run.counts.items() if of.line == kind.line)
-        for count, end, output in rows[:SHOWN_ENDS]:
-            yield f"{-count:>13,}  {end} {words.word_of(output) if output or end is End.REVERTED else ''}".rstrip()
-        if rows[SHOWN_ENDS:]:
-            yield f"{-sum(count for count, _, _ in rows[SHOWN_ENDS:]):>13,}  otherwise"
-
-
-def broken_lines(run: Run, search: Search, broken: Broken, shorter: Shorter) -> Iterator[str]:
-    """What a sequence breaks, before and after it was shortened."""
-    calls, made, begun = search.calls, run.calls, time.monotonic()
-    if calls:
-        shorter.shorten(random.Random(f"{search.limits.seed}:shorter"))
-    place = f"call {made} of all, call {broken.at} of sequence {search.sequence}" if calls else "the storage before any call"
-    yield f"broken by {place}: {shorter.broken.text}"
-    spent = time.monotonic() - begun
-    yield f"of {len(calls[: broken.at + 1])} calls {len(shorter.calls)} are left, after {shorter.runs} runs in {spent:.1f} s"
+    def speed(self) -> float:
+        """How many calls are made a second."""
+        return self.made() / max(self.seconds or time.monotonic() - self.begun, LEAST_SECONDS)

@@ -1,43 +1,83 @@
 """Shorter and simpler sequences that break the same rule."""
 
-from collections.abc import Sequence
+import itertools
+import time
+from collections.abc import Callable, Iterator, Sequence
 from random import Random
 
 from rvstm_tools.exploring import runs
-from rvstm_tools.exploring.places import Place, Value, Words
-from rvstm_tools.exploring.runs import Broken, Call, Run
+from rvstm_tools.exploring.models import ModelError
+from rvstm_tools.exploring.moving import Moving
+from rvstm_tools.exploring.places import Numbers, Place, Value, Words
+from rvstm_tools.exploring.runs import Call, Finding, Run
 
-MOST_FOR_PAIRS = 24  # calls of a sequence of which each two are left out
-MOST_FOR_OTHERS = 4  # calls of a sequence in whose place others are tried that are one call shorter
-OTHERS = 1000  # sequences that are tried so
+MOST_FOR_PAIRS = 24  # calls of a sequence of which each two are left out, or one while the numbers after it move
+MOST_FOR_SUMS = 12  # calls of a sequence of which one is left out, and its numbers are added or subtracted elsewhere
+MOST_FOR_TWO_NUMBERS = 6  # calls of a sequence whose numbers are lowered two at a time
+LONGEST_OTHERS = 3  # calls of the random sequences that are tried in place of a longer one
+OTHERS = 1000  # of each length
+
+
+class Over(Exception):
+    """The time for shortening is over."""
 
 
 class Shorter:
     """Makes a sequence shorter and simpler, as long as it breaks the same rule."""
 
-    def __init__(self, run: Run, calls: Sequence[Call], broken: Broken) -> None:
+    def __init__(self, run: Run, finding: Finding, seconds: float, watch: Callable[["Shorter"], None] | None = None) -> None:
         self.run = run
-        self.calls = list(calls[: broken.at + 1])
-        self.broken = broken
+        self.finding = finding
+        """The best so far."""
+        self.watch = watch
+        self.begun = time.monotonic()
+        self.deadline = self.begun + seconds
         self.runs = 0
 
-    def shorten(self, random: Random) -> None:
-        """Does all of this as long as something of it helps."""
-        is_shorter = True
+    @property
+    def calls(self) -> Sequence[Call]:
+        """The calls of the best so far."""
+        return self.finding.calls
+
+    def spent(self) -> float:
+        """How many seconds it lasts so far."""
+        return time.monotonic() - self.begun
+
+    def shorten(self, random: Random) -> str:
+        """Does all of this as long as something of it helps and there is time. Returns what ended it early, if something did."""
+        try:
+            self._shorten(random)
+        except Over:
+            return "; the time was over"
+        except KeyboardInterrupt:
+            return "; it was interrupted"
+        return ""
+
+    def _shorten(self, random: Random) -> None:
+        is_shorter = bool(self.calls)
         while is_shorter:
             self.leave_out()
-            while self.make_simpler():
+            while self.leave_out_one_and_change() or self.make_simpler():
                 self.leave_out()
             is_shorter = self.find_shorter(random)
 
     def takes(self, calls: Sequence[Call]) -> bool:
         """Whether other calls break the same rule. Then they are taken, up to the one that does."""
+        if time.monotonic() >= self.deadline:
+            raise Over
         self.runs += 1
-        broken = self.run.broken_by(calls)
-        if broken is None or not self.broken.is_as(broken):
+        if self.watch:
+            self.watch(self)
+        try:
+            other = self.run.finding_of(calls)
+        except ModelError:  # the finding is no less true if the model is wrong of other calls
             return False
-        self.calls, self.broken = list(calls[: broken.at + 1]), broken
+        if other is None or not self.finding.broken.is_as(other.broken):
+            return False
+        self.finding = other
         return True
+
+    # ---- fewer calls
 
     def leave_out(self) -> None:
         """Leaves out what calls can be left out: halves, smaller pieces, single calls, and then any two."""
@@ -45,7 +85,7 @@ class Shorter:
         while size:
             first = 0
             while first < len(self.calls):
-                if not self.takes(self.calls[:first] + self.calls[first + size :]):
+                if not self.takes([*self.calls[:first], *self.calls[first + size :]]):
                     first += size
             size //= 2
         while len(self.calls) <= MOST_FOR_PAIRS and self.leave_out_two():
@@ -57,31 +97,104 @@ class Shorter:
         pairs = [{one, other} for one in range(len(calls)) for other in range(one)]
         return any(self.takes([call for at, call in enumerate(calls) if at not in pair]) for pair in pairs)
 
+    def leave_out_one_and_change(self) -> bool:
+        """Whether a call could be left out if numbers of other calls, which may depend on it, are changed with it."""
+        if not 1 < len(self.calls) <= MOST_FOR_PAIRS:
+            return False
+        return any(self.takes(calls) for at in range(len(self.calls) - 1, -1, -1) for calls in self.without(at))
+
+    def without(self, at: int) -> Iterator[Sequence[Call]]:
+        """The calls without one: with numbers that move as the storage does, and with the one's numbers added or subtracted
+        elsewhere."""
+        moved = self._moved_without(at)
+        if moved:
+            yield moved
+        if len(self.calls) > MOST_FOR_SUMS:
+            return
+        rest = [*self.calls[:at], *self.calls[at + 1 :]]
+        amounts = {value for value in self.calls[at].values.values() if isinstance(value, int) and value}
+        for other, call in enumerate(rest):
+            for name, place in call.kind.places.items():
+                value = call.values[name]
+                if isinstance(place, Numbers) and isinstance(value, int):
+                    numbers = {value + sign * amount for amount in amounts for sign in (-1, 1)}
+                    for number in sorted(filter(place.has, numbers)):
+                        yield with_value(rest, other, name, number)
+
+    def _moved_without(self, at: int) -> Sequence[Call] | None:
+        try:
+            return Moving(self.run, self.finding).without(at)
+        except ModelError:
+            return None
+
+    def find_shorter(self, random: Random) -> bool:
+        """Whether one of many random sequences of fewer calls breaks the same rule. Each call is drawn after the one before it
+        was run, so that its numbers may be those of the storage then."""
+        longest = min(len(self.calls) - 1, LONGEST_OTHERS)
+        return any(self._takes_random(random, count) for count in range(1, longest + 1) for _ in range(OTHERS))
+
+    def _takes_random(self, random: Random, count: int) -> bool:
+        if time.monotonic() >= self.deadline:
+            raise Over
+        calls: list[Call] = []
+        try:
+            broken = self.run.begin()
+            while not broken and len(calls) < count:
+                calls.append(runs.drawn_call(random, self.run.description.kinds, list(self.run.seen)))
+                broken = self.run.go_on(calls[-1:])
+            broken = broken or self.run.end()
+        except ModelError:
+            return False
+        self.runs += 1
+        return self.finding.broken.is_as(broken) and self.takes(calls)
+
+    # ---- simpler calls
+
     def make_simpler(self) -> bool:
-        """Whether a value of a call became simpler, or a word in all calls."""
+        """Whether a value of a call became simpler, a word in all calls, or numbers of several calls together."""
         for at, call in enumerate(self.calls):
             for name, place in call.kind.places.items():
                 for value in place.simpler(call.values[name]):
-                    other = Call(call.kind, {**call.values, name: value})
-                    if self.takes(self.calls[:at] + [other] + self.calls[at + 1 :]):
+                    if self.takes(with_value(self.calls, at, name, value)):
                         return True
-        return any(self.rename(place) for place in self.run.description.places.values() if isinstance(place, Words))
+        words = (place for place in self.run.description.places.values() if isinstance(place, Words))
+        return any(self.rename(place) for place in words) or self.lower_together()
 
     def rename(self, place: Words) -> bool:
         """Whether a simpler word could be put in place of another one in all calls."""
         for old in place.words:
             for new in place.simpler(old):
                 calls = [Call(call.kind, renamed(call, place, old, new)) for call in self.calls]
-                if calls != self.calls and self.takes(calls):
+                if calls != list(self.calls) and self.takes(calls):
                     return True
         return False
 
-    def find_shorter(self, random: Random) -> bool:
-        """Whether one of many random sequences that are one call shorter breaks the same rule."""
-        count, kinds, seen = len(self.calls) - 1, self.run.description.kinds, list(self.run.seen)
-        if not 0 < count < MOST_FOR_OTHERS:
+    def lower_together(self) -> bool:
+        """Whether two numbers could be lowered by the same amount."""
+        if len(self.calls) > MOST_FOR_TWO_NUMBERS:
             return False
-        return any(self.takes([runs.drawn_call(random, kinds, seen) for _ in range(count)]) for _ in range(OTHERS))
+        kinds = [call.kind.places for call in self.calls]
+        places = [(at, name) for at, of in enumerate(kinds) for name, place in of.items() if isinstance(place, Numbers)]
+        return any(self._lower_two(*one, *other) for one, other in itertools.combinations(places, 2))
+
+    def _lower_two(self, at: int, name: str, other_at: int, other_name: str) -> bool:
+        place, value = self.calls[at].kind.places[name], self.calls[at].values[name]
+        other_place, other = self.calls[other_at].kind.places[other_name], self.calls[other_at].values[other_name]
+        assert isinstance(value, int) and isinstance(other, int) and isinstance(other_place, Numbers)
+        for number in place.simpler(value):
+            assert isinstance(number, int)
+            lower = other - (value - number)
+            if other_place.has(lower):
+                calls = with_value(with_value(self.calls, at, name, number), other_at, other_name, lower)
+                if self.takes(calls):
+                    return True
+        return False
+
+
+def with_value(calls: Sequence[Call], at: int, name: str, value: Value) -> list[Call]:
+    """Calls, with another value in a place of one of them."""
+    changed = Call(calls[at].kind, {**calls[at].values, name: value})
+    return [*calls[:at], changed, *calls[at + 1 :]]
 
 
 def renamed(call: Call, place: Place, old: Value, new: Value) -> dict[str, Value]:

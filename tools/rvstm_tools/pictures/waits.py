@@ -4,9 +4,9 @@ from collections.abc import Iterable, Iterator, Mapping, Sequence
 from dataclasses import dataclass
 from html import escape
 
-from rvstm_tools.texts import shown
 from rvstm_tools.texts.conflicts import Conflicts, Wait, WaitedKey, WaitingCall
-from rvstm_tools.texts.keys import Key, Names
+from rvstm_tools.texts.keys import Key
+from rvstm_tools.texts.views import View
 
 WIDTH, MARGIN, HEAD, LEGEND_ROW = 1200, 24, 84, 22  # in pixels
 MOST_HEIGHT, MOST_ROW, LEAST_ROW = 900, 28, 1.5  # in pixels, of all rows and of one
@@ -88,19 +88,19 @@ def counted(count: int, noun: str) -> str:
     return f"{count:,} {noun}" if count == 1 else f"{count:,} {noun}s"
 
 
-def name_of(key: Key, names: Names) -> str:
+def name_of(key: Key, view: View) -> str:
     """A key for people; of a long one the beginning and the end."""
-    name = shown.shown_key(key, names)
+    name = view.key(key)
     return name if len(name) <= LONGEST_NAME else f"{name[:NAME_END]}..{name[-NAME_END:]}"
 
 
 class Picture:
     """The picture of the conflicts of a block."""
 
-    def __init__(self, title: str, conflicts: Conflicts, names: Names) -> None:
+    def __init__(self, title: str, conflicts: Conflicts, view: View) -> None:
         self.title = title
         self.conflicts = conflicts
-        self.names = names
+        self.view = view
         self.chain = longest_path(conflicts.calls)
         self.boxes = boxes_of(conflicts.calls, conflicts.path)
         self.rows = max((box.row + 1 for box in self.boxes), default=0)
@@ -133,7 +133,7 @@ class Picture:
     def line(self, place: int, wait: Wait, is_marked: bool) -> str:
         """A wait of a call."""
         width, seen = (min(3, 1 + self.row / 8), 1.0) if is_marked else (min(1.2, 0.3 + self.row / 16), 0.6)
-        title = f"call {place} waits for call {wait.writer} at {name_of(wait.key, self.names)}"
+        title = f"call {place} waits for call {wait.writer} at {name_of(wait.key, self.view)}"
         return (
             f'<path d="{self.curve(self.boxes[wait.writer], self.boxes[place])}" fill="none" '
             f'stroke="{self.colours.get(wait.key, OTHER_LINES)}" stroke-width="{width:.2f}" '
@@ -182,7 +182,7 @@ class Picture:
 
     def of_key(self, key: WaitedKey) -> str:
         """What the legend says of a key."""
-        return f"{name_of(key.key, self.names)}: {counted(key.waits, 'wait')}, changed by {counted(key.writers, 'call')}"
+        return f"{name_of(key.key, self.view)}: {counted(key.waits, 'wait')}, changed by {counted(key.writers, 'call')}"
 
     def svg(self) -> str:
         """The picture."""

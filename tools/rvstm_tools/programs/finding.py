@@ -3,7 +3,7 @@
 import os
 import shutil
 import sys
-from collections.abc import Mapping
+from collections.abc import Mapping, Sequence
 from dataclasses import dataclass
 from pathlib import Path
 
@@ -21,6 +21,9 @@ WAYS_TO_BUILD = (
 WAY_TO_PREVIEW = "`rvstm-tools preview counter` makes it, in a few minutes"
 ONLY_IN_CHECKOUT = "only a checkout makes it, by `rvstm-tools preview`"
 WAYS_TO_INSTALL = "the package rvstm has it; --program or RVSTM may name another"
+INSTALLED = "share/rvstm-sdk"
+PREFIXES = (Path(sys.prefix), Path("/usr/local"), Path("/usr"))
+"""Where the SDK may be installed if it is not beside these tools: as pip does, into the folder of the Python that runs."""
 
 
 @dataclass(frozen=True)
@@ -34,11 +37,15 @@ class Home:
     """The program of the same archive."""
 
 
-def home_of(package: Path) -> Home:
-    """Where tools are whose package is this folder: TOP/tools/rvstm_tools, or PREFIX/share/rvstm-sdk/tools/rvstm_tools."""
+def home_of(package: Path, prefixes: Sequence[Path] = PREFIXES) -> Home:
+    """Where tools are whose package is this folder: TOP/tools/rvstm_tools, PREFIX/share/rvstm-sdk/tools/rvstm_tools, or a folder
+    of Python's packages, for which the SDK is in share/rvstm-sdk of one of the prefixes."""
     top = package.parent.parent
     if (top / "crates.txt").is_file():
         return Home(top)
+    if not (top / "sdk").is_dir():
+        places = [prefix / INSTALLED for prefix in prefixes]
+        top = next((place for place in places if (place / "sdk").is_dir()), places[0])
     beside = top.parent.parent / "bin/rvstm"
     return Home(top, is_checkout=False, beside=beside if is_program(beside) else None)
 
@@ -46,6 +53,14 @@ def home_of(package: Path) -> Home:
 def home() -> Home:
     """Where the tools that run are."""
     return home_of(Path(__file__).resolve().parents[1])
+
+
+def sdk() -> Path:
+    """The folder of the SDK, which is there."""
+    path = home().top / "sdk"
+    if not (path / "Makefile").is_file():
+        raise UserError(f"{path}: no SDK; the package rvstm-sdk has it, and pip installs it with these tools from a checkout")
+    return path
 
 
 def absolute(path: Path | str) -> Path:

@@ -1,7 +1,6 @@
-"""Archives whose bytes depend only on what is put in: tar, tar.gz and Debian's packages."""
+"""Archives: tar and tar.gz, whose bytes depend only on what is put in, and what is in these and in Debian's packages."""
 
 import gzip
-import hashlib
 import io
 import lzma
 import posixpath
@@ -60,12 +59,12 @@ def folders_of(paths: Iterable[str]) -> set[str]:
     return {str(folder) for path in paths for folder in PurePosixPath(path).parents if str(folder) != "."}
 
 
-def tar_of(entries: Mapping[str, File | Link], seconds: int, root: str = "") -> bytes:
-    """A tar of files and links by their paths: sorted, all of one time, of root. `root` is put before each path."""
+def tar_of(entries: Mapping[str, File | Link], seconds: int) -> bytes:
+    """A tar of files and links by their paths: sorted, all of one time, of root."""
     made = io.BytesIO()
     with tarfile.open(fileobj=made, mode="w", format=tarfile.GNU_FORMAT) as tar:
         for path in sorted(folders_of(entries) | set(entries)):
-            entry, info = entries.get(path), tarfile.TarInfo(root + path)
+            entry, info = entries.get(path), tarfile.TarInfo(path)
             info.mtime, info.uname, info.gname, info.mode = seconds, "root", "root", EXECUTABLE
             data = None
             if isinstance(entry, File):
@@ -76,15 +75,6 @@ def tar_of(entries: Mapping[str, File | Link], seconds: int, root: str = "") -> 
                 info.type = tarfile.DIRTYPE
             tar.addfile(info, data)
     return made.getvalue()
-
-
-def ar_of(members: Iterable[Member], seconds: int) -> bytes:
-    """An archive of ar: of each member a head of fixed width, and its bytes, to an even number."""
-    made = [AR_HEAD]
-    for name, data in members:
-        made.append(b"%-16s%-12d%-6d%-6d%-8s%-10d`\n" % (name.encode(), seconds, 0, 0, b"100644", len(data)))
-        made.append(data + b"\n" * (len(data) % 2))
-    return b"".join(made)
 
 
 def ar_members(data: bytes) -> Iterator[Member]:
@@ -98,26 +88,6 @@ def ar_members(data: bytes) -> Iterator[Member]:
         name = head[:16].decode("ascii", "replace").rstrip(" /")
         yield Member(name, data[at + AR_MEMBER_HEAD : at + AR_MEMBER_HEAD + length])
         at += AR_MEMBER_HEAD + length + length % 2
-
-
-def control_of(fields: Mapping[str, str], entries: Mapping[str, File | Link]) -> str:
-    """The control file of a package, with the size of its files in kilobytes, as Debian counts it."""
-    files = [len(entry.data) for entry in entries.values() if isinstance(entry, File)]
-    size = sum((length + 1023) // 1024 for length in files) + len(entries) - len(files) + len(folders_of(entries))
-    names = [name for name in fields if name != "Description"]
-    rows = [f"{name}: {fields[name]}" for name in names] + [f"Installed-Size: {size}", f"Description: {fields['Description']}"]
-    return "\n".join(rows) + "\n"
-
-
-def deb_of(fields: Mapping[str, str], more: Entries, entries: Entries, seconds: int) -> bytes:
-    """A package of Debian: its fields, more files of its control by their names, and its files by their paths."""
-    sums = "".join(
-        f"{hashlib.md5(entry.data).hexdigest()}  {path}\n" for path, entry in sorted(entries.items()) if isinstance(entry, File)
-    )
-    control: Entries = {"control": File(control_of(fields, entries).encode()), "md5sums": File(sums.encode()), **more}
-    parts = {"control.tar.xz": control, "data.tar.xz": entries}
-    packed = [Member(name, lzma.compress(tar_of(part, seconds, "./"), preset=6)) for name, part in parts.items()]
-    return ar_of([Member("debian-binary", b"2.0\n"), *packed], seconds)
 
 
 def is_package(data: bytes) -> bool:

@@ -14,23 +14,24 @@ PAGE = "man/rvstm.1"
 MAKER = "tools/developers/man-page"
 HEAD = re.compile(r"^(\w[\w ]*):$")
 ITEM = re.compile(r"^ {2,}(\S.*?)(?: {2,}(\S.*))?$")
+OPTIONS = "\nOptions:\n"
 NAME = "executes blocks of contract calls, in order or on threads"
 ENDING = r"""
 .SH EXIT STATUS
 .TP
 .B 0
-done; so for help and the version
+done, also for help and the version
 .TP
 .B 1
-refused: standard error has one line, as
-.BR "rvstm: block BadHead 1" ,
-and standard output nothing, but for a result that could not be written whole, and the answers of a session that was cut
+refused: standard error has one line, such as
+.BR "rvstm: block 1 BadHeader 1" .
+Standard output is empty, except for a result that could not be written whole, and for the answers of a session that was cut
 .TP
 .B 2
 a wrong command line
 .SH SEE ALSO
-formats.md has every file, command and refusal exactly, and messages.md what to do about each message. With Debian's package they
-stand in /usr/share/doc/rvstm.
+formats.md has every file, request and answer exactly. messages.md has each refusal, when it comes and what to do. Debian's package puts
+both into /usr/share/doc/rvstm.
 """
 
 
@@ -43,17 +44,20 @@ class Item(NamedTuple):
 
 @dataclass
 class Help:
-    """What a help says: its first line, its usage, and the items of each further part."""
+    """What a help says: its first line, its usage, the items of each further part, and the lines after the options."""
 
     about: str
     usage: str = ""
     parts: dict[str, list[Item]] = field(default_factory=dict)
+    ending: list[str] = field(default_factory=list)
 
 
 def help_of(text: str, name: str) -> Help:
-    """The help of a text. `name` is that of the command, for messages."""
-    about, *lines = text.splitlines() or [""]
-    found = Help(about)
+    """The help of a text. `name` is that of the command, for messages. What comes after the options and a blank line is its ending."""
+    whole, _, options = text.partition(OPTIONS)
+    options, _, ending = options.partition("\n\n")
+    about, *lines = f"{whole}{OPTIONS}{options}".splitlines() or [""]
+    found = Help(about, ending=ending.splitlines())
     part: list[Item] | None = None
     for line in lines:
         head, item = HEAD.match(line), ITEM.match(line)
@@ -96,6 +100,8 @@ def page_lines(program: Path) -> Iterator[str]:
         yield from (f'.SS "rvstm {command}"', f"{escaped(helps[command].about)}.")
         for part in ("Arguments", "Options"):
             yield from item_lines(helps[command].parts.get(part, []))
+        if helps[command].ending:
+            yield from (".PP", ".nf", *map(escaped, helps[command].ending), ".fi")
     yield from (".SH OPTIONS", *item_lines(whole.parts["Options"]))
 
 

@@ -4,7 +4,7 @@ import re
 from collections.abc import Mapping
 
 from rvstm_tools.errors import UserError
-from rvstm_tools.releases import archives, helps, parsers
+from rvstm_tools.releases import archives, helps, page_links, parsers
 from rvstm_tools.releases.archives import EXECUTABLE, Entries, File, Link
 from rvstm_tools.releases.products import Product, Products
 
@@ -12,8 +12,9 @@ TRIPLET = "x86_64-linux-gnu"
 SDK = "share/rvstm-sdk"
 TOOLS = f"{SDK}/tools/rvstm-tools"
 TOOLS_LINK = Link(f"../{TOOLS}")
+CHANGES = "CHANGELOG.md"
 PAGES = {
-    "rvstm": ("README.md", "CHANGELOG.md", "docs/formats.md", "docs/messages.md", "docs/operators.md", "docs/glossary.md"),
+    "rvstm": ("README.md", CHANGES, "docs/formats.md", "docs/messages.md", "docs/operators.md", "docs/glossary.md"),
     "librvstm-dev": ("docs/embedding.md",),
     "rvstm-sdk": ("docs/contracts.md", "docs/assembly.md", "docs/debugging.md"),
 }
@@ -63,13 +64,15 @@ class Parts:
         return File(archives.gzip_of(self.file(path).data))
 
     def pages(self, package: str, *, is_packed: bool) -> Entries:
-        """The pages of a package; the page of changes compressed, as Debian has it, if that is asked for."""
+        """The pages of a package, with links among them; the page of changes compressed, as Debian has it, if that is asked for."""
         folder = f"share/doc/{package}"
-        found = {f"{folder}/{path.rpartition('/')[2]}": file for path, file in self.tracked(*PAGES[package]).items()}
-        changes = f"{folder}/CHANGELOG.md"
-        if is_packed and changes in found:
-            del found[changes]
-            found[f"{changes}.gz"] = self.packed("CHANGELOG.md")
+        found: Entries = {}
+        for path in PAGES[package]:
+            page = page_links.in_package(path, self.file(path).data.decode(), PAGES[package]).encode()
+            if is_packed and path == CHANGES:
+                found[f"{folder}/{path}.gz"] = File(archives.gzip_of(page))
+            else:
+                found[f"{folder}/{path.rpartition('/')[2]}"] = File(page)
         return found
 
     def program(self) -> Entries:

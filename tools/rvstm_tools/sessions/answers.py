@@ -21,6 +21,11 @@ class Kind(Bytes):
     """This machine could not do what was asked for; another one may."""
 
 
+def said(line: bytes) -> str:
+    """A line as a text, without its LF."""
+    return line.decode().strip()
+
+
 @dataclass(frozen=True)
 class Done:
     """What was asked for is done, and these are the bytes that it gives."""
@@ -36,6 +41,11 @@ class Done:
     def line(self) -> bytes:
         """The line before the bytes."""
         return b"ok %d\n" % len(self.body)
+
+    @property
+    def said(self) -> str:
+        """The line, as a text."""
+        return said(self.line)
 
     def text(self) -> bytes:
         """The whole answer."""
@@ -62,6 +72,11 @@ class Refusal:
         """The whole answer, which is one line."""
         place = "" if self.line_number is None else f" {self.line_number}"
         return b"%s %s\n" % (self.kind, f"{self.area}{place} {self.name} {self.number}".encode())
+
+    @property
+    def said(self) -> str:
+        """The line, as a text."""
+        return said(self.line)
 
     def text(self) -> bytes:
         """The whole answer."""

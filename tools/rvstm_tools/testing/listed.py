@@ -7,8 +7,9 @@ from rvstm_tools.errors import UserError
 from rvstm_tools.texts import differences, expectations, lists
 from rvstm_tools.texts.blocks import Block, ProgramFile
 from rvstm_tools.texts.expectations import CallExpectation, Changes, CostsAtMost, Holds, StorageExpectation
-from rvstm_tools.texts.keys import Key, Names
+from rvstm_tools.texts.keys import Key
 from rvstm_tools.texts.lists import BlockReader, Line
+from rvstm_tools.texts.views import View
 
 
 @dataclass
@@ -47,8 +48,8 @@ class ListedTest:
     block: Block
     calls: list[CallPart]
     storage: StoragePart | None
-    names: Names
-    """What the list calls its keys of tables."""
+    view: View
+    """What the list says of keys and values."""
     lines: list[str]
     """All lines of the file, with what ends them there."""
 
@@ -81,15 +82,15 @@ class ListedTestReader:
 
     def take(self, line: Line) -> None:
         """Takes the next line."""
-        if line.kind == "storage":
-            self._take_storage(line)
+        if line.kind == "storage" and not lists.is_dump(line):
+            self._take_storage()
         elif line.kind == "expect":
             self._take_expectation(line)
         self.blocks.take(line)
 
-    def _take_storage(self, line: Line) -> None:
-        if len(line.words) > 1 or self.storage is not None:
-            raise UserError("storage: the line has no other word, and comes once")
+    def _take_storage(self) -> None:
+        if self.storage is not None:
+            raise UserError(lists.STORAGE)
         self.storage = StoragePart()
 
     def _take_expectation(self, line: Line) -> None:
@@ -117,5 +118,5 @@ def read_test(path: Path) -> ListedTest:
             reader.take(line)
     with open(path, encoding="utf-8", newline="") as file:
         lines = list(file)
-    names = lists.table_names(str(path))
-    return ListedTest(path, reader.blocks.block, reader.calls, reader.storage, names, lines)
+    view = lists.read_view(str(path))
+    return ListedTest(path, reader.blocks.block, reader.calls, reader.storage, view, lines)

@@ -1,11 +1,15 @@
 """What is printed of tests: a line for each run, below it the lines that are not met, and the sums at the end."""
 
 import itertools
-from collections.abc import Iterator, Sequence
-from dataclasses import dataclass
+import json
+from collections.abc import Iterable, Iterator, Sequence
+from dataclasses import asdict, dataclass
 
+from rvstm_tools.testing.gastables import GasDifference
 from rvstm_tools.testing.listed import CallPart, ListedTest
 from rvstm_tools.testing.runs import Miss
+from rvstm_tools.testing.testers import Tried
+from rvstm_tools.texts.objects import Object
 
 
 @dataclass
@@ -15,22 +19,30 @@ class Sums:
     tests: int = 0
     failed: int = 0
     calls: int = 0
-    lines: int = 0
-    missed: int = 0
+    expectations: int = 0
+    not_met: int = 0
 
-    def add(self, test: ListedTest, missed: int) -> None:
-        """Counts a run of a test, of which so many lines are not met."""
+    def add(self, run: Tried) -> None:
+        """Counts a run."""
         self.tests += 1
-        self.failed += missed > 0
-        self.calls += len(test.block.calls)
-        self.lines += test.count()
-        self.missed += missed
+        self.failed += run.missed > 0
+        self.calls += len(run.test.block.calls)
+        self.expectations += run.test.count()
+        self.not_met += run.missed
 
     def __str__(self) -> str:
         return (
             f"{counted(self.tests, 'test')}: {self.tests - self.failed} passed, {self.failed} failed; "
-            f"{counted(self.calls, 'call')}, {counted(self.lines, 'expectation')}, {self.missed} not met"
+            f"{counted(self.calls, 'call')}, {counted(self.expectations, 'expectation')}, {self.not_met} not met"
         )
+
+
+def sums_of(tried: Iterable[Tried]) -> Sums:
+    """The sums of some runs."""
+    sums = Sums()
+    for run in tried:
+        sums.add(run)
+    return sums
 
 
 def counted(number: int, what: str) -> str:
@@ -38,11 +50,20 @@ def counted(number: int, what: str) -> str:
     return f"{number} {what}" + ("" if number == 1 else "s")
 
 
-def verdict(test: ListedTest, variant: str, missed: int) -> str:
-    """The line of a run."""
-    name = f"{test.path}, {variant}" if variant else f"{test.path}"
+def lines_of_run(run: Tried) -> Iterator[str]:
+    """The lines of a run: how it ended, and what is not met."""
+    test, missed = run.test, run.missed
     of = f"{missed} of {test.count()} not met" if missed else f"{test.count()}"
-    return f"{'failed' if missed else 'passed'}  {name}: {counted(len(test.block.calls), 'call')}, expectations: {of}"
+    calls = counted(len(test.block.calls), "call")
+    yield f"{'failed' if missed else 'passed'}  {run.planned.name()}: {calls}, expectations: {of}"
+    yield from lines_of_failure(run)
+
+
+def lines_of_failure(run: Tried) -> Iterator[str]:
+    """Why a run failed."""
+    if run.refusal:
+        yield f"        {run.refusal}"
+    yield from lines_of_misses(run.test, run.misses)
 
 
 def lines_of_misses(test: ListedTest, misses: Sequence[Miss]) -> Iterator[str]:
@@ -66,3 +87,44 @@ def lines_of_miss(test: ListedTest, miss: Miss) -> Iterator[str]:
     yield f"        came    {miss.difference.came}"
     if miss.difference.place:
         yield f"        they part {miss.difference.place}"
+
+
+def lines_of_gas(differences: Sequence[GasDifference], table: str, within: float) -> Iterator[str]:
+    """The lines of differences of gas."""
+    if differences:
+        verb = "differs" if len(differences) == 1 else "differ"
+        yield f"{counted(len(differences), 'call')} of {table} {verb} by more than {within:g} percent"
+    yield from (f"    {difference.said()}" for difference in differences)
+
+
+# ---- JSON
+
+
+def json_of_run(run: Tried) -> str:
+    """A run as an object of JSON."""
+    row: Object = {"kind": "test", "list": f"{run.test.path}", "variant": run.planned.variant, "passed": not run.missed}
+    row |= {"calls": len(run.test.block.calls), "expectations": run.test.count(), "seconds": round(run.seconds, 3)}
+    row |= {"refusal": run.refusal, "gas": list(run.gas), "misses": [object_of_miss(run.test, miss) for miss in run.misses]}
+    return json.dumps(row)
+
+
+def object_of_miss(test: ListedTest, miss: Miss) -> Object:
+    """A line that is not met as an object. `call` is the number of the call, null after `storage`."""
+    call = miss.part.call if isinstance(miss.part, CallPart) else None
+    difference = miss.difference
+    return {
+        "line": miss.line, "call": call, "expected": test.shown_line(miss.line),
+        "wanted": difference.wanted, "came": difference.came, "place": difference.place,
+    }
+
+
+def json_of_gas(difference: GasDifference) -> str:
+    """A difference of gas as an object of JSON; `was` or `gas` is null if the table or the list does not have the call."""
+    row: Object = {"kind": "gas", "list": difference.of.list, "call": difference.of.call}
+    return json.dumps(row | {"was": difference.was, "gas": difference.gas})
+
+
+def json_of_sums(sums: Sums) -> str:
+    """The sums as an object of JSON."""
+    row: Object = {"kind": "sums", **asdict(sums)}
+    return json.dumps(row)

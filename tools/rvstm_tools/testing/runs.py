@@ -74,7 +74,7 @@ class Run:
         expectations: Mapping[int, Expectation[Subject]],
         subject: Subject,
     ) -> Iterator[Miss]:
-        scene = Scene(part.keys(), self.test.names, self.difference)
+        scene = Scene(part.keys(), self.test.view, self.difference)
         for line, expectation in expectations.items():
             difference = expectation.miss(subject, scene)
             if difference:

@@ -1,64 +1,112 @@
-"""Runs tests one after another, reports each, and writes the gas of lines `gas at most` again if that is asked for."""
+"""Runs tests, several at once, and writes the gas of lines `gas at most` again if that is asked for."""
 
 import re
-from collections.abc import Mapping, Sequence
+import time
+from collections.abc import Iterator, Mapping, Sequence
+from concurrent.futures import ThreadPoolExecutor
 from dataclasses import dataclass
 
 from rvstm_tools.programs.running import Runner
-from rvstm_tools.testing import reports
 from rvstm_tools.testing.listed import ListedTest
-from rvstm_tools.testing.reports import Sums
-from rvstm_tools.testing.runs import Run
+from rvstm_tools.testing.runs import Miss, Run
 
 MOST_GAS = re.compile(r"(gas\s+at\s+most\s+)[0-9]+")
 
 
 @dataclass(frozen=True)
-class Tried:
-    """A run of a test: whether all of its lines are met, and what gas came for each line `gas at most`."""
+class Planned:
+    """A run of a test that is to be made: by its own programs, or by those of a variant."""
 
-    is_passed: bool
-    gas: Mapping[int, int]
+    test: ListedTest
+    variant: str = ""
+
+    def name(self) -> str:
+        """What it is called in reports."""
+        return f"{self.test.path}, {self.variant}" if self.variant else f"{self.test.path}"
+
+
+@dataclass(frozen=True)
+class Tried:
+    """A run of a test, and what came of it."""
+
+    planned: Planned
+    refusal: str
+    """Why the block did not run; empty if it ran."""
+    misses: Sequence[Miss]
+    """The lines that are not met, if it ran."""
+    gas: Sequence[int]
+    """Of each call, if it ran."""
+    most_gas: Mapping[int, int]
+    """For each line `gas at most` what came."""
+    seconds: float
+
+    @property
+    def test(self) -> ListedTest:
+        """The test."""
+        return self.planned.test
+
+    @property
+    def missed(self) -> int:
+        """How many lines are not met: all, if the block did not run."""
+        return self.test.count() if self.refusal else len(self.misses)
 
 
 class Tester:
-    """Runs tests and prints what comes of them."""
+    """Runs tests."""
 
-    def __init__(self, runner: Runner, *, is_update: bool = False) -> None:
+    def __init__(self, runner: Runner, *, is_update: bool = False, jobs: int = 1) -> None:
         self.runner = runner
         self.is_update = is_update
         """Whether lines `gas at most` are written again, and never count as not met."""
-        self.sums = Sums()
+        self.jobs = jobs
+        """How many run at once."""
 
-    def try_test(self, test: ListedTest, variants: Sequence[str] = ()) -> None:
-        """Runs a test by its own programs, and again by each variant that has others."""
-        with_others = [variant for variant in variants if test.programs_by(variant) != test.programs_by("")]
-        tried = [self._tried(test, variant) for variant in ["", *with_others]]
-        if self.is_update and all(run.is_passed for run in tried):
-            update(test, {line: max(run.gas[line] for run in tried) for line in tried[0].gas})
+    def tried(self, tests: Sequence[ListedTest], variants: Sequence[str] = ()) -> Iterator[Tried]:
+        """Runs each test by its own programs, and again by each variant that has others. What comes of them is in this order."""
+        plans = [plan for test in tests for plan in plans_of(test, variants)]
+        with ThreadPoolExecutor(self.jobs) as pool:
+            try:
+                yield from pool.map(self.try_one, plans)
+            finally:
+                pool.shutdown(cancel_futures=True)
 
-    def _tried(self, test: ListedTest, variant: str) -> Tried:
-        """Runs a test once and reports it."""
-        run = Run(self.runner, test, test.programs_by(variant))
-        gas = {} if run.refusal else run.gas()
-        misses = [] if run.refusal else [miss for miss in run.misses() if not (self.is_update and miss.line in gas)]
-        missed = test.count() if run.refusal else len(misses)
-        print(reports.verdict(test, variant, missed))
+    def try_one(self, plan: Planned) -> Tried:
+        """Runs a test once."""
+        begun = time.monotonic()
+        run = Run(self.runner, plan.test, plan.test.programs_by(plan.variant))
         if run.refusal:
-            print(f"        {run.refusal}")
-        for line in reports.lines_of_misses(test, misses):
-            print(line)
-        self.sums.add(test, missed)
-        return Tried(not missed, gas)
+            return Tried(plan, run.refusal, [], [], {}, time.monotonic() - begun)
+        most_gas = run.gas()
+        misses = [miss for miss in run.misses() if not (self.is_update and miss.line in most_gas)]
+        gas = [receipt.gas for receipt in run.result.receipts]
+        return Tried(plan, "", misses, gas, most_gas, time.monotonic() - begun)
 
 
-def update(test: ListedTest, most_gas: Mapping[int, int]) -> None:
-    """Writes the gas that came into the lines `gas at most` of a list. All other bytes of the file stay."""
+def plans_of(test: ListedTest, variants: Sequence[str]) -> list[Planned]:
+    """The runs of a test."""
+    with_others = [variant for variant in variants if test.programs_by(variant) != test.programs_by("")]
+    return [Planned(test, variant) for variant in ["", *with_others]]
+
+
+def updated(tried: Sequence[Tried]) -> Iterator[str]:
+    """Writes the gas that came into the lines `gas at most` of each list whose other lines are all met, the most of its runs.
+    Says of each list that it changes that it did."""
+    by_list: dict[int, list[Tried]] = {}
+    for one in tried:
+        by_list.setdefault(id(one.test), []).append(one)
+    for runs in by_list.values():
+        test, is_passed = runs[0].test, not any(run.missed for run in runs)
+        if is_passed and update(test, {line: max(run.most_gas[line] for run in runs) for line in runs[0].most_gas}):
+            yield f"updated {test.path}"
+
+
+def update(test: ListedTest, most_gas: Mapping[int, int]) -> bool:
+    """Writes the gas that came into the lines `gas at most` of a list. All other bytes of the file stay. Whether it changed."""
     lines = list(test.lines)
     for number, gas in most_gas.items():
         lines[number - 1] = MOST_GAS.sub(rf"\g<1>{gas}", lines[number - 1], count=1)
     if lines == test.lines:
-        return
+        return False
     with open(test.path, "w", encoding="utf-8", newline="") as file:
         file.writelines(lines)
-    print(f"updated {test.path}")
+    return True

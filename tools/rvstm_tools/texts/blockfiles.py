@@ -7,11 +7,12 @@ from rvstm_tools.errors import UserError
 
 @dataclass(frozen=True)
 class CallHead:
-    """What a block file says of a call: the rules, the path of its program, and the most gas."""
+    """What a block file says of a call: the rules, the path of its program, the most gas, and the input."""
 
     rules: int
     program: str
     limit: int
+    data: bytes
 
 
 def head_of_call(path: str, number: int) -> CallHead:
@@ -22,6 +23,6 @@ def head_of_call(path: str, number: int) -> CallHead:
         rules = next((int(row[1]) for row in rows if row[0] == "gas"), 1)
         paths = [row[2] for row in rows if row[0] == "program"]
         call = [row for row in rows if row[0] == "call"][number]
-        return CallHead(rules, paths[int(call[1])], int(call[2]))
+        return CallHead(rules, paths[int(call[1])], int(call[2]), bytes.fromhex(call[3].replace("-", "")))
     except (IndexError, ValueError) as error:
         raise UserError(f"{path}: it is not the block file that rvstm ran") from error

@@ -7,7 +7,6 @@ from collections.abc import Sequence
 from dataclasses import dataclass
 
 from rvstm_tools.texts import shown
-from rvstm_tools.texts.results import Change, Written
 
 LONGEST_BYTES = 40  # that are shown in full
 PIECE_BYTES = 20  # that are shown of longer ones
@@ -65,24 +64,12 @@ def short_bytes(data: bytes) -> str:
     return piece_of_bytes(data, 0) if len(data) > LONGEST_BYTES else shown.shown_bytes(data)
 
 
-def short_change(change: Change) -> str:
-    """A change for people; of a long value the beginning."""
-    return short_bytes(change.value) if isinstance(change, Written) else shown.shown_change(change)
-
-
 def of_bytes(wanted: bytes, came: bytes) -> Difference:
     """The difference of two rows of bytes that differ."""
     if max(len(wanted), len(came)) <= LONGEST_BYTES:
         return Difference(shown.shown_bytes(wanted), shown.shown_bytes(came))
     place = place_of(wanted, came)
     return Difference(piece_of_bytes(wanted, place), piece_of_bytes(came, place), f"at byte {place}")
-
-
-def of_changes(wanted: Change, came: Change) -> Difference:
-    """The difference of two changes that differ. They part somewhere only if both are values."""
-    if isinstance(wanted, Written) and isinstance(came, Written):
-        return of_bytes(wanted.value, came.value)
-    return Difference(short_change(wanted), short_change(came))
 
 
 def of_lines(wanted: str, came: str) -> Difference:

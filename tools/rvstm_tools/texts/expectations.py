@@ -5,10 +5,11 @@ from dataclasses import dataclass
 from typing import Protocol, TypeVar
 
 from rvstm_tools.errors import UserError
-from rvstm_tools.texts import blocks, differences, numbers, shown, words
+from rvstm_tools.texts import blocks, differences, numbers, words
 from rvstm_tools.texts.differences import Difference
-from rvstm_tools.texts.keys import Key, Names, Storage
+from rvstm_tools.texts.keys import Key, Storage
 from rvstm_tools.texts.results import ENDS_WITH_OUTPUT, TRAPS, Added, Change, End, Receipt, Removed, Written
+from rvstm_tools.texts.views import View
 
 LONGEST_OUTPUT = 256
 LONGEST_VALUE = 256
@@ -29,8 +30,8 @@ class Scene:
 
     keys: frozenset[Key]
     """That the lines of the same part name."""
-    names: Names
-    """What the list calls its keys of tables."""
+    view: View
+    """What the list says of keys and values."""
     difference: Callable[[int], LineDifference | None]
     """Runs the block by so many workers, and returns where that differs from the run in order."""
 
@@ -97,12 +98,12 @@ class Changes:
     def miss(self, receipt: Receipt, scene: Scene) -> Difference | None:
         came = receipt.changes.get(self.key)
         if came is None:
-            return Difference(differences.short_change(self.change), self._left_alone(receipt, scene))
-        return differences.of_changes(self.change, came) if came != self.change else None
+            return Difference(scene.view.short_change(self.key, self.change), self._left_alone(receipt, scene))
+        return scene.view.difference(self.key, self.change, came) if came != self.change else None
 
     def _left_alone(self, receipt: Receipt, scene: Scene) -> str:
         why = "" if receipt.end is End.RETURNED else f", since it ended {end_of_receipt(receipt)}"
-        return f"the call leaves {shown.shown_key(self.key, scene.names)} as it was{why}"
+        return f"the call leaves {scene.view.key(self.key)} as it was{why}"
 
 
 @dataclass(frozen=True)
@@ -123,9 +124,9 @@ class Holds:
     key: Key
     value: bytes | None
 
-    def miss(self, storage: Storage, _: Scene) -> Difference | None:
+    def miss(self, storage: Storage, scene: Scene) -> Difference | None:
         came = storage.get(self.key)
-        return differences.of_changes(state_of(self.value), state_of(came)) if came != self.value else None
+        return scene.view.difference(self.key, state_of(self.value), state_of(came)) if came != self.value else None
 
 
 @dataclass(frozen=True)
@@ -161,7 +162,7 @@ class SameByWorkers:
 def difference_of_others(what: str, changes: Mapping[Key, Change], scene: Scene) -> Difference | None:
     """What is reported of the keys that no line of the part names."""
     others = [
-        f"{shown.shown_key(key, scene.names)}: {differences.short_change(change)}"
+        f"{scene.view.key(key)}: {scene.view.short_change(key, change)}"
         for key, change in changes.items()
         if key not in scene.keys
     ]

@@ -1,7 +1,6 @@
-"""Keys of the storage: 32 bytes, and the three ways in which a list names one."""
+"""Keys of the storage: 32 bytes, and how a list names one; and accounts, which are the first 20 bytes of one."""
 
 import hashlib
-from collections.abc import Mapping
 from typing import NewType
 
 from rvstm_tools.errors import UserError
@@ -12,10 +11,8 @@ Key = NewType("Key", bytes)
 
 Storage = dict[Key, bytes]
 
-Names = Mapping[Key, str]
-"""What keys are called, in place of their bytes."""
-
 KEY_LENGTH = 32
+ACCOUNT_LENGTH = 20
 GREATEST_NUMBER = 255
 """Of a key `key:N`. Another number is written in hex, since one may expect it in more than the last byte."""
 
@@ -43,6 +40,20 @@ def named_key(word: str) -> Key:
     if number is None:
         raise UserError(f"{word}: the number of a key is at most {GREATEST_NUMBER}; another key is written in hex")
     return numbered_key(number)
+
+
+def account_of(word: str, name: str) -> bytes:
+    """The account of a name: its bytes, and zeros after them. `word` is what the list has.
+
+    A name that is a number is refused: `key:N` has N in its last byte, which is none of an account."""
+    data = name.encode()
+    if not data:
+        raise UserError(f"{word}: no name follows it")
+    if numbers.is_decimal(name):
+        raise UserError(f"{word}: an account has a name, and this is a number")
+    if len(data) > ACCOUNT_LENGTH:
+        raise UserError(f"{word}: an account has at most {ACCOUNT_LENGTH} bytes, and this is {len(data)}")
+    return data.ljust(ACCOUNT_LENGTH, b"\0")
 
 
 def table_key(word: str) -> Key:

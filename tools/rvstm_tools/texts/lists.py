@@ -1,17 +1,23 @@
 """Lists: blocks as people write them, a line for each program, key and call (`rvstm-tools block --help`)."""
 
+import os
 import re
 from collections.abc import Iterator
 from contextlib import contextmanager
 from dataclasses import dataclass
 
 from rvstm_tools.errors import UserError
-from rvstm_tools.texts import blocks, numbers, words
+from rvstm_tools.texts import blocks, dumps, numbers, words
 from rvstm_tools.texts.blocks import Block, Call, ProgramFile, Rules
-from rvstm_tools.texts.keys import Key, Storage, table_key
+from rvstm_tools.texts.keys import Key, Storage
+from rvstm_tools.texts.views import View
 
 PATH = re.compile("[!-~]+")
 GAS = re.compile("[1-9][0-9]*")
+STORAGE = (
+    "storage: with a path it comes once, before all lines `store` and `call`, and over no other result; without one it comes once, "
+    "after the calls"
+)
 
 
 @dataclass(frozen=True)
@@ -26,6 +32,11 @@ class Line:
     def kind(self) -> str:
         """The first word, which says what the line is."""
         return self.words[0]
+
+
+def is_dump(line: Line) -> bool:
+    """Whether a line names the file of the storage before the block."""
+    return line.kind == "storage" and len(line.words) > 1
 
 
 @contextmanager
@@ -61,28 +72,49 @@ class BlockReader:
 
     def __init__(self, storage: Storage) -> None:
         self.block = Block(storage)
+        self.view = View()
+        """The shapes of the list."""
         self._stored: set[Key] = set()
         self._is_begun = False
+        self._has_rules = False
         self._is_after_storage = False
         self._takers = {
             "rules": self._take_rules,
             "program": self._take_program,
             "store": self._take_key,
             "call": self._take_call,
+            "shape": self._take_shape,
         }
 
     def take(self, line: Line) -> None:
         """Takes the next line."""
-        if line.kind == "storage":
+        if is_dump(line):
+            self._take_dump(line)
+        elif line.kind == "storage":
             self._is_after_storage = True
         elif line.kind != "expect":
             self._take_block_line(line)
+
+    def _take_dump(self, line: Line) -> None:
+        """Takes the storage of a file for that before the block, and its rules if the list names none."""
+        if len(line.words) > 2 or self.block.storage or self.block.calls or self._is_after_storage:
+            raise UserError(STORAGE)
+        dump = dumps.read_dump(os.path.join(os.path.dirname(line.path), words.name_of(line.words[1])))
+        if dump.rules and not self._has_rules:
+            self.block.rules = dump.rules
+        rules = self.block.rules
+        if dump.rules and dump.rules > rules:
+            raise UserError(f"{line.words[1]}: the dump is of rules {dump.rules}, and the list has rules {rules}")
+        self.block.storage.update(dump.storage)
+        if self.block.longest_value() > rules.longest_value:
+            raise UserError(f"{line.words[1]}: a value has {self.block.longest_value()} bytes, which rules {rules} do not allow")
+        self._is_begun = True
 
     def _take_block_line(self, line: Line) -> None:
         if self._is_after_storage:
             raise UserError(f"{line.kind}: only lines `expect` may follow `storage`")
         if line.kind not in self._takers:
-            raise UserError(f"{line.kind}: not rules, program, store, call, expect or storage")
+            raise UserError(f"{line.kind}: not rules, program, shape, store, call, expect or storage")
         self._takers[line.kind](line.words[1:], line.number)
         self._is_begun = True
 
@@ -90,6 +122,7 @@ class BlockReader:
         if given not in (["1"], ["2"], ["3"]) or self._is_begun:
             raise UserError("rules: the line is `rules 1`, `rules 2` or `rules 3`, and comes before all others")
         self.block.rules = Rules(int(given[0]))
+        self._has_rules = True
 
     def _take_program(self, given: list[str], line: int) -> None:
         if len(given) != 2:
@@ -112,6 +145,9 @@ class BlockReader:
         self._stored.add(key)
         rules = self.block.rules
         self.block.storage[key] = words.joined(given[1:], rules.longest_value, f"a value under rules {rules}")
+
+    def _take_shape(self, given: list[str], _: int) -> None:
+        self.view.take_shape(given)
 
     def _take_call(self, given: list[str], line: int) -> None:
         if len(given) < 2:
@@ -146,10 +182,13 @@ def read_block(path: str, storage: Storage) -> Block:
     return reader.block
 
 
-def table_names(path: str) -> dict[Key, str]:
-    """The words `table:TAG:TEXT` of a list, by the keys that they stand for."""
-    names: dict[Key, str] = {}
+def read_view(path: str) -> View:
+    """What a list says of keys and values: its words that say keys of tables, and its shapes."""
+    view = View()
     for line in lines_of(path):
         with placed(path, line.number):
-            names |= {table_key(word): word for word in line.words if word.startswith("table:")}
-    return names
+            if line.kind == "shape":
+                view.take_shape(line.words[1:])
+            else:
+                view.take_names(line.words)
+    return view

@@ -1,11 +1,8 @@
 """Bytes, keys and changes for people."""
 
-
-from rvstm_tools.texts.keys import Key, Names
+from rvstm_tools.texts.keys import Key
 from rvstm_tools.texts.results import Added, Change, Written
-
-NUMBER_SIZES = (1, 2, 4, 8)
-"""Bytes of these lengths are shown as a number, too."""
+from rvstm_tools.texts.words import NUMBER_SIZES
 
 
 def is_printable(data: bytes) -> bool:
@@ -37,9 +34,7 @@ def shown_change(change: Change) -> str:
     return f"+{change.amount}" if isinstance(change, Added) else "gone"
 
 
-def shown_key(key: Key, names: Names) -> str:
-    """A key by its name, if it has one, and otherwise without the zeros at its end, as a text or in hex."""
-    if key in names:
-        return names[key]
+def shown_key(key: Key) -> str:
+    """A key without the zeros at its end, as a text or in hex."""
     data = key.rstrip(b"\0")
     return f'"{data.decode()}"' if data and is_name(data) else data.hex() or "00"

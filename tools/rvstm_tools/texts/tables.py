@@ -3,8 +3,8 @@
 from collections.abc import Iterable, Iterator
 
 from rvstm_tools.texts import shown
-from rvstm_tools.texts.keys import Names
 from rvstm_tools.texts.results import Receipt, Stored
+from rvstm_tools.texts.views import View
 
 HEAD = "call  end                   gas  pc        output"
 REGISTERS = (
@@ -14,7 +14,7 @@ REGISTERS = (
 REGISTERS_A_ROW = 8
 
 
-def table_lines(items: Iterable[Receipt | Stored], names: Names, *, has_registers: bool) -> Iterator[str]:
+def table_lines(items: Iterable[Receipt | Stored], view: View, *, has_registers: bool) -> Iterator[str]:
     """The lines of a table. Each comes as soon as its item is read."""
     has_head = is_in_storage = False
     for item in items:
@@ -22,17 +22,17 @@ def table_lines(items: Iterable[Receipt | Stored], names: Names, *, has_register
             yield HEAD
             has_head = True
         if isinstance(item, Receipt):
-            yield from receipt_lines(item, names, has_registers=has_registers)
+            yield from receipt_lines(item, view, has_registers=has_registers)
             continue
         if not is_in_storage:
             yield "storage"
             is_in_storage = True
-        yield f"      {shown.shown_key(item.key, names)}: {shown.shown_bytes(item.value)}"
+        yield f"      {view.key(item.key)}: {view.value(item.key, item.value)}"
     if not has_head:
         yield HEAD
 
 
-def receipt_lines(receipt: Receipt, names: Names, *, has_registers: bool) -> Iterator[str]:
+def receipt_lines(receipt: Receipt, view: View, *, has_registers: bool) -> Iterator[str]:
     """The lines of a call."""
     output = shown.shown_bytes(receipt.output)
     yield f"{receipt.number:>4}  {receipt.end:<15}  {receipt.gas:>8}  {receipt.pc:08x}  {output}"
@@ -42,4 +42,4 @@ def receipt_lines(receipt: Receipt, names: Names, *, has_registers: bool) -> Ite
             words = (f"{name:>4} {value:08x}" for name, value in zip(REGISTERS[row], receipt.registers[row]))
             yield f"        {'  '.join(words)}"
     for key, change in receipt.changes.items():
-        yield f"      wrote {shown.shown_key(key, names)}: {shown.shown_change(change)}"
+        yield f"      wrote {view.key(key)}: {view.change(key, change)}"

@@ -1,0 +1,97 @@
+"""`rvstm-tools new`: makes a folder with a contract, its test and a description of random calls."""
+
+import argparse
+import os
+import shlex
+import shutil
+import subprocess
+import sys
+from pathlib import Path
+
+from rvstm_tools.errors import Status, UserError
+from rvstm_tools.options import Command
+from rvstm_tools.programs import compilers, finding
+from rvstm_tools.templates import folders
+from rvstm_tools.templates.folders import Language, Places
+
+LAUNCHER = "rvstm-tools"
+DETAILS = f"""\
+FOLDER is made, or it is there and empty. Its last part names the contract. The contract keeps an amount for each account. In
+FOLDER are then
+
+    NAME.c or src/main.rs     the contract
+    NAME.list                 a test of it, for `rvstm-tools test` and `rvstm-tools coverage`
+    NAME.explore              a description of random calls, for `rvstm-tools explore`
+    Makefile                  `make` builds the contract and runs the test
+    README.md                 these commands
+    Cargo.toml, .cargo        with --rust
+
+The contract is built at once, as NAME.elf, and as NAME.lines.elf with its lines of source. If a compiler is missing, FOLDER is
+made all the same, and the message says which of Debian's packages to install.
+
+The Makefile, or Cargo.toml, names the SDK: that of this checkout, of the package rvstm-sdk, or the one that pip installed beside
+these tools. Rust needs its own libraries for {compilers.TARGET}: `SDK/rust/build-libraries` builds them, once and as
+root, of Debian's packages; with rustup `rustup target add {compilers.TARGET}` fetches them.
+
+The status is 0 if the contract is built, 1 if it is not, and 2 for a wrong command line."""
+
+
+def add_options(parser: argparse.ArgumentParser) -> None:
+    """Adds the options of the command."""
+    parser.add_argument("folder", type=Path, metavar="FOLDER", help="the folder to make")
+    parser.add_argument("--rust", action="store_true", help="a contract in Rust; without it one in C")
+
+
+def run(given: argparse.Namespace) -> int:
+    """Makes the folder, and builds the contract."""
+    folder: Path = given.folder
+    language = Language.RUST if given.rust else Language.C
+    name = finding.absolute(folder).name
+    folders.check_name(name, language)
+    sdk = finding.sdk()
+    make_files(folder, folders.files_of(language, Places(name, str(sdk), words_of_tools())))
+    lack = compilers.lack(sdk, is_rust=given.rust)
+    if lack:
+        raise UserError(f"{folder} is made, and not built: {lack}; then run `make` in {folder}")
+    build(folder, name)
+    print(f"built {folder / name}.elf; `make` in {folder} builds it again and runs its test")
+    return Status.DONE
+
+
+def words_of_tools() -> str:
+    """How a shell runs these tools: by their name if it is on the path, and otherwise by the path with which they were started."""
+    if shutil.which(LAUNCHER):
+        return LAUNCHER
+    started = finding.absolute(sys.argv[0])
+    return shlex.quote(str(started)) if started.name == LAUNCHER else f"{shlex.quote(sys.executable)} -m rvstm_tools"
+
+
+def make_files(folder: Path, files: dict[str, str]) -> None:
+    """Makes the folder and its files, and prints their names."""
+    folder.mkdir(parents=True, exist_ok=True)
+    if any(folder.iterdir()):
+        raise UserError(f"{folder}: it is there, and is not empty")
+    for name, text in files.items():
+        path = folder / name
+        path.parent.mkdir(exist_ok=True)
+        path.write_text(text, encoding="utf-8")
+    print(f"{folder}: {', '.join(files)}")
+
+
+def build(folder: Path, name: str) -> None:
+    """Builds the contract, without its lines and with them."""
+    words = ["make", "-s", f"{name}.elf", f"{name}.lines.elf"]
+    environment = {key: value for key, value in os.environ.items() if key not in ("MAKEFLAGS", "MAKELEVEL")}
+    done = subprocess.run(words, cwd=folder, env=environment, stdin=subprocess.DEVNULL, stdout=subprocess.DEVNULL, check=False)
+    if done.returncode:
+        raise UserError(f"{folder} is made, and `{' '.join(words)}` there ended with status {done.returncode}")
+
+
+COMMAND = Command(
+    name="new",
+    summary="Makes a folder with a contract, its test and a description of random calls.",
+    details=DETAILS,
+    example="rvstm-tools new votes && rvstm-tools test votes",
+    add_options=add_options,
+    run=run,
+)

@@ -1,0 +1,81 @@
+"""The folder of a search: which sequences were made, and the finding, so that a later run goes on from there."""
+
+import hashlib
+import json
+from dataclasses import asdict, dataclass
+from pathlib import Path
+
+from rvstm_tools.errors import UserError
+from rvstm_tools.exploring.descriptions import Description
+from rvstm_tools.exploring.saved import SavedCall
+from rvstm_tools.exploring.searches import Limits
+
+STATE, LIST = "explored.json", "found.list"
+
+
+@dataclass(frozen=True)
+class State:
+    """What a run leaves for the next one."""
+
+    description: str
+    """The SHA-256 of its text."""
+    programs: str
+    """The SHA-256 of the files."""
+    seed: int
+    length: int
+    next: int
+    """All sequences below this one were made, and broke nothing."""
+    found: list[SavedCall] | None
+    """The shortest sequence that breaks something."""
+
+
+def digest_of(*parts: bytes) -> str:
+    """The SHA-256 of some bytes, part by part."""
+    return hashlib.sha256(b"".join(hashlib.sha256(part).digest() for part in parts)).hexdigest()
+
+
+class Folder:
+    """A folder that a run is kept in; it is made if it is not there."""
+
+    def __init__(self, path: Path, description: Description) -> None:
+        self.path = path
+        self.description = digest_of(Path(description.path).read_bytes())
+        self.programs = digest_of(*(Path(file).read_bytes() for file in description.programs.values()))
+        path.mkdir(parents=True, exist_ok=True)
+
+    @property
+    def found_list(self) -> Path:
+        """The file for the finding as a list."""
+        return self.path / LIST
+
+    def earlier(self, limits: Limits) -> State | None:
+        """What an earlier run left. It is refused if that drew other sequences."""
+        path = self.path / STATE
+        if not path.exists():
+            return None
+        state = state_of(path)
+        if (state.description, state.seed, state.length) != (self.description, limits.seed, limits.length):
+            raise UserError(f"{path}: the run there has another description, seed or length: name another folder")
+        return state
+
+    def first(self, state: State | None) -> int:
+        """The number of the sequence to go on with: the first one if a program is another one now."""
+        return state.next if state and state.programs == self.programs else 0
+
+    def keep(self, limits: Limits, following: int, found: list[SavedCall] | None) -> None:
+        """Keeps what a run has done so far."""
+        state = State(self.description, self.programs, limits.seed, limits.length, following, found)
+        new = self.path / f"{STATE}.new"
+        new.write_text(json.dumps(asdict(state), indent=1) + "\n", encoding="utf-8")
+        new.replace(self.path / STATE)
+
+
+def state_of(path: Path) -> State:
+    """The state of a file."""
+    try:
+        fields = json.loads(path.read_bytes())
+        found = fields.pop("found")
+        calls = None if found is None else [SavedCall(int(call["line"]), dict(call["values"])) for call in found]
+        return State(**fields, found=calls)
+    except (ValueError, TypeError, KeyError, AttributeError) as error:
+        raise UserError(f"{path}: this is not what a run leaves: remove it, or name another folder") from error

@@ -1,0 +1,97 @@
+"""Numbers of calls that move with the storage.
+
+A number that is near one of the storage, or of an output before its call, often depends on it: a payment of the whole balance. If a
+call is left out, the storage has other numbers then, and such a number has to be moved by as much.
+"""
+
+from collections.abc import Sequence
+from typing import NamedTuple
+
+from rvstm_tools.exploring import storages
+from rvstm_tools.exploring.places import DISTANCES, Numbers, Value
+from rvstm_tools.exploring.runs import Call, Finding, Run
+from rvstm_tools.texts import words
+from rvstm_tools.texts.keys import Key
+from rvstm_tools.texts.results import End, Receipt
+
+
+class OutputOf(NamedTuple):
+    """The output of a call, by its number."""
+
+    call: int
+
+
+Source = Key | OutputOf
+"""Where a number comes from."""
+
+FromSources = dict[Source, int]
+"""The numbers that a sequence changed or returned so far, those of the last call first."""
+
+
+def add(numbers: FromSources, at: int, outcome: Receipt, run: Run) -> FromSources:
+    """The numbers after a call. Of a run it has to be the last call."""
+    found: FromSources = {}
+    if outcome.end is End.RETURNED and len(outcome.output) in words.NUMBER_SIZES:
+        found[OutputOf(at)] = storages.number_of(outcome.output)
+    for key in outcome.changes:
+        value = run.storage.data.get(key, b"")
+        if not value or len(value) in words.NUMBER_SIZES:
+            found[key] = storages.number_of(value)
+    return found | {source: number for source, number in numbers.items() if source not in found}
+
+
+class Moving:
+    """Leaves out calls of a finding, and moves the numbers of those after it."""
+
+    def __init__(self, run: Run, finding: Finding) -> None:
+        self.run = run
+        self.calls = finding.calls
+
+    def without(self, left_out: int) -> Sequence[Call] | None:
+        """The calls without one, if a number after it is moved. They are run one by one to see what the storage has then."""
+        before = self._numbers()
+        made: list[Call] = []
+        numbers: FromSources = {}
+        is_broken = bool(self.run.begin())
+        for at, call in enumerate(self.calls):
+            if at == left_out:
+                continue
+            made.append(Call(call.kind, self._moved(call, before[at], numbers)))
+            if not is_broken:
+                is_broken = bool(self.run.go_on(made[-1:]))
+                numbers = add(numbers, at, self.run.outcomes[-1], self.run)
+        plain = [call for at, call in enumerate(self.calls) if at != left_out]
+        return made if made != plain else None
+
+    def _numbers(self) -> list[FromSources]:
+        """The numbers before each call, in the sequence as it is."""
+        numbers: FromSources = {}
+        found = []
+        self.run.begin()
+        for at, call in enumerate(self.calls):
+            found.append(numbers)
+            self.run.go_on([call])
+            numbers = add(numbers, at, self.run.outcomes[-1], self.run)
+        return found
+
+    def _moved(self, call: Call, before: FromSources, now: FromSources) -> dict[str, Value]:
+        """The values of a call, with numbers that are as far from those now as they were from those before."""
+        return {name: self._moved_value(call, name, before, now) for name in call.values}
+
+    def _moved_value(self, call: Call, name: str, before: FromSources, now: FromSources) -> Value:
+        value, place = call.values[name], call.kind.places[name]
+        if not isinstance(value, int) or not isinstance(place, Numbers):
+            return value
+        for source, number in before.items():
+            distance = value - number
+            moved = self._number_now(source, now) + distance
+            if distance in DISTANCES and moved != value and place.has(moved):
+                return moved
+        return value
+
+    def _number_now(self, source: Source, now: FromSources) -> int:
+        """The number that a source has in the run as far as it is."""
+        if isinstance(source, OutputOf):
+            return now.get(source, 0)
+        value = self.run.storage.data.get(source, b"")
+        return storages.number_of(value) if len(value) in words.NUMBER_SIZES else 0

@@ -1,0 +1,46 @@
+"""Sequences as they are handed from process to process, and kept in a folder: each call by its line and the words in its places."""
+
+from collections.abc import Iterable, Sequence
+from dataclasses import dataclass
+
+from rvstm_tools.errors import UserError
+from rvstm_tools.exploring.descriptions import Description
+from rvstm_tools.exploring.places import AnyBytes, DrawnBytes, Numbers, Place, Value
+from rvstm_tools.exploring.runs import Call
+from rvstm_tools.texts import numbers, words
+
+
+@dataclass(frozen=True)
+class SavedCall:
+    """A call: the line of its kind, and the words in its places."""
+
+    line: int
+    values: dict[str, str]
+
+
+def saved(calls: Iterable[Call]) -> list[SavedCall]:
+    """Calls as they are kept."""
+    return [SavedCall(call.kind.line, {name: f"{value}" for name, value in call.values.items()}) for call in calls]
+
+
+def restored(description: Description, calls: Sequence[SavedCall]) -> list[Call]:
+    """The calls that were kept. They are refused if the description has no such line, or no such value in a place."""
+    kinds = {kind.line: kind for kind in description.kinds}
+    found = []
+    for call in calls:
+        kind = kinds.get(call.line)
+        if kind is None or kind.places.keys() != call.values.keys():
+            raise UserError(f"line {call.line} of {description.path} is not the call that was kept: another folder is needed")
+        found.append(Call(kind, {name: value_of(kind.places[name], word) for name, word in call.values.items()}))
+    return found
+
+
+def value_of(place: Place, word: str) -> Value:
+    """The value of a place that a word says."""
+    if isinstance(place, AnyBytes) and (not word or words.is_hex(word)):
+        return DrawnBytes.fromhex(word)
+    if isinstance(place, Numbers) and numbers.is_decimal(word) and place.has(int(word)):
+        return int(word)
+    if not isinstance(place, AnyBytes | Numbers) and word in place.words:
+        return word
+    raise UserError(f"{word}: the description has no such value in this place: another folder is needed")

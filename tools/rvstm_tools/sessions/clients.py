@@ -1,0 +1,159 @@
+"""A session as people use it: frames by the paths of their files, keys by the words of lists, and answers as lines."""
+
+from collections.abc import Iterator
+from dataclasses import dataclass
+from pathlib import Path
+
+from rvstm_tools.errors import UserError
+from rvstm_tools.sessions import answers, frames, requests
+from rvstm_tools.sessions.answers import Answer, Done, State
+from rvstm_tools.sessions.frames import Named
+from rvstm_tools.sessions.processes import Session
+from rvstm_tools.sessions.requests import Request, Word
+from rvstm_tools.texts import lists, results, tables
+from rvstm_tools.texts.keys import KEY_LENGTH, Key
+from rvstm_tools.texts.views import View
+
+LISTS = ".list"
+"""How the name of a list ends. Every other file of a frame is a block file."""
+MOST_KEYS = 1024
+"""Of one answer to `list`."""
+FIRST_KEY = Key(bytes(KEY_LENGTH))
+NONE = "      none"
+
+
+@dataclass(frozen=True)
+class FrameFile:
+    """A file of a frame: a list, or a block file whose programs are named by their paths or by their hashes."""
+
+    path: Path
+
+    @property
+    def is_list(self) -> bool:
+        """Whether it is a list."""
+        return self.path.suffix == LISTS
+
+    def read(self) -> Named:
+        """The frame, and its programs. Paths of programs are taken from the folder of the file."""
+        if not self.is_list:
+            return frames.named(self.path.read_bytes(), self.path.parent)
+        block = lists.read_block(str(self.path), {})
+        for path in block.paths():
+            (self.path.parent / path).read_bytes()  # a program that is missing is an error of its own file
+        return frames.named(block.text().encode(), self.path.parent)
+
+
+class Client:
+    """A session, and what is known of its keys."""
+
+    def __init__(self, session: Session, view: View) -> None:
+        self.session = session
+        self.view = view
+        self.keys: set[Key] = set()
+        """Those that answers had so far."""
+
+    def answer(self, request: Request) -> Answer:
+        """The answer to a request. A session that ended before it is an error, with what it said."""
+        answer = self.session.ask(request)
+        if answer is None:
+            ended = self.session.wait()
+            raise UserError(ended.said() or f"the session ended with status {ended.status}")
+        return answer
+
+    def body(self, request: Request) -> bytes:
+        """The bytes that answer a request. A refusal is an error."""
+        answer = self.answer(request)
+        if not isinstance(answer, Done):
+            raise UserError(answer.said)
+        return answer.body
+
+    def state(self) -> State:
+        """The state."""
+        return answers.state_of(self.body(Request(Word.STATE)))
+
+    # ---- requests, each with the lines of its answer
+
+    def run(self, word: Word, path: Path) -> Iterator[str]:
+        """Hands in the programs of a frame, and runs or tries it."""
+        file = FrameFile(path)
+        named = file.read()
+        if file.is_list:
+            add_view(self.view, lists.read_view(str(path)))
+        for program in named.programs():
+            self.body(program)
+        return self.receipts(self.body(Request(word, (), named.block)))
+
+    def receipts(self, body: bytes) -> Iterator[str]:
+        """The table of an answer to a frame."""
+        items = list(results.items_of(body.decode("ascii", "backslashreplace").splitlines(keepends=True)))
+        for item in items:
+            if isinstance(item, results.Receipt):
+                self.keys |= item.changes.keys()
+        return tables.table_lines(items, self.view, has_registers=False)
+
+    def last(self) -> Iterator[str]:
+        """What the last frame was answered."""
+        return self.receipts(self.body(Request(Word.LAST)))
+
+    def get(self, key: Key) -> Iterator[str]:
+        """The value at a key."""
+        text = self.body(Request(Word.GET, (key.hex().encode(),))).decode()
+        self.keys.add(key)
+        if text == "absent\n":
+            return iter([f"      {self.view.key(key)}: absent"])
+        return self.rows(b"store %s %s" % (key.hex().encode(), text.removeprefix("value ").encode()))
+
+    def list(self, first: Key, count: int = MOST_KEYS) -> Iterator[str]:
+        """The first keys from one on, itself included."""
+        body = self.body(Request(Word.LIST, (first.hex().encode(), b"%d" % count)))
+        yield from self.rows(body)
+        if body.count(b"\n") == count:
+            last = bytes.fromhex(body.splitlines()[-1].split()[1].decode())
+            yield f"      there may be more: list {next_key(last).hex()}"
+
+    def rows(self, body: bytes) -> Iterator[str]:
+        """Some lines `store`, by the words and shapes of the lists."""
+        rows = dict(frames.stored_rows(body))
+        self.keys |= rows.keys()
+        return iter([f"      {self.view.key(key)}: {self.view.value(key, value)}" for key, value in rows.items()] or [NONE])
+
+    def dump(self, out: Path | None = None) -> Iterator[str]:
+        """The whole storage; or where it is written to, as `begin` takes it."""
+        body = self.body(Request(Word.DUMP))
+        if out is None:
+            return self.rows(body)
+        out.write_bytes(body)
+        return iter([f"      {body.count(b'store '):,} keys written to {out}"])
+
+    def lines(self, word: Word) -> Iterator[str]:
+        """The lines that answer `state` or `programs`, as they come."""
+        return iter([f"      {line}" for line in self.body(Request(word)).decode().splitlines()] or [NONE])
+
+    def program(self, path: Path) -> Iterator[str]:
+        """Hands in a program."""
+        return iter([f"      {self.body(Request(Word.PROGRAM, (), path.read_bytes())).decode().strip()}"])
+
+    def forget(self, name: str) -> Iterator[str]:
+        """Gives back a program by its name."""
+        self.body(Request(Word.FORGET, (name.encode(),)))
+        return iter([f"      {name}"])
+
+    def begin(self, height: int, digest: bytes, path: Path) -> Iterator[str]:
+        """Puts a dump in place of the storage."""
+        self.body(requests.begin(height, digest, path.read_bytes()))
+        return self.lines(Word.STATE)
+
+
+def next_key(key: bytes) -> bytes:
+    """The key after one; the first one after the last."""
+    return ((int.from_bytes(key, "big") + 1) % (1 << 8 * KEY_LENGTH)).to_bytes(KEY_LENGTH, "big")
+
+
+def add_view(view: View, other: View) -> None:
+    """Adds what another list says of keys and values; of two shapes of one thing the later one holds."""
+    view.names |= other.names
+    view.of_keys |= other.of_keys
+    view.of_tables |= other.of_tables
+    view.rows |= other.rows
+    view.long_tables |= other.long_tables
+    view.inputs |= other.inputs
