@@ -61,7 +61,7 @@ RIGHT = {
 }
 
 
-def wrong_places(text):
+def wrong_places(text: str) -> int:
     """How many places of a source the check finds wrong."""
     with tempfile.TemporaryDirectory() as folder:
         source = pathlib.Path(folder) / "crate/src/lib.rt"
@@ -74,12 +74,12 @@ def wrong_places(text):
 
 
 class OutsideCauses(unittest.TestCase):
-    def test_wrong_places_are_found(self):
+    def test_wrong_places_are_found(self) -> None:
         for name, text in WRONG.items():
             with self.subTest(name):
                 self.assertGreater(wrong_places(text), 0)
 
-    def test_right_forms_pass(self):
+    def test_right_forms_pass(self) -> None:
         for name, text in RIGHT.items():
             with self.subTest(name):
                 self.assertEqual(wrong_places(text), 0)

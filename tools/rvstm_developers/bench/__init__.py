@@ -1,0 +1,1 @@
+"""What is measured: one command a module, and what they share."""

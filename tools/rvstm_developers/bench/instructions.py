@@ -1,0 +1,116 @@
+"""`bench/instructions`."""
+
+import argparse
+import re
+import tempfile
+from collections.abc import Iterator, Sequence
+from dataclasses import dataclass
+from pathlib import Path
+
+from rvstm_developers import options, running
+from rvstm_developers.bench import blocks, tables
+from rvstm_developers.bench.blocks import FOLDER, RULES, SPEED_PROGRAMS, Input, TimedBlock
+from rvstm_developers.running import Word
+from rvstm_tools.errors import UserError
+from rvstm_tools.options import Command
+
+GAS = (1_000_000, 3_000_000)
+CALLS = (200, 600)
+WORDS_A_PAGE = 1024
+TABLES: dict[str, list[str]] = {"plainvm.c, gcc -O2": [], "plainvm.c, gcc -O2 -fno-jump-tables": ["-fno-jump-tables"]}
+WAYS = (("seq",), ("run", "--workers", "1"))
+
+
+@dataclass(frozen=True)
+class Program:
+    """A program that never ends: its name, its path, and the input of its call."""
+
+    name: str
+    path: str
+    data: bytes = b""
+
+
+def counted(words: Sequence[Word], folder: Path, place: Path) -> int:
+    """The instructions that a command takes."""
+    output = place / "callgrind.out"
+    running.output_of(["valgrind", "--tool=callgrind", f"--callgrind-out-file={output}", *words], folder)
+    found = re.search(r"^summary: (\d+)", output.read_text(), re.MULTILINE)
+    if not found:
+        raise UserError("callgrind counted nothing")
+    return int(found[1])
+
+
+def last_moment(rvstm: Path, block: Path) -> int:
+    """How many instructions the first call of a block makes."""
+    text = running.output_of([rvstm, "debug", block, "--call", "0"], FOLDER, b"g 00000000\n")
+    return int(text.split(b" ", 1)[0])
+
+
+def programs_of(rvstm: Path, place: Path) -> Iterator[Program]:
+    """The programs; the last one has two pages, each of which jumps to the other at once."""
+    for number, name in enumerate(SPEED_PROGRAMS):
+        yield Program(name, f"programs/{name}.elf", blocks.speed_calls(number)[0].data)
+    page = [".word 0"] * (WORDS_A_PAGE - 1)
+    source = "\n".join(["here: j there", *page, "there: j here", ""])
+    yield Program("two pages", str(running.assembled(rvstm, source, place / "jumping.elf")))
+
+
+def print_loops(rvstm: Path, place: Path) -> None:
+    """What an instruction of a contract costs."""
+    machines: dict[str, list[Word]] = {"rvstm seq": [rvstm, "seq"]}
+    for name, words in TABLES.items():
+        path = place / f"plain{''.join(words)}"
+        running.output_of(["gcc", "-O2", *words, "-w", "-o", path, FOLDER / "plainvm.c"])
+        machines[name] = [path]
+    cells: dict[str, list[str]] = {name: [name] for name in machines}
+    programs = list(programs_of(rvstm, place))
+    for program in programs:
+        paths = [place / f"{gas}.block" for gas in GAS]
+        for gas, path in zip(GAS, paths):
+            path.write_text(TimedBlock(program.name, "", [Input(gas, program.data)]).text(program.path))
+        few, many = (last_moment(rvstm, path) for path in paths)
+        for name, start in machines.items():
+            low, high = (counted([*start, path], FOLDER, place) for path in paths)
+            cells[name].append(f"{(high - low) / (many - few):.1f}")
+    tables.print_table(["", *(program.name for program in programs)], cells.values())
+
+
+def print_calls(rvstm: Path, place: Path) -> None:
+    """What a call costs in the whole program."""
+    print()
+    tables.print_head(["a call of the whole program", "`seq`", "`run`, one worker", "`run` / `seq`"])
+    for block in (blocks.transfers(), blocks.hot_key(), blocks.hot_sum(), blocks.chain()):
+        blocks.assemble(rvstm, place, block.source)
+        for rules in range(RULES.get(block.source, 1), 4):
+            for count in CALLS:
+                (place / f"{count}.block").write_text(block.first(count).text(rules=rules))
+            costs = []
+            for command, *more in WAYS:
+                low, high = (counted([rvstm, command, f"{count}.block", *more], place, place) for count in CALLS)
+                costs.append((high - low) / (CALLS[1] - CALLS[0]))
+            seq, one = costs
+            tables.print_row([f"{block.name}, rules {rules}", f"{seq:,.0f}", f"{one:,.0f}", f"{one / seq:.2f}"])
+
+
+def run(given: argparse.Namespace) -> int:
+    """Prints the tables."""
+    with tempfile.TemporaryDirectory() as place:
+        print_loops(given.rvstm, Path(place))
+        print_calls(given.rvstm, Path(place))
+    return 0
+
+
+COMMAND = Command(
+    "instructions",
+    "Counts the instructions of the processor with callgrind, and prints two tables. The counts do not vary from run to run.",
+    """
+It needs valgrind and gcc. The first table: what one instruction of a contract costs, by the difference of two gas limits, beside plainvm.c
+by gcc -O2 with and without jump tables. The last column is a program of two pages that jumps from each to the other, and makes no other
+instruction. The second: what a call costs in the whole program, files and text included, by the difference of 600 and 200 calls, with
+`seq` and with `run` with one worker, under rules one and under later ones.
+""",
+    "crates/rvstm/out/rvstm",
+    options.add_nothing,
+    run,
+    (options.rvstm_parser,),
+)

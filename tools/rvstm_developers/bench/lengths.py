@@ -1,0 +1,171 @@
+"""`bench/lengths`."""
+
+import argparse
+import math
+import os
+import statistics
+import subprocess
+import tempfile
+import time
+from collections.abc import Sequence
+from dataclasses import dataclass
+from pathlib import Path
+
+from rvstm_developers import options, running
+from rvstm_developers.bench import blocks, tables
+from rvstm_developers.bench.blocks import Input, TimedBlock
+from rvstm_developers.bench.pictures import COLOURS, DARK_GREY, GREY, Picture, Point
+from rvstm_developers.running import Word
+from rvstm_developers.texts import word
+from rvstm_tools.errors import UserError
+from rvstm_tools.options import Command
+from rvstm_tools.texts.keys import numbered_key as key
+
+WORKERS = (2, 4)
+LENGTHS = (700, 1_000, 3_000, 10_000, 30_000, 100_000, 300_000, 1_000_000)
+INSTRUCTIONS_A_BLOCK = 30_000_000
+FEWEST_CALLS, MOST_CALLS = 32, 1_000
+INSTRUCTIONS_A_ROUND, OTHER_INSTRUCTIONS = 5, 9
+"""Of bench/programs/work.s."""
+GAS = 10_000_000
+ROUNDS = 45
+YARDSTICK_LENGTH, YARDSTICK_CALLS = 300_000, 25
+PROCESSORS, QUIET = 4, 3.6
+COLUMNS = (
+    "instructions a call", "calls", "`seq`, ms", "2 workers", "4 workers", f"what {PROCESSORS} processors had",
+    "4 workers, quiet rounds", "quiet rounds",
+)
+
+
+@dataclass(frozen=True)
+class Round:
+    """A round in milliseconds: `seq` and the runs, and the processes that ran at once."""
+
+    times: list[float]
+    at_once: list[float]
+
+
+@dataclass(frozen=True)
+class Rounds:
+    """The rounds of a length."""
+
+    length: int
+    calls: int
+    rounds: list[Round]
+
+    def ratios(self, number: int) -> list[float]:
+        """How many times as fast as `seq` a run is in each round."""
+        return [one.times[0] / one.times[number + 1] for one in self.rounds]
+
+    def ratio(self, number: int) -> float:
+        """The median of these."""
+        return statistics.median(self.ratios(number))
+
+    def cells(self, fastest: float) -> list[str]:
+        """The row of the table. The fastest process of all rounds says what processors have."""
+        room = [sum(fastest / spent for spent in one.at_once) for one in self.rounds]
+        quiet = [ratio for ratio, had in zip(self.ratios(len(WORKERS) - 1), room) if had >= QUIET]
+        figures = [*(self.ratio(number) for number in range(len(WORKERS))), statistics.median(room)]
+        return [
+            f"{self.length:,}", f"{self.calls:,}", tables.middle(one.times[0] for one in self.rounds),
+            *(f"{figure:.2f}" for figure in figures), tables.middle(quiet, ".2f") if quiet else "-", f"{len(quiet)} of {ROUNDS}",
+        ]
+
+
+def mixing(length: int, count: int) -> list[Input]:
+    """Calls of work.s, which have so many instructions each."""
+    mixes = word((length - OTHER_INSTRUCTIONS) // INSTRUCTIONS_A_ROUND)
+    return [Input(GAS, key(number) + mixes) for number in range(count)]
+
+
+def times_of(commands: Sequence[Sequence[Word]], place: Path) -> list[float]:
+    """The time of each command in milliseconds, in turn. All print the same."""
+    times, outputs = [], set()
+    for words in commands:
+        start = time.perf_counter()
+        outputs.add(running.output_of(words, place))
+        times.append(1000 * (time.perf_counter() - start))
+    if len(outputs) != 1:
+        raise UserError("a run differs from seq")
+    return times
+
+
+def times_at_once(words: Sequence[Word], place: Path) -> list[float]:
+    """The times in milliseconds of as many processes of a command as there are processors, each on one of its own."""
+    begun, starts, times = {}, {}, []
+    for processor in sorted(os.sched_getaffinity(0))[:PROCESSORS]:
+        start = time.perf_counter()
+        process = subprocess.Popen(words, cwd=place, stdout=subprocess.DEVNULL)
+        os.sched_setaffinity(process.pid, {processor})
+        begun[process.pid], starts[process.pid] = process, start
+    while begun:
+        found = os.waitid(os.P_ALL, 0, os.WEXITED | os.WNOWAIT)
+        assert found is not None
+        times.append(1000 * (time.perf_counter() - starts[found.si_pid]))
+        if begun.pop(found.si_pid).wait():
+            raise UserError("a run failed")
+    return times
+
+
+def rounds_of(rvstm: Path, place: Path, length: int) -> Rounds:
+    """The rounds of a length."""
+    count = max(FEWEST_CALLS, min(MOST_CALLS, INSTRUCTIONS_A_BLOCK // length))
+    (place / "calls.block").write_text(TimedBlock("", "work", mixing(length, count)).text())
+    commands: list[list[Word]] = [[rvstm, "seq", "calls.block"]]
+    commands += [[rvstm, "run", "calls.block", "--workers", str(workers)] for workers in WORKERS]
+    yardstick: list[Word] = [rvstm, "seq", "yardstick.block"]
+    return Rounds(length, count, [Round(times_of(commands, place), times_at_once(yardstick, place)) for _ in range(ROUNDS)])
+
+
+def picture(found: Sequence[Rounds]) -> Picture:
+    """Speed against `seq` by the length of a call, a line for each number of workers."""
+    made = Picture(720, 380, 60, 620, 320)
+    scale = (made.bottom - made.top) / 4.2
+    low, high = math.log10(LENGTHS[0]), math.log10(LENGTHS[-1])
+
+    def x(length: int) -> float:
+        return made.left + (made.right - made.left) * (math.log10(length) - low) / (high - low)
+
+    for number in range(5):
+        made.mark_y(made.bottom - scale * number, str(number), DARK_GREY if number == 1 else GREY)
+    for length in (1_000, 10_000, 100_000, 1_000_000):
+        made.mark_x(x(length), f"{length:,}")
+    made.title("instructions a call", "times as fast as seq")
+    for number, workers in enumerate(WORKERS):
+        points = [Point(x(one.length), made.bottom - scale * one.ratio(number)) for one in found]
+        made.line(points, COLOURS[number])
+        made.label(Point(made.right + 10, points[-1].y + 4), tables.of_workers(workers), COLOURS[number])
+    return made
+
+
+def run(given: argparse.Namespace) -> int:
+    """Prints the table, and draws."""
+    with tempfile.TemporaryDirectory() as folder:
+        place = Path(folder)
+        blocks.assemble(given.rvstm, place, "work")
+        (place / "yardstick.block").write_text(TimedBlock("", "work", mixing(YARDSTICK_LENGTH, YARDSTICK_CALLS)).text())
+        found = [rounds_of(given.rvstm, place, length) for length in LENGTHS]
+    fastest = min(spent for one in found for each in one.rounds for spent in each.at_once)
+    tables.print_table(COLUMNS, [one.cells(fastest) for one in found])
+    if given.picture:
+        picture(found).write(given.picture)
+    return 0
+
+
+COMMAND = Command(
+    "lengths",
+    "Times `rvstm run` with 2 and 4 workers beside `rvstm seq` on calls of 700 to 1,000,000 instructions, and draws a picture.",
+    """
+The calls of a block are alike: each mixes a word and writes it to a key of its own. All programs run a block in turn, files and text
+included, and print the same bytes. A figure says how many times as fast as `seq` a run is: the median over rounds of the ratio within a
+round, since the speed of a virtual machine changes from second to second.
+
+In each round four processes of `seq`, each on a processor of its own, run a longer block at once. How many times the work of the fastest
+process of all rounds they do in its time says what four processors have in that round. A round is quiet if that is at least 3.6. The last
+two columns are the ratio with 4 workers in the quiet rounds, and the number of these.
+""",
+    "crates/rvstm/out/rvstm bench/lengths.svg",
+    options.add_picture,
+    run,
+    (options.rvstm_parser,),
+)

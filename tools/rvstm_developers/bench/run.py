@@ -1,0 +1,159 @@
+"""`bench/run`."""
+
+import argparse
+import shutil
+import statistics
+import tempfile
+from collections.abc import Iterator, Mapping, Sequence
+from pathlib import Path
+
+from rvstm_developers import options, running
+from rvstm_developers.bench import blocks, processes, tables
+from rvstm_developers.bench.blocks import FOLDER, SPEED_PROGRAMS, TimedBlock
+from rvstm_developers.running import Word
+from rvstm_tools.errors import UserError
+from rvstm_tools.options import Command
+from rvstm_tools.programs import finding
+
+CHOOSING_ROUNDS, ROUNDS, TIMES = 3, 15, 21
+NO_TABLES = "-fno-jump-tables"
+LOOP = "rv_step::machine::Machine::execute_in_page"
+ALIGNMENT = 32
+NEW, OLD = "rvstm", "old"
+SHORT_COLUMNS = ["short calls, microseconds each", "`seq`", "`drive`, 1 worker", "`run`, 1 worker", "2 workers", "4 workers"]
+
+
+def builds(place: Path) -> dict[str, Path]:
+    """The builds of plainvm.c that can be made."""
+    made = {}
+    for compiler in filter(shutil.which, ("gcc", "clang")):
+        for level in ("-O2", "-O3"):
+            choices: tuple[tuple[str, ...], ...] = ((), (NO_TABLES,))
+            for more in choices:
+                name = " ".join([compiler, level, *more])
+                made[name] = place / name.replace(" ", "_")
+                running.output_of([compiler, level, *more, "-w", "-o", made[name], FOLDER / "plainvm.c"])
+    if not made:
+        raise UserError("neither gcc nor clang is on the path")
+    return made
+
+
+def all_blocks(rvstm: Path, place: Path) -> Iterator[tuple[str, str]]:
+    """The blocks by their names."""
+    yield "calls that compute", (FOLDER / "speed.block").read_text()
+    for number, program in enumerate(SPEED_PROGRAMS):
+        yield program, TimedBlock(program, program, blocks.speed_calls(number)).text(f"programs/{program}.elf")
+    for name, count, block in (("200 counts", 200, blocks.hot_key()), ("1,000 transfers", 1000, blocks.transfers())):
+        yield name, block.first(count).text(blocks.assemble(rvstm, place, block.source))
+    for name, count in (("token", 150), ("tally", 600)):
+        yield f"{count} calls of {name}", blocks.calls_again(name, count)
+
+
+def times_in_turn(commands: Mapping[str, Sequence[Word]], place: Path, rounds: int) -> dict[str, list[float]]:
+    """The processor times of some commands in milliseconds, in each of some rounds. All print the same bytes."""
+    times: dict[str, list[float]] = {name: [] for name in commands}
+    results = {name: str(place / f"{name.replace(' ', '_')}.text") for name in commands}
+    for _ in range(rounds):
+        for name, words in commands.items():
+            spent = processes.sound(processes.timed(words, FOLDER, result=results[name]))
+            times[name].append(1000 * spent.processor)
+    if len({Path(path).read_bytes() for path in results.values()}) != 1:
+        raise UserError("the programs print different texts")
+    return times
+
+
+def fastest_builds(plain: Mapping[str, Path], block: Path, place: Path) -> list[str]:
+    """The fastest build on a block with jump tables, and the fastest without."""
+    times = times_in_turn({name: [path, block] for name, path in plain.items()}, place, CHOOSING_ROUNDS)
+    middle = {name: statistics.median(spent) for name, spent in times.items()}
+    return [min((name for name in middle if (NO_TABLES in name) == is_without), key=middle.__getitem__) for is_without in (False, True)]
+
+
+def print_whole(rvstm: Path, old: Path | None, place: Path) -> None:
+    """The table of whole programs."""
+    plain = builds(place)
+    columns = ["block", "`rvstm seq`, ms", "fastest build with jump tables", "its ms", "ratio", "fastest without", "its ms", "ratio"]
+    tables.print_head(columns + (["before, ms", "ratio to before"] if old else []))
+    for name, text in all_blocks(rvstm, place):
+        block = place / "one.block"
+        block.write_text(text)
+        fastest = fastest_builds(plain, block, place)
+        commands: dict[str, Sequence[Word]] = {build: [plain[build], block] for build in fastest}
+        commands[NEW] = [rvstm, "seq", block]
+        if old:
+            commands[OLD] = [old, "seq", block]
+        times = times_in_turn(commands, place, ROUNDS)
+        cells = [name, tables.middle(times[NEW])]
+        for build in fastest:
+            cells.append(build.replace(f" {NO_TABLES}", ""))
+            cells += [tables.middle(times[build]), f"{tables.ratio(times[build], times[NEW]):.2f}"]
+        cells += [tables.middle(times[OLD]), f"{tables.ratio(times[OLD], times[NEW]):.2f}"] if old else []
+        tables.print_row(cells)
+
+
+def best_times(commands: Sequence[Sequence[Word]], place: Path) -> list[float]:
+    """The best time of each command in seconds, all in turn."""
+    rounds = [[processes.sound(processes.timed(words, place)).seconds for words in commands] for _ in range(TIMES)]
+    return [min(times) for times in zip(*rounds)]
+
+
+def print_short(rvstm: Path, place: Path) -> None:
+    """The table of short calls."""
+    print()
+    tables.print_head(SHORT_COLUMNS)
+    (place / "list").write_text("0\n" * 20_000)
+    for block in (blocks.hot_key(), blocks.transfers()):
+        blocks.assemble(rvstm, place, block.source)
+        (place / "whole.block").write_text(block.text())
+        (place / "empty.block").write_text(block.empty().text())
+        commands: list[list[Word]] = [[rvstm, "seq", "empty.block"], [rvstm, "seq", "whole.block"]]
+        commands.append([rvstm, "drive", "whole.block", "--workers", "1", "--schedule", "list"])
+        commands += [[rvstm, "run", "whole.block", "--workers", workers] for workers in ("1", "2", "4")]
+        left, *times = best_times(commands, place)
+        tables.print_row([block.name, *(f"{(spent - left) / len(block.calls) * 1e6:.1f}" for spent in times)])
+
+
+def print_place_of_loop(rvstm: Path) -> None:
+    """Prints where the function of the loop begins."""
+    if not shutil.which("nm"):
+        return
+    names = running.output_of(["nm", rvstm]).decode().splitlines()
+    address = next((line.split(" ")[0] for line in names if line.endswith(LOOP)), None)
+    if address is not None:
+        print(f"\nThe loop begins {int(address, 16) % ALIGNMENT} bytes after a multiple of {ALIGNMENT}.")
+
+
+def run(given: argparse.Namespace) -> int:
+    """Prints the tables."""
+    with tempfile.TemporaryDirectory() as place:
+        print_whole(given.rvstm, given.old, Path(place))
+        print_short(given.rvstm, Path(place))
+    print_place_of_loop(given.rvstm)
+    return 0
+
+
+def add_options(parser: argparse.ArgumentParser) -> None:
+    """Adds its options."""
+    parser.add_argument("old", metavar="OLD", type=finding.absolute, nargs="?", help="an earlier program to compare it with")
+
+
+COMMAND = Command(
+    "run",
+    "Times `rvstm seq` beside a plain interpreter in C, in one run, and prints tables.",
+    """
+plainvm.c is built by each of gcc and clang that is there, with -O2 and -O3, with and without jump tables. Of each kind the build that is
+fastest on a block is measured. All programs run each block in turn, files and text included, and print the same bytes. What counts is
+processor time, and of a ratio the median over rounds of the ratio within a round, since the speed of a virtual machine changes from
+second to second. The blocks: calls that compute, all together and by program; 200 counts of one key; 1,000 transfers; the calls of
+examples/token and examples/tally again and again.
+
+Then short calls: a thousand counts and a thousand transfers, in microseconds a call, less the time of the same block with a gas limit of
+1, in which the files, the text and the starts of calls are left; the best of several runs.
+
+Last, if nm is there, how far after a multiple of 32 bytes the loop over a page of code begins: it is faster at a multiple.
+""",
+    "crates/rvstm/out/rvstm",
+    add_options,
+    run,
+    (options.rvstm_parser,),
+)

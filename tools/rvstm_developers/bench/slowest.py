@@ -1,0 +1,184 @@
+"""`bench/slowest`."""
+
+import argparse
+import statistics
+import subprocess
+import tempfile
+from collections.abc import Callable, Sequence
+from dataclasses import dataclass
+from pathlib import Path
+
+from rvstm_developers import options as shared_options
+from rvstm_developers import texts
+from rvstm_developers.bench import blocks, slow_sessions, tables
+from rvstm_developers.bench.processes import Spent, sound, timed
+from rvstm_developers.bench.slow_blocks import BLOCKS, CHAIN, CHAIN_4, GAS, SEQ, Block, Content, Share, endless, used_up
+from rvstm_tools.errors import MisuseError
+from rvstm_tools.options import Command
+from rvstm_tools.sessions import frames
+
+CALLS, ROUNDS, WORK_CALLS, RULES = 16, 3, 4, 3
+SOURCES = ("work", "reads", "bump", "turns", "sweep", "gather", "add-later", "read-later", "draw", "scatter")
+SESSIONS = {
+    "one-hash": "read keys drawn at random of 1,048,576, all of which have one hash",
+    "new-keys": "add 256 new keys to 1,048,576, and remove them again",
+    "new-keys-stored": "the same in a session with a file",
+    "list": "no calls: pages of `list` over 1,048,576 keys",
+}
+UNITS = {Share.GAS: 1e9, Share.CALL: 1e6}
+
+
+@dataclass(frozen=True)
+class Options:
+    """What the command line says."""
+
+    rvstm: Path
+    place: Path
+    calls: int
+    rounds: int
+
+
+def write_block(options: Options, name: str, content: Content) -> None:
+    """Writes a block file NAME.block, and the requests of a session that hand in its programs and the block."""
+    paths = []
+    for number, program in enumerate(content.programs):
+        paths.append(f"{program}.elf" if isinstance(program, str) else f"{name}-{number}.elf")
+        if isinstance(program, bytes):
+            (options.place / paths[-1]).write_bytes(program)
+    text = texts.block_text(paths, content.store, content.calls, texts.head_of(RULES))
+    (options.place / f"{name}.block").write_text(text)
+    named = frames.named(text.encode(), options.place)
+    (options.place / f"{name}.requests").write_bytes(b"".join(request.text() for request in (*named.programs(), named.frame())))
+
+
+def run_way(options: Options, name: str, way: str) -> Spent:
+    """Runs a block in one way."""
+    if way in (CHAIN, CHAIN_4):
+        return timed([options.rvstm, *way.split()], options.place, f"{name}.requests")
+    command, *words = way.split()
+    return timed([options.rvstm, command, f"{name}.block", *words], options.place)
+
+
+def shown(name: str, way: str) -> str:
+    """The command as it is typed."""
+    if way in (CHAIN, CHAIN_4):
+        return f"{way} < {name}.requests"
+    command, *words = way.split()
+    return " ".join((command, f"{name}.block", *words))
+
+
+def gas_of(options: Options, name: str) -> int:
+    """The gas that the calls of a block use in all."""
+    with subprocess.Popen([options.rvstm, "seq", f"{name}.block"], cwd=options.place, stdout=subprocess.PIPE, text=True) as process:
+        assert process.stdout is not None
+        return sum(int(line.split(" ", 5)[4]) for line in process.stdout if line.startswith("call "))
+
+
+def whole_of(options: Options, block: Block, content: Content) -> int:
+    """What the time of a block is divided by: its calls, or the units of gas that they use."""
+    if block.share is Share.CALL:
+        return len(content.calls)
+    return content.gas or gas_of(options, block.name)
+
+
+def print_block(options: Options, block: Block) -> None:
+    """Prints a row for each way in which a block is run."""
+    content = block.make(options.calls)
+    write_block(options, block.name, content)
+    whole = whole_of(options, block, content)
+    for way in block.ways:
+        runs, ratios = [], []
+        for _ in range(options.rounds):
+            work = sound(run_way(options, "reference", SEQ)).processor / (WORK_CALLS * GAS)
+            runs.append(run_way(options, block.name, way))
+            ratios.append(runs[-1].processor / whole / work)
+        print_row(shown(block.name, way), runs, whole, block.share, statistics.median(ratios))
+
+
+def print_row(command: str, runs: Sequence[Spent], whole: int, share: Share, ratio: float) -> None:
+    """Prints a row of the table: medians, and the most memory of all runs."""
+    seconds, processor = (statistics.median(times) for times in zip(*((run.seconds, run.processor) for run in runs)))
+    each = f"{processor / whole * UNITS[share]:.1f} {share.value}"
+    beside = f"{ratio:.2f} times" if share is Share.GAS else f"{ratio:,.0f} gas"
+    fault = next((f" ({run.fault})" for run in runs if run.fault), "")
+    most = max(run.mebibytes for run in runs)
+    memory = f"{most:.0f}" if most else "-"
+    tables.print_row([f"`{command}`{fault}", f"{seconds:.2f}", f"{processor:.2f}", memory, each, beside])
+
+
+def print_sessions(options: Options, names: Sequence[str]) -> None:
+    """Prints the rows over a million keys."""
+    acts: dict[str, Callable[[], list[slow_sessions.Row]]] = {
+        "one-hash": lambda: slow_sessions.reads_of_one_hash(options.rvstm, options.place, options.rounds),
+        "new-keys": lambda: slow_sessions.keys_that_come(options.rvstm, options.place, options.rounds),
+        "new-keys-stored": lambda: slow_sessions.keys_that_come(options.rvstm, options.place, options.rounds, str(options.place / "kept")),
+        "list": lambda: slow_sessions.pages_of_a_list(options.rvstm, options.rounds),
+    }
+    if acts.keys().isdisjoint(names):
+        return
+    tables.print_head([f"over {slow_sessions.KEYS:,} keys", "processor time", "beside the first"])
+    for name, act in acts.items():
+        for row in act() if name in names else ():
+            tables.print_row([row.what, f"{time_of(row.seconds)} {row.unit}", f"{row.ratio:.2f} times"])
+
+
+def time_of(seconds: float) -> str:
+    """A short time."""
+    return f"{seconds * 1e9:.1f} ns" if seconds < 1e-6 else f"{seconds * 1e6:,.1f} µs"
+
+
+NOTES = {block.name: block.what for block in BLOCKS} | SESSIONS
+"""Each row, and what it is."""
+
+
+def prepare(options: Options) -> None:
+    """Makes the programs of bench/programs, and the block beside which others are timed."""
+    for source in SOURCES:
+        blocks.assemble(options.rvstm, options.place, source)
+    write_block(options, "reference", used_up(["work"], endless(WORK_CALLS)))
+
+
+def run(given: argparse.Namespace) -> int:
+    """Prints the tables."""
+    if given.names:
+        print("\n".join(f"{name:12} {what}" for name, what in NOTES.items()))
+        return 0
+    rows = given.rows or list(NOTES)
+    if unknown := [row for row in rows if row not in NOTES]:
+        raise MisuseError(f"there is no row {unknown[0]}: {', '.join(NOTES)}")
+    calls, rounds = (2, 1) if given.quick else (given.calls, given.rounds)
+    with tempfile.TemporaryDirectory() as place:
+        options = Options(given.rvstm, Path(place), calls, rounds)
+        prepare(options)
+        asked = [block for block in BLOCKS if block.name in rows]
+        if asked:
+            tables.print_head(["command", "seconds", "processor seconds", "MiB", "each", "beside `work`"])
+        for block in asked:
+            print_block(options, block)
+        print_sessions(options, rows)
+    return 0
+
+
+def add_options(parser: argparse.ArgumentParser) -> None:
+    """Adds its options."""
+    parser.add_argument("rows", nargs="*", metavar="ROW", help="these alone; --names prints them")
+    parser.add_argument("--calls", type=int, default=CALLS, metavar="N", help=f"calls of ten million gas, {CALLS} if left out")
+    parser.add_argument("--rounds", type=int, default=ROUNDS, metavar="N", help=f"runs of each row, {ROUNDS} if left out")
+    parser.add_argument("--quick", action="store_true", help="one round of 2 calls")
+    parser.add_argument("--names", action="store_true", help="prints what each row is, and runs nothing")
+
+
+COMMAND = Command(
+    "slowest",
+    "Times blocks that take a node longest, and prints seconds, processor seconds and the most memory, in MiB.",
+    """
+There are two figures. Of calls that use up ten million gas, the most that a call may have, it is the time for a unit of gas; a block has
+--calls of them. Of 1,024 calls that end soon it is the time for a call. In each round a row is run in turn with `work`, which mixes a word
+in a loop with `seq`. Each figure is the median of --rounds rounds. The last column is the processor time beside that of `work` in the same
+round: for a unit of gas so many times, and for a call as much gas of `work`.
+""",
+    "crates/rvstm/out/rvstm reads fence --quick",
+    add_options,
+    run,
+    (shared_options.rvstm_parser,),
+)

@@ -1,0 +1,206 @@
+"""`bench/storages`."""
+
+import argparse
+import hashlib
+import random
+import statistics
+import tempfile
+from collections.abc import Callable, Mapping, Sequence
+from dataclasses import dataclass
+from pathlib import Path
+
+from rvstm_developers import options, texts
+from rvstm_developers.bench import blocks, processes, tables
+from rvstm_developers.texts import word
+from rvstm_tools.errors import UserError
+from rvstm_tools.options import Command
+from rvstm_tools.programs import finding
+from rvstm_tools.sessions import frames, requests
+from rvstm_tools.sessions.processes import Session, Settings
+from rvstm_tools.sessions.requests import Request, Word
+from rvstm_tools.texts.keys import ACCOUNT_LENGTH, Key, numbered_key
+
+SIZES = (1_000, 100_000, 1_000_000)
+COMPARED = SIZES[0]
+"""Keys, with whose time that of a block is compared."""
+FRAME_LIMIT = 1 << 27
+CALLS, GAS, ROUNDS, BLOCKS_A_ROUND = 200, 2_000, 15, 5
+GROWTH_CALLS = 1_000
+VALUE = word(1_000_000)
+GROUP = 16
+"""Keys of one hash."""
+WORDS = 2**64
+ODD = 0x9E3779B97F4A7C15
+"""Spreads the sums of the groups."""
+SOURCES = ("transfer", "put", "remove")
+ACTS = ("transfers", "writes", "removals", "dump", "begin")
+SHOWN_ACTS = ("transfers", "writes", "removals", "begin", "dump")
+PROGRAM_NAMES = ("now", "before")
+COLUMNS = (
+    "keys are", "keys", "program", "a block of transfers, ms", f"times that over {COMPARED:,}", "transfers", "200 keys written",
+    "200 keys removed", "`begin`", "`dump`", "bytes a key",
+)
+
+KeyOf = Callable[[int], Key]
+"""The key of a number."""
+
+
+def digest_key(number: int) -> Key:
+    """A SHA-256."""
+    return Key(hashlib.sha256(b"%d" % number).digest())
+
+
+def alike_key(number: int) -> Key:
+    """The hash is made of the sum of a key's words; it is one for each sixteen numbers."""
+    first = int.from_bytes(digest_key(number)[:8], "little")
+    second = (number // GROUP * ODD - first) % WORDS
+    return Key(word(first, 8) + word(second, 8) + bytes(16))
+
+
+def alike_row(number: int) -> Key:
+    """A row of 20 bytes, as a stranger may name it: its last eight bytes make one sum for each sixteen numbers."""
+    start, length = b"acct" + digest_key(number)[:12], bytes(7) + bytes([ACCOUNT_LENGTH])
+    others = sum(int.from_bytes(part, "little") for part in (start[:8], start[8:], length))
+    return Key(start + word((number // GROUP * ODD - others) % WORDS, 8) + length)
+
+
+KINDS: dict[str, KeyOf] = {"small numbers": numbered_key, "digests": digest_key, "made alike": alike_key, "rows made alike": alike_row}
+
+
+def frame(name: str, calls: Sequence[bytes]) -> Request:
+    """A block of calls of one program by its name, under rules two, which have removals."""
+    lines = [f"call 0 {GAS} {data.hex()}\n" for data in calls]
+    return Request(Word.FRAME, (), f"{texts.HEADS[2]}program 0 {name}\n{''.join(lines)}".encode())
+
+
+class Measured:
+    """A session over so many keys of a kind, with what each act took in each round."""
+
+    def __init__(self, rvstm: Path, files: Mapping[str, bytes], key: KeyOf, keys: int) -> None:
+        self.session = Session(rvstm, Settings(FRAME_LIMIT))
+        names = {source: frames.name_of(file) for source, file in files.items()}
+        for file in files.values():
+            processes.answered(self.session, Request(Word.PROGRAM, (), file))
+        choice = random.Random(keys)
+        pairs = [[choice.sample(range(keys), 2) for _ in range(CALLS)] for _ in range(BLOCKS_A_ROUND)]
+        new = [[key(keys + CALLS * block + number) for number in range(CALLS)] for block in range(BLOCKS_A_ROUND)]
+        store = frames.store_lines({key(number): VALUE for number in range(keys)})
+        self.acts = {
+            "transfers": [frame(names["transfer"], [key(one) + key(other) for one, other in block]) for block in pairs],
+            "writes": [frame(names["put"], block) for block in new],
+            "removals": [frame(names["remove"], block) for block in new],
+            "dump": [Request(Word.DUMP)],
+            "begin": [requests.begin(0, None, frames.dump_of(2, {}) + store)],
+        }
+        self.times: dict[str, list[float]] = {name: [] for name in ACTS}
+        self.timed("begin")
+        self.times["begin"].clear()
+        self.memory = processes.resident(self.session.process.pid)
+
+    def timed(self, act: str) -> bytes:
+        """Makes an act once. Returns the digest of the answers."""
+        found = [processes.answered(self.session, request) for request in self.acts[act]]
+        self.times[act].append(sum(one.processor for one in found) / len(found))
+        return hashlib.sha256(b"".join(one.body for one in found)).digest()
+
+    def add_round(self) -> tuple[bytes, ...]:
+        """Makes each act once. Returns the digests of the answers."""
+        return tuple(self.timed(act) for act in ACTS)
+
+    def median(self, act: str) -> float:
+        """What an act takes."""
+        return statistics.median(self.times[act])
+
+
+def grown(rvstm: Path, files: Mapping[str, bytes], keys: int) -> str:
+    """The bytes that each key takes in a storage that grew by blocks of digests, and the middle and the longest time of a block."""
+    with Session(rvstm, Settings(FRAME_LIMIT)) as session:
+        processes.answered(session, Request(Word.PROGRAM, (), files["put"]))
+        name, least = frames.name_of(files["put"]), 0
+        times: list[float] = []
+        for place in range(0, keys, GROWTH_CALLS):
+            block = frame(name, [digest_key(number) for number in range(place, place + GROWTH_CALLS)])
+            times.append(processes.answered(session, block).processor)
+            if len(times) == COMPARED // GROWTH_CALLS:
+                least = processes.resident(session.process.pid)
+        share = (processes.resident(session.process.pid) - least) / (keys - COMPARED)
+    return f"{share:.1f} bytes a key, a block {statistics.median(times):.1f} ms in the middle and {max(times):.1f} at most"
+
+
+@dataclass(frozen=True)
+class Kind:
+    """The sessions over storages of one kind of keys: by their sizes, of each program one."""
+
+    name: str
+    measured: dict[int, list[Measured]]
+
+    def add_round(self) -> None:
+        """Makes each act once. All programs have to answer alike."""
+        for keys, sessions in self.measured.items():
+            if len({one.add_round() for one in sessions}) != 1:
+                raise UserError(f"{self.name}, {keys:,} keys: the two programs answer otherwise")
+
+    def cells(self, keys: int, which: int) -> list[str]:
+        """The row of a size and of a program."""
+        sessions, least = self.measured[keys], self.measured[COMPARED][which]
+        one = sessions[which]
+        share = f"{(one.memory - least.memory) / (keys - COMPARED):.1f}" if keys > COMPARED else "-"
+        ratio = tables.ratio(one.times["transfers"], least.times["transfers"])
+        cells = [self.name, f"{keys:,}", PROGRAM_NAMES[which], f"{one.median('transfers'):.3f}", f"{ratio:.3f}"]
+        for act in SHOWN_ACTS:
+            is_compared = which == 0 and len(sessions) == 2
+            cells.append(f"{tables.ratio(one.times[act], sessions[1].times[act]):.3f}" if is_compared else f"{one.median(act):.3f} ms")
+        return [*cells, share]
+
+
+def print_kind(programs: Sequence[Path], files: Mapping[str, bytes], name: str, sizes: Sequence[int], rounds: int) -> None:
+    """The rows of a kind of keys."""
+    kind = Kind(name, {keys: [Measured(rvstm, files, KINDS[name], keys) for rvstm in programs] for keys in sizes})
+    for _ in range(rounds):
+        kind.add_round()
+    for keys in sizes:
+        for which in range(len(programs)):
+            tables.print_row(kind.cells(keys, which))
+    for sessions in kind.measured.values():
+        for one in sessions:
+            one.session.kill()
+
+
+def run(given: argparse.Namespace) -> int:
+    """Prints the table, and what a storage that grows takes."""
+    programs = [path for path in (given.rvstm, given.before) if path]
+    sizes = [keys for keys in SIZES if keys <= max(given.most, COMPARED)]
+    with tempfile.TemporaryDirectory() as place:
+        files = {source: blocks.assemble(programs[0], Path(place), source).read_bytes() for source in SOURCES}
+    tables.print_head(COLUMNS)
+    for kind in KINDS if given.rounds else ():
+        print_kind(programs, files, kind, sizes, given.rounds)
+    for name, rvstm in zip(PROGRAM_NAMES, programs):
+        print(f"grown by blocks to {given.grown:,} keys, {name}: {grown(rvstm, files, given.grown)}", flush=True)
+    return 0
+
+
+def add_options(parser: argparse.ArgumentParser) -> None:
+    """Adds its options."""
+    parser.add_argument("before", nargs="?", metavar="BEFORE", type=finding.absolute, help="another program, which is timed beside it")
+    parser.add_argument("--most", type=int, default=SIZES[-1], metavar="KEYS", help="leaves storages with more keys out")
+    parser.add_argument("--rounds", type=int, default=ROUNDS, metavar="N", help=f"so many rounds ({ROUNDS})")
+    parser.add_argument("--grown", type=int, default=SIZES[-1], metavar="KEYS", help="how far the last storage grows")
+
+
+COMMAND = Command(
+    "storages",
+    "Times blocks with `rvstm chain` over storages of four kinds of keys, with one program or two beside each other.",
+    """
+A key is a small number after zeros; or a SHA-256; or one of sixteen that have one hash, so that the hints of where keys are serve half of
+them at most. A block has 200 calls: transfers between accounts that are there, writes of 200 keys that are not, and then removals of
+these. What counts is the processor time of the session, the median over rounds: in each round all sizes and both programs come in turn,
+and a ratio is the median of the ratios within a round. `begin` with all keys and `dump` are timed too. The share of a key is of what the
+process has in memory more than over 1,000 keys. Last a storage grows by blocks of 1,000 new keys: its bytes a key, and the longest block.
+Both programs have to answer alike.
+""",
+    "crates/rvstm/out/rvstm --most 1000 --rounds 3 --grown 10000",
+    add_options,
+    run,
+    (options.rvstm_parser,),
+)

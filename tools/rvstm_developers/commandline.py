@@ -1,0 +1,52 @@
+"""The command line of the developers' commands: which there are, the parser of each, and how it ends."""
+
+import argparse
+import importlib
+import io
+import sys
+from collections.abc import Sequence
+from pathlib import Path
+
+from rvstm_tools import errors
+from rvstm_tools.options import Command
+
+FOLDERS = {"commands": "tools/developers", "bench": "bench"}
+"""The folder that has a script for each command of each sub-package."""
+
+
+def command_of(name: str) -> Command:
+    """The command of a name."""
+    for package in FOLDERS:
+        path = Path(__file__).with_name(package) / f"{name.replace('-', '_')}.py"
+        if path.is_file():
+            command: Command = importlib.import_module(f"rvstm_developers.{package}.{path.stem}").COMMAND
+            return command
+    raise errors.MisuseError(f"no command is named {name!r}; tools/developers and bench have a script for each")
+
+
+def parser_of(command: Command) -> argparse.ArgumentParser:
+    """The parser of a command."""
+    folder = FOLDERS[sys.modules[command.run.__module__].__name__.split(".")[1]]
+    parser = argparse.ArgumentParser(
+        prog=f"{folder}/{command.name}",
+        description=f"{command.summary}\n\n{command.details.strip()}",
+        epilog=f"example:\n  {folder}/{command.name} {command.example}",
+        formatter_class=argparse.RawDescriptionHelpFormatter,
+        parents=[shared() for shared in command.shared],
+    )
+    command.add_options(parser)
+    return parser
+
+
+def run(name: str, words: Sequence[str]) -> int:
+    """Runs a command, and returns its status."""
+    command = command_of(name)
+    return command.run(parser_of(command).parse_intermixed_args(words))
+
+
+def main() -> int:
+    """Runs the command that the first word of the command line names."""
+    if isinstance(sys.stdout, io.TextIOWrapper):
+        sys.stdout.reconfigure(errors="backslashreplace")
+    name, *words = sys.argv[1:] or [""]
+    return errors.ended(name or "rvstm-developers", lambda: run(name, words))

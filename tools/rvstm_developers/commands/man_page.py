@@ -1,0 +1,36 @@
+"""`tools/developers/man-page`."""
+
+import argparse
+
+from rvstm_developers import options
+from rvstm_tools.errors import Status
+from rvstm_tools.options import Command
+from rvstm_tools.programs import checkouts
+from rvstm_tools.releases import helps
+
+
+def run(given: argparse.Namespace) -> int:
+    """Makes or checks the page."""
+    top = checkouts.here("man-page").top
+    if given.check:
+        helps.check(top, given.rvstm)
+        print(f"{helps.PAGE} is what the help makes")
+    else:
+        (top / helps.PAGE).write_text(helps.page_of(given.rvstm))
+    return Status.DONE
+
+
+def add_options(parser: argparse.ArgumentParser) -> None:
+    """Adds its options."""
+    parser.add_argument("--check", action="store_true", help="writes nothing: the status is 1 if the page is not what the help makes")
+
+
+COMMAND = Command(
+    "man-page",
+    "Makes the man page of rvstm, man/rvstm.1, of the help of the program and of its commands.",
+    "The page has no text of its own but its last part.",
+    "crates/rvstm/out/rvstm --check",
+    add_options,
+    run,
+    (options.rvstm_parser,),
+)

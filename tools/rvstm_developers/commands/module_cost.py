@@ -1,0 +1,83 @@
+"""`tools/developers/module-cost`."""
+
+import argparse
+from collections import defaultdict
+from pathlib import Path
+from typing import NamedTuple
+
+from rvstm_developers.texts import TOP
+from rvstm_tools.errors import UserError
+from rvstm_tools.options import Command
+
+KINDS_SHOWN = 8
+
+
+class Module(NamedTuple):
+    """A module that a check kept: when it was written, and its name."""
+
+    time: float
+    name: str
+
+    def kind(self) -> str:
+        """What it holds, by the last part of its name."""
+        part = self.name.rpartition(".")[2]
+        if "-proofs." not in self.name:
+            return "contracts and definitions"
+        return part if part[:1].isupper() else "other"
+
+
+class Cost(NamedTuple):
+    """What a module costs, in seconds."""
+
+    seconds: float
+    module: Module
+
+
+def modules(folder: Path) -> list[Module]:
+    """The modules that a check kept, oldest first."""
+    files = (path for path in folder.rglob("*.oantt") if path.parent.name != "records")
+    return sorted(Module(path.stat().st_mtime, path.stem) for path in files)
+
+
+def run(given: argparse.Namespace) -> int:
+    """Prints the costs."""
+    found = modules(TOP / "crates" / given.crate / "out/incremental")
+    if not found:
+        raise UserError(f"{given.crate}: no check has kept anything")
+    costs = [Cost(after.time - before.time, after) for before, after in zip(found, found[1:])]
+    kinds: defaultdict[str, float] = defaultdict(float)
+    for cost in costs:
+        kinds[cost.module.kind()] += cost.seconds
+    print(f"{sum(kinds.values()):.0f} s, {len(found)} modules")
+    for name, seconds in sorted(kinds.items(), key=lambda item: -item[1])[:KINDS_SHOWN]:
+        print(f"{seconds:8.1f} {name}")
+    print()
+    for cost in sorted(costs, reverse=True)[: given.most]:
+        print(f"{cost.seconds:8.1f} {cost.module.name}")
+    return 0
+
+
+def add_options(parser: argparse.ArgumentParser) -> None:
+    """Adds its options."""
+    parser.add_argument("crate", metavar="CRATE", help="the name of the crate")
+    parser.add_argument("most", metavar="MOST", type=int, nargs="?", default=30, help="how many modules are printed (30)")
+
+
+COMMAND = Command(
+    "module-cost",
+    "Prints what each module of a crate costs its check, in seconds, by the times of the files that the check kept.",
+    """
+A check keeps a file for each module, as soon as it is checked. So the time between two files is what the second one took, if one job
+checked the crate from nothing. What is read before the first file of a kind is counted with that file. To measure a crate, with
+nothing else on the machine:
+
+    cd crates/stm_core && rm -rf out/incremental && rt check --jobs 1
+    tools/developers/module-cost stm_core
+
+Of a function, `Lts` is what the prover writes for the borrow checker, `Proof` the proof of its clauses, `Answers` what its own file
+answers, and `Tie` what it takes from the calls that it makes.
+""",
+    "stm_core",
+    add_options,
+    run,
+)

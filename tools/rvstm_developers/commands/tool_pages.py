@@ -1,0 +1,28 @@
+"""`tools/developers/tool-pages`."""
+
+import argparse
+
+from rvstm_developers import options
+from rvstm_tools.errors import Status
+from rvstm_tools.options import Command
+from rvstm_tools.programs import checkouts
+from rvstm_tools.releases import parsers
+from rvstm_tools.releases.products import Products
+
+
+def run(_: argparse.Namespace) -> int:
+    """Makes both."""
+    checkout = checkouts.here("tool-pages")
+    (checkout.top / parsers.PAGE).write_text(parsers.page_of(Products(checkout).version()))
+    (checkout.top / parsers.COMPLETION).write_text(parsers.completion())
+    return Status.DONE
+
+
+COMMAND = Command(
+    "tool-pages",
+    "Makes man/rvstm-tools.1 and completions/rvstm-tools.bash of the parsers of rvstm-tools.",
+    "The tests of the tools compare both with the parsers.",
+    "",
+    options.add_nothing,
+    run,
+)

@@ -1,0 +1,1 @@
+"""What is drawn at random: programs, blocks, sessions and words."""

@@ -1,0 +1,218 @@
+"""Programs whose words are random, and calls of them that start at random words with random registers."""
+
+import struct
+from collections.abc import Callable, Sequence
+from dataclasses import dataclass
+from random import Random
+
+from rvstm_developers.models.machine import Part, elf_of
+
+PAGE = 4096
+WORDS_A_PAGE = PAGE // 4
+LAUNCHER, CODE, DATA = 0x0001_0000, 0x0001_1000, 0x0002_0000
+INPUT, STACK = 0x0010_0000, 0x0010_f000
+READABLE, WRITABLE, EXECUTABLE = 4, 2, 1
+LUI, AUIPC, JAL, JALR, BRANCH, LOAD, STORE, OP_IMM, OP, FENCE, SYSTEM = (
+    0x37, 0x17, 0x6F, 0x67, 0x63, 0x03, 0x23, 0x13, 0x33, 0x0F, 0x73,
+)
+INPUT_REGISTER, NUMBER_REGISTER, START_REGISTER = 10, 17, 31
+IN_CODE, IN_DATA = (5, 6, START_REGISTER), (2, 8, 9, INPUT_REGISTER)
+FREE = [number for number in range(32) if number not in (NUMBER_REGISTER, *IN_CODE, *IN_DATA)]
+CALL_NUMBERS = (0, 2, 3, 4, 6)
+"""Of storage calls whose gas depends on registers alone."""
+EDGES = (0, 1, 2, 31, 32, 2**31 - 1, 2**31, 2**32 - 1)
+
+
+@dataclass(frozen=True)
+class Access:
+    """What a load or a store names."""
+
+    base: int
+    offset: int
+
+
+@dataclass(frozen=True)
+class Arm:
+    """A kind of word: what makes one for a place in its page, with these numbers."""
+
+    make: Callable[..., int]
+    numbers: tuple[int, ...] = ()
+
+
+@dataclass(frozen=True)
+class RandomProgram:
+    """A program file, and how many random words it has."""
+
+    file: bytes
+    count: int
+
+
+def word_of_r(funct7: int, rs2: int, rs1: int, funct3: int, rd: int, opcode: int) -> int:
+    """An instruction of the form R."""
+    return funct7 << 25 | rs2 << 20 | rs1 << 15 | funct3 << 12 | rd << 7 | opcode
+
+
+def word_of_i(immediate: int, rs1: int, funct3: int, rd: int, opcode: int) -> int:
+    """An instruction of the form I."""
+    return (immediate & 0xFFF) << 20 | rs1 << 15 | funct3 << 12 | rd << 7 | opcode
+
+
+def word_of_s(immediate: int, rs2: int, rs1: int, funct3: int) -> int:
+    """A store."""
+    return word_of_r((immediate & 0xFFF) >> 5, rs2, rs1, funct3, immediate & 31, STORE)
+
+
+def word_of_b(offset: int, rs2: int, rs1: int, funct3: int) -> int:
+    """A branch."""
+    high = (offset >> 12 & 1) << 6 | offset >> 5 & 63
+    return word_of_r(high, rs2, rs1, funct3, (offset >> 1 & 15) << 1 | offset >> 11 & 1, BRANCH)
+
+
+def word_of_j(offset: int, rd: int) -> int:
+    """A jump."""
+    top = (offset >> 20 & 1) << 19 | (offset >> 1 & 1023) << 9 | (offset >> 11 & 1) << 8 | offset >> 12 & 255
+    return top << 12 | rd << 7 | JAL
+
+
+class Words:
+    """Random words: each instruction is about as frequent as each other, and one word in thirty is any word."""
+
+    def __init__(self, choice: Random) -> None:
+        self.choice = choice
+        self.arms = [
+            *(Arm(self.computed, (OP, funct3, funct7)) for funct3 in range(8) for funct7 in (0, 1)),
+            Arm(self.computed, (OP, 0, 32)), Arm(self.computed, (OP, 5, 32)),
+            *(Arm(self.immediate, (funct3,)) for funct3 in (0, 2, 3, 4, 6, 7)),
+            Arm(self.computed, (OP_IMM, 1, 0)), Arm(self.computed, (OP_IMM, 5, 0)), Arm(self.computed, (OP_IMM, 5, 32)),
+            *(Arm(self.load, (funct3,)) for funct3 in (0, 1, 2, 4, 5)), *(Arm(self.store, (funct3,)) for funct3 in (0, 1, 2)),
+            *(Arm(self.branch, (funct3,)) for funct3 in (0, 1, 4, 5, 6, 7)),
+            Arm(self.upper, (LUI,)), Arm(self.upper, (AUIPC,)), Arm(self.jump), Arm(self.jump_to_register), Arm(self.fence),
+            Arm(self.neighbour), Arm(self.any_word),
+        ]
+
+    def word(self, place: int) -> int:
+        """A word for this place in its page."""
+        arm = self.choice.choice(self.arms)
+        return arm.make(place, *arm.numbers)
+
+    def is_one_in(self, number: int) -> bool:
+        """Whether a draw of one in so many comes."""
+        return self.choice.randrange(number) == 0
+
+    def destination(self) -> int:
+        """Registers that hold addresses are rarely written, and that of the number of a storage call never."""
+        if self.is_one_in(16):
+            return self.choice.choice([number for number in range(32) if number != NUMBER_REGISTER])
+        return self.choice.choice(FREE)
+
+    def source(self) -> int:
+        """Any register."""
+        return self.choice.randrange(32)
+
+    def computed(self, _place: int, opcode: int, funct3: int, funct7: int) -> int:
+        """An instruction of two registers."""
+        return word_of_r(funct7, self.source(), self.source(), funct3, self.destination(), opcode)
+
+    def immediate(self, _place: int, funct3: int) -> int:
+        """An instruction of a register and a number."""
+        return word_of_i(self.choice.randrange(4096), self.source(), funct3, self.destination(), OP_IMM)
+
+    def access(self) -> Access:
+        """Mostly within what may be loaded and stored to."""
+        if self.is_one_in(16):
+            return Access(self.source(), self.choice.randrange(-2048, 2048))
+        unit = self.choice.choice((4, 4, 4, 4, 4, 4, 4, 1))
+        return Access(self.choice.choice((*IN_DATA, *IN_DATA, IN_CODE[0])), self.choice.randrange(-2048, 2048, unit))
+
+    def load(self, _place: int, funct3: int) -> int:
+        """A load."""
+        access = self.access()
+        return word_of_i(access.offset, access.base, funct3, self.destination(), LOAD)
+
+    def store(self, _place: int, funct3: int) -> int:
+        """A store."""
+        access = self.access()
+        return word_of_s(access.offset, self.source(), access.base, funct3)
+
+    def distance(self, place: int) -> int:
+        """To a word nearby or anywhere in the page, to its edges, or to no word."""
+        kind = self.choice.randrange(32)
+        if kind == 0:
+            return self.choice.randrange(-4096, 4096, 2)
+        if kind < 3:
+            return self.choice.choice((-1, 0, WORDS_A_PAGE - 1, WORDS_A_PAGE)) * 4 - place
+        if kind < 8:
+            return self.choice.randrange(WORDS_A_PAGE) * 4 - place
+        return self.choice.choice((-3, -2, 2, 2, 2, 3, 3, 4, 5, 8)) * 4
+
+    def branch(self, place: int, funct3: int) -> int:
+        """A branch."""
+        distance = max(-4096, min(4094, self.distance(place)))
+        return word_of_b(distance, self.source(), self.source(), funct3)
+
+    def jump(self, place: int) -> int:
+        """A jump to a label."""
+        distance = self.choice.randrange(-(2**20), 2**20, 2) if self.is_one_in(64) else self.distance(place)
+        return word_of_j(distance, self.destination())
+
+    def jump_to_register(self, _place: int) -> int:
+        """A jump to a register."""
+        base = self.source() if self.is_one_in(16) else self.choice.choice(IN_CODE)
+        return word_of_i(self.choice.randrange(-256, 256, 1 if self.is_one_in(8) else 4), base, 0, self.destination(), JALR)
+
+    def upper(self, _place: int, opcode: int) -> int:
+        """A LUI or AUIPC."""
+        return self.choice.randrange(2**20) << 12 | self.destination() << 7 | opcode
+
+    def fence(self, _place: int) -> int:
+        """A fence, an ECALL or an EBREAK."""
+        if self.is_one_in(4):
+            return self.choice.choice((SYSTEM, SYSTEM, SYSTEM, 1 << 20 | SYSTEM))
+        return word_of_i(self.choice.randrange(4096), self.source(), 0, self.destination(), FENCE)
+
+    def neighbour(self, _place: int) -> int:
+        """An opcode with functs that it may not have."""
+        opcode = self.choice.choice((JALR, BRANCH, LOAD, STORE, OP_IMM, OP, FENCE, SYSTEM))
+        functs = self.choice.choice((0, 1, 2, 16, 32, 64, 127)), self.choice.randrange(8)
+        return word_of_r(functs[0], self.source(), self.source(), functs[1], self.destination(), opcode)
+
+    def any_word(self, _place: int) -> int:
+        """Any word."""
+        return self.choice.randrange(2**32)
+
+
+def launcher() -> list[int]:
+    """Loads x1 to x31 from the input, and jumps to the address in x31."""
+    loads = [word_of_i(4 * number, INPUT_REGISTER, 2, number, LOAD) for number in range(1, 32) if number != INPUT_REGISTER]
+    loads.append(word_of_i(4 * INPUT_REGISTER, INPUT_REGISTER, 2, INPUT_REGISTER, LOAD))
+    return loads + [word_of_i(0, START_REGISTER, 0, 0, JALR)]
+
+
+def bytes_of(words: Sequence[int]) -> bytes:
+    """The bytes of some words."""
+    return struct.pack(f"<{len(words)}I", *words)
+
+
+def program_of(choice: Random, words: Words) -> RandomProgram:
+    """A program of one or two pages of random words, after a page that launches them."""
+    count = WORDS_A_PAGE * choice.choice((1, 1, 2))
+    code = bytes_of([words.word(place * 4 % PAGE) for place in range(count)])
+    first = bytes_of(launcher()).ljust(PAGE, b"\0")
+    rights = EXECUTABLE | choice.choice((0, READABLE, READABLE, READABLE))
+    segments = [
+        Part(LAUNCHER, first, EXECUTABLE),
+        Part(CODE, code, rights),
+        Part(DATA, choice.randbytes(PAGE), READABLE | WRITABLE),
+    ]
+    return RandomProgram(elf_of(*segments), count)
+
+
+def input_of(choice: Random, count: int) -> bytes:
+    """An input that starts a program of so many random words at one of them."""
+    registers = [choice.choice((choice.randrange(2**32), choice.choice(EDGES))) for _ in range(32)]
+    for number in IN_CODE:
+        registers[number] = CODE + 4 * choice.randrange(count)
+    for number, first in zip(IN_DATA, (STACK, DATA, DATA, INPUT)):
+        registers[number] = first + 2048 + 4 * choice.randrange(-16, 16)
+    registers[NUMBER_REGISTER] = choice.choice((*CALL_NUMBERS, choice.randrange(2**32)))
+    return bytes_of(registers)

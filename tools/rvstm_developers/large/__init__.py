@@ -1,0 +1,1 @@
+"""Blocks, sessions and texts as large as the rules allow."""

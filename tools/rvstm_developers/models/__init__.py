@@ -1,0 +1,1 @@
+"""Models in Python of parts of rvstm."""

@@ -1,0 +1,364 @@
+"""Calls and blocks in Python, by the rules alone and without rvstm: programs of a few instructions, their files, and what
+`rvstm seq` and `rvstm conflicts` have to print of blocks of them."""
+
+import math
+import re
+import struct
+from collections.abc import Iterable, Mapping, Sequence
+from typing import NamedTuple, Self
+
+from rvstm_developers import texts
+from rvstm_developers.models import waits
+from rvstm_developers.texts import word
+from rvstm_tools.models import charges
+from rvstm_tools.models.charges import StorageCall
+from rvstm_tools.texts import blocks
+from rvstm_tools.texts.blocks import CallLine, Rules
+from rvstm_tools.texts.keys import KEY_LENGTH, Key, Storage
+from rvstm_tools.texts.results import Added, Change, End, Receipt, Removed, Written
+from rvstm_tools.texts.tables import REGISTERS as NAMES
+
+TEXT, DATA, INPUT, MEMORY_END = 0x10000, 0x20000, 0x100000, 0x110000
+PAGE = 4096
+EXECUTE, WRITE, READ = 1, 2, 4
+ABSENT, LONGER = 2**32 - 1, 2**32 - 2
+MOST_WRITES, LONGEST_OUTPUT = 256, 256
+REGISTERS = {name: number for number, name in enumerate(NAMES)}
+SP, A0, A1, A2, A7 = (REGISTERS[name] for name in ("sp", "a0", "a1", "a2", "a7"))
+BRANCHES = {"beq": 0, "bne": 1}
+
+
+# ---- programs: the lines of a source, and the words and the file that they are
+
+
+class Instruction(NamedTuple):
+    """An instruction: its name, and its operands as registers and numbers, in the order of its text."""
+
+    name: str
+    first: int = 0
+    second: int = 0
+    third: int = 0
+
+
+class Part(NamedTuple):
+    """A segment of a program file: its address, its bytes, and its rights."""
+
+    address: int
+    data: bytes
+    rights: int
+
+
+def number_of(text: str, labels: Mapping[str, int], here: int) -> int:
+    """An operand: a register, a label as the distance to it, or a number."""
+    if text in REGISTERS:
+        return REGISTERS[text]
+    return labels[text] - here if text in labels else int(text, 0)
+
+
+def instructions_of(source: Sequence[str]) -> list[Instruction]:
+    """The instructions of a source; an `li` is two of them."""
+    rows: list[Sequence[str]] = []
+    labels: dict[str, int] = {}
+    for line in source:
+        if line.endswith(":"):
+            labels[line[:-1]] = 4 * len(rows)
+            continue
+        name, *operands = re.split(r"[ ,()]+", line.strip(")"))
+        rows += [("lui", *operands), ("addi", operands[0], *operands)] if name == "li" else [(name, *operands)]
+    return [made(row, labels, 4 * place) for place, row in enumerate(rows)]
+
+
+def made(row: Sequence[str], labels: Mapping[str, int], here: int) -> Instruction:
+    """An instruction of its words; of an `li` the part that it is."""
+    name, *operands = row
+    if len(operands) == 2 and name == "lui":
+        return Instruction(name, REGISTERS[operands[0]], (int(operands[1], 0) + 0x800 >> 12) & 0xFFFFF)
+    numbers = [number_of(text, labels, here) for text in operands]
+    if name == "addi" and operands[0] == operands[1] and not -0x800 <= numbers[2] < 0x800:
+        numbers[2] = (numbers[2] + 0x800) % 0x1000 - 0x800
+    return Instruction(name, *numbers)
+
+
+def encoded(row: Instruction) -> int:
+    """The word of an instruction (the tables of the manual)."""
+    name, first, second, third = row
+    match name:
+        case "ecall":
+            return 0x73
+        case "lui":
+            return second << 12 | first << 7 | 0x37
+        case "addi":
+            return (third & 0xFFF) << 20 | second << 15 | first << 7 | 0x13
+        case "add":
+            return third << 20 | second << 15 | first << 7 | 0x33
+        case "lw":
+            return (second & 0xFFF) << 20 | third << 15 | 2 << 12 | first << 7 | 0x03
+        case "sw":
+            return (second >> 5 & 0x7F) << 25 | first << 20 | third << 15 | 2 << 12 | (second & 31) << 7 | 0x23
+    low = (third >> 1 & 15) << 8 | (third >> 11 & 1) << 7
+    high = (third >> 12 & 1) << 31 | (third >> 5 & 0x3F) << 25
+    return high | second << 20 | first << 15 | BRANCHES[name] << 12 | low | 0x63
+
+
+def elf_of(*segments: Part) -> bytes:
+    """A program file of some parts; the entry is the address of the first one."""
+    offset, headers = 52 + 32 * len(segments), b""
+    for address, data, rights in segments:
+        headers += struct.pack("<8I", 1, offset, address, address, len(data), len(data), rights, 4)
+        offset += len(data)
+    ident = b"\x7fELF\x01\x01\x01".ljust(16, b"\0")
+    head = struct.pack("<HHIIIIIHHHHHH", 2, 243, 1, segments[0].address, 52, 0, 0, 52, 32, len(segments), 0, 0, 0)
+    return ident + head + headers + b"".join(one.data for one in segments)
+
+
+class Program:
+    """A program of one page of text, and its file."""
+
+    def __init__(self, source: Sequence[str], data: bytes = b"") -> None:
+        self.source, self.data = source, data
+        self.code = instructions_of(source)
+        self.text = b"".join(word(encoded(row)) for row in self.code)
+        segments = [Part(TEXT, self.text, READ | EXECUTE)] + [Part(DATA, data, READ | WRITE)] * bool(data)
+        self.file = elf_of(*segments)
+        assert len(self.text) <= PAGE
+
+
+# ---- one call
+
+
+class Call:
+    """A call that runs over a storage, which it does not change. Its steps are counted, and the keys of its reads are kept."""
+
+    def __init__(self, program: Program, rules: int, store: Storage, limit: int, data: bytes) -> None:
+        self.program, self.rules, self.store, self.left, self.limit = program, rules, store, limit, limit
+        self.pc, self.steps, self.output = TEXT, 0, b""
+        self.end: End | None = None
+        self.registers = [0] * 32
+        self.registers[SP], self.registers[A0], self.registers[A1] = MEMORY_END, INPUT, len(data)
+        self.memory = bytearray(MEMORY_END - TEXT)
+        for address, content in ((TEXT, program.text), (DATA, program.data), (INPUT, data)):
+            self.memory[address - TEXT : address - TEXT + len(content)] = content
+        self.changes: dict[Key, Change] = {}
+        self.keys: list[Key] = []
+
+    def until(self, steps: float) -> Self:
+        """Makes steps until so many are made, or the call has ended."""
+        code = self.program.code
+        while self.end is None and self.steps < steps:
+            self.step(code[(self.pc - TEXT) // 4])
+            self.steps += 1
+        return self
+
+    def step(self, row: Instruction) -> None:
+        """Makes one step."""
+        name, first, second, third = row
+        registers = self.registers
+        if name == "ecall":
+            return self.storage_call()
+        if not self.charge(charges.of_instruction(name)):
+            return
+        after = self.pc + 4
+        if name == "addi":
+            registers[first] = (registers[second] + third) % 2**32
+        elif name in BRANCHES:
+            if (registers[first] != registers[second]) == (name == "bne"):
+                after = self.pc + third
+        elif name == "add":
+            registers[first] = (registers[second] + registers[third]) % 2**32
+        elif name == "lui":
+            registers[first] = second << 12
+        elif not self.access(row, (registers[third] + second) % 2**32):
+            return self.ends(End.MEMORY_FAULT)
+        registers[0] = 0
+        self.pc = after
+
+    def access(self, row: Instruction, address: int) -> bool:
+        """Loads or stores a word. Returns whether that is allowed."""
+        assert address % 4 == 0
+        if not self.may(address, 4, is_written=row.name == "sw"):
+            return False
+        place = address - TEXT
+        if row.name == "sw":
+            self.memory[place : place + 4] = word(self.registers[row.first])
+        else:
+            self.registers[row.first] = int.from_bytes(self.memory[place : place + 4], "little")
+        return True
+
+    def may(self, address: int, length: int, is_written: bool = False) -> bool:
+        """Whether bytes may be read or written: the page of text may not be written."""
+        first = TEXT + PAGE if is_written else TEXT
+        return length == 0 or (first <= address and address + length <= MEMORY_END)
+
+    def ends(self, end: End) -> None:
+        """Ends the call."""
+        self.end = end
+
+    def charge(self, gas: int) -> bool:
+        """Charges gas. Returns whether there was enough; otherwise the call ends."""
+        if self.left < gas:
+            self.left = 0
+            self.ends(End.OUT_OF_GAS)
+            return False
+        self.left -= gas
+        return True
+
+    def storage_call(self) -> None:
+        """An ECALL: number, length, gas, rights, and how many keys are written, in this order."""
+        number, (at, second, third) = self.registers[A7], self.registers[A0 : A2 + 1]
+        ending = number in (StorageCall.RETURN, StorageCall.REVERT)
+        length = second if ending else third if number in (StorageCall.READ, StorageCall.WRITE) else 0
+        if number > StorageCall.ADD or (number == StorageCall.ADD and self.rules < 3):
+            return self.ends(End.UNKNOWN_CALL)
+        if length > (LONGEST_OUTPUT if ending else Rules(self.rules).longest_value):
+            return self.ends(End.BAD_LENGTH)
+        if not self.charge(charges.of_storage_call(number, length, 0, self.rules)):
+            return
+        ranges: dict[int, bool] = {StorageCall.READ: self.may(second, length, is_written=True), StorageCall.WRITE: self.may(second, length)}
+        if not self.may(at, length if ending else KEY_LENGTH) or not ranges.get(number, True):
+            return self.ends(End.MEMORY_FAULT)
+        if ending:
+            self.output = self.bytes(at, length)
+            return self.ends(End.RETURNED if number == StorageCall.RETURN else End.REVERTED)
+        self.touch(number, Key(self.bytes(at, KEY_LENGTH)), second, third)
+
+    def touch(self, number: int, key: Key, second: int, length: int) -> None:
+        """A storage call on a key."""
+        if number == StorageCall.READ:
+            if not self.read(key, second, length):
+                return
+        elif key not in self.changes and len(self.changes) == MOST_WRITES:
+            return self.ends(End.TOO_MANY_WRITES)
+        elif number == StorageCall.ADD:
+            self.changes[key] = self.added(self.changes.get(key), second + (length << 32))
+        else:
+            self.changes[key] = Written(self.bytes(second, length)) if number == StorageCall.WRITE else Removed()
+        self.pc += 4
+
+    def read(self, key: Key, buffer: int, capacity: int) -> bool:
+        """A READ. Returns whether the gas was enough."""
+        change = self.changes.get(key)
+        if change is None or isinstance(change, Added):
+            self.keys.append(key)
+        value = value_after(self.store.get(key), change)
+        copied = 0 if value is None or len(value) > capacity else len(value)
+        if self.rules > 1 and not self.charge(copied):
+            return False
+        if value is not None and copied:
+            self.memory[buffer - TEXT : buffer - TEXT + copied] = value
+        self.registers[A0] = ABSENT if value is None else LONGER if len(value) > capacity else copied
+        return True
+
+    def added(self, change: Change | None, amount: int) -> Change:
+        """What an ADD makes of the call's own change at a key."""
+        if change is None or isinstance(change, Added):
+            return Added(((change.amount if change else 0) + amount) % 2**64)
+        return Written(laid(value_after(None, change), amount))
+
+    def bytes(self, address: int, length: int) -> bytes:
+        """Some bytes of memory."""
+        return bytes(self.memory[address - TEXT : address - TEXT + length])
+
+    def receipt(self, number: int) -> Receipt:
+        """Its receipt, once it has ended."""
+        assert self.end is not None
+        changes = dict(sorted(self.changes.items())) if self.end is End.RETURNED else {}
+        return Receipt(number, self.end, self.limit - self.left, self.pc, self.output, tuple(self.registers), changes)
+
+
+def laid(value: bytes | None, amount: int) -> bytes:
+    """A value with an amount added: one of eight bytes is a number, and all else is zero."""
+    number = int.from_bytes(value, "little") if value is not None and len(value) == 8 else 0
+    return word((number + amount) % 2**64, 8)
+
+
+def value_after(value: bytes | None, change: Change | None) -> bytes | None:
+    """The value of a key after a change; None if it has none."""
+    match change:
+        case None:
+            return value
+        case Written(written):
+            return written
+        case Added(amount):
+            return laid(value, amount)
+        case Removed():
+            return None
+
+
+def field_of(change: Change) -> str:
+    """A change as a line `write` has it."""
+    match change:
+        case Added(amount):
+            return f"add {amount}"
+        case Removed():
+            return "gone"
+        case Written(value):
+            return blocks.field_of(value)
+
+
+# ---- blocks
+
+
+class Block:
+    """A block under some rules: programs, a storage, and calls."""
+
+    def __init__(
+        self, programs: Sequence[Program], calls: Iterable[CallLine], store: Storage | None = None, rules: int = 1
+    ) -> None:
+        self.programs, self.calls, self.store, self.rules = programs, list(calls), store or {}, rules
+        self.receipts: list[Receipt] | None = None
+        self.keys: list[list[Key]] = []
+        """Of each call the keys that it read."""
+        self.left: Storage = {}
+
+    def text(self, paths: Iterable[str], store: Storage | None = None) -> bytes:
+        """The block file."""
+        return texts.block_text(paths, self.store if store is None else store, self.calls, texts.head_of(self.rules)).encode()
+
+    def ran(self) -> list[Receipt]:
+        """The receipts of the calls, which run in order if they did not run before."""
+        if self.receipts is not None:
+            return self.receipts
+        self.receipts, self.left = [], dict(self.store)
+        for number, (program, limit, data) in enumerate(self.calls):
+            call = Call(self.programs[program], self.rules, self.left, limit, data).until(math.inf)
+            receipt = call.receipt(number)
+            self.receipts.append(receipt)
+            self.keys.append(call.keys)
+            self.lay(receipt.changes)
+        return self.receipts
+
+    def storage(self) -> Storage:
+        """The storage after the calls."""
+        self.ran()
+        return self.left
+
+    def lay(self, changes: Mapping[Key, Change]) -> None:
+        """Puts what a call changed into the storage."""
+        for key, change in changes.items():
+            value = value_after(self.left.get(key), change)
+            if value is None:
+                self.left.pop(key, None)
+            else:
+                self.left[key] = value
+
+    def receipts_text(self, is_brief: bool = False) -> str:
+        """The lines `call`, `regs` and `write`."""
+        lines = []
+        for one in self.ran():
+            lines.append(f"call {one.number} {one.end} gas {one.gas} pc {one.pc:08x} out {blocks.field_of(one.output)}\n")
+            lines += [] if is_brief else [f"regs {' '.join(f'{value:08x}' for value in one.registers)}\n"]
+            lines += [f"write {one.number} {key.hex()} {field_of(change)}\n" for key, change in one.changes.items()]
+        return "".join(lines)
+
+    def result(self) -> bytes:
+        """What `seq` prints."""
+        return f"{self.receipts_text()}{''.join(blocks.store_lines(self.storage()))}end\n".encode()
+
+    def conflicts(self) -> bytes:
+        """What `conflicts` prints."""
+        return waits.text_of_reads(self.ran(), map(set, self.keys)).encode()
+
+    def steps_by_one(self) -> int:
+        """How many steps one worker makes."""
+        receipts = self.ran()
+        return sum(5 + 2 * len(keys) + len(receipt.changes) for keys, receipt in zip(self.keys, receipts))

@@ -1,0 +1,1 @@
+"""Sources of Rattle, and checks of them."""

@@ -1,0 +1,1 @@
+"""Files of sessions: what they hold, and what is done to them."""

@@ -1,0 +1,48 @@
+"""Texts and bytes that many commands make: block files in each format, numbers, and folders that stay."""
+
+import shutil
+import tempfile
+from collections.abc import Iterable
+from pathlib import Path
+
+from rvstm_tools.texts import blocks
+from rvstm_tools.texts.blocks import CallLine, Rules
+from rvstm_tools.texts.keys import Storage
+
+TOP = Path(__file__).resolve().parents[2]
+"""The checkout."""
+
+HEADS = (Rules.ONE.head, "rvblock 2\ngas 1\n", Rules.TWO.head, Rules.THREE.head)
+"""What a block file may begin with: rules one in the first format, and rules one to three in the second."""
+
+LONGEST_VALUES = dict(zip(HEADS, (64, 64, 256, 256)))
+
+
+def head_of(rules: int) -> str:
+    """What a block file of these rules begins with, in the first format that has them."""
+    return Rules(rules).head
+
+
+def block_text(
+    paths: Iterable[object], storage: Storage | None = None, calls: Iterable[CallLine] = (), head: str = HEADS[0]
+) -> str:
+    """A block file with this head."""
+    return head + blocks.text(map(str, paths), storage, calls).removeprefix(HEADS[0])
+
+
+def word(number: int, size: int = 4) -> bytes:
+    """A number in `size` bytes, the lowest first."""
+    return number.to_bytes(size, "little")
+
+
+def lines_of(items: Iterable[object]) -> str:
+    """A text with one item a line."""
+    return "".join(f"{item}\n" for item in items)
+
+
+def kept_folder(prefix: str, files: Iterable[str | Path] = ()) -> Path:
+    """A new folder that stays, with copies of some files, for a run that differs."""
+    folder = Path(tempfile.mkdtemp(prefix=prefix))
+    for file in files:
+        shutil.copy(file, folder)
+    return folder
