@@ -4,15 +4,18 @@ A line of the list is `crate::name(TYPE, ..) -> TYPE`, as the source has it with
 another form, the line ends with `  # ` and the reason. Lines that begin with `#` and empty lines say nothing.
 """
 
-import pathlib
 import re
+from collections.abc import Iterator
 
-LIST = pathlib.Path(__file__).resolve().parent / "rule_calls.txt"
-NAMED = re.compile(r"^(\w+)::([\w:]+)")
+from checks import sources
+from checks.calls import Call, call_of
+
+LIST = sources.TOP / "docs/rule_calls.txt"
+NAMED = re.compile(r"^\w+::[\w:]+")
 HEAD = re.compile(r"\bfn \w+(?:<.*?>)?\((?P<arguments>.*?),?\)(?: -> (?P<result>.*))?$")
 
 
-def split_types(text):
+def split_types(text: str) -> list[str]:
     """The parts of a list at its outermost commas."""
     depth, parts = 0, [""]
     for before, sign in zip(" " + text, text, strict=False):
@@ -25,36 +28,34 @@ def split_types(text):
     return [part.strip() for part in parts if part.strip()]
 
 
-def type_of(argument):
-    """An argument's type. `self` has none but its form."""
+def type_of(argument: str) -> str:
+    """An argument's type. `self` has only its form."""
     return argument if re.fullmatch(r"(?:&(?:mut )?|mut )?self", argument) else argument.partition(":")[2].strip()
 
 
-def signature_of(path, head):
-    """A call's path with the types of its arguments and its result, of the text of its head; the path alone of a type."""
-    text = " ".join(line.strip() for line in head.splitlines() if not line.strip().startswith("//"))
+def signature_of(call: Call) -> str:
+    """A call's path with the types of its arguments and its result; the path alone of a type."""
+    text = " ".join(line.strip() for line in call.head.splitlines() if not line.strip().startswith("//"))
     text = re.split(r" (?:where|requires|ensures)\b|\{|;", text)[0].strip()
     found = HEAD.search(text)
     if not found:
-        return path
+        return call.full_name
     types = ", ".join(type_of(argument).removeprefix("mut ") for argument in split_types(found["arguments"]))
     result = f" -> {found['result'].strip()}" if found["result"] else ""
-    return f"{path}({types}){result}"
+    return f"{call.full_name}({types}){result}"
 
 
-def listed():
-    """The signatures of the list, by the path of their call."""
-    lines = (line.partition("  # ")[0].strip() for line in LIST.read_text().splitlines() if not line.startswith("#"))
-    return {NAMED.match(line)[0]: line for line in lines if line}
+def listed(text: str) -> dict[str, str]:
+    """The signatures of a list, by the path of their call."""
+    lines = (line.partition("  # ")[0].strip() for line in text.splitlines() if not line.startswith("#"))
+    return {found[0]: line for line in lines if (found := NAMED.match(line))}
 
 
-def differences(known):
-    """What differs: `known` has the heads of the public calls of each crate, by their paths in it."""
-    for path, wanted in listed().items():
-        crate, _, name = path.partition("::")
-        if name not in known.get(crate, {}):
+def differences() -> Iterator[str]:
+    """How the sources differ from the list."""
+    for path, wanted in listed(LIST.read_text()).items():
+        call = call_of(path)
+        if not call:
             yield f"docs/rule_calls.txt: there is no public {path}, which the rules name"
-            continue
-        found = signature_of(path, known[crate][name])
-        if found != wanted:
-            yield f"docs/rule_calls.txt: {path} is {found}, and not {wanted}"
+        elif signature_of(call) != wanted:
+            yield f"docs/rule_calls.txt: {path} is {signature_of(call)}, and not {wanted}"
