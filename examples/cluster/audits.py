@@ -1,14 +1,16 @@
 """Compares what all nodes published: the digests and the dumps at each height, and the log itself."""
 
+from collections.abc import Iterable, Iterator, Sequence
+
 import etcd
 import ledger
-from etcd import below
-from ledger import BLOCKS, DIGESTS, DUMPS, GENESIS, LOG
+from etcd import Etcd, Pair, below
+from ledger import BLOCKS, DIGESTS, DUMPS, GENESIS, LOG, Values
 
 PAIRS_A_READ = 500
 
 
-def all_below(client, prefix, **options):
+def all_below(client: Etcd, prefix: str, **options: object) -> Iterator[Pair]:
     """All pairs below a prefix, in pieces."""
     first = prefix
     while True:
@@ -19,21 +21,21 @@ def all_below(client, prefix, **options):
         first = pairs[-1].key + "\0"
 
 
-def changed(pairs):
+def changed(pairs: Iterable[Pair]) -> list[str]:
     return [f"{pair.key} was changed" for pair in pairs if pair.made != pair.changed]
 
 
-def differing(kind, told):
+def differing(kind: str, told: Values) -> list[str]:
     return [
         f"{kind} at height {height} differ: " + ", ".join(f"{name} {value[:16]}" for name, value in sorted(values.items()))
         for height, values in told.items() if len(set(values.values())) != 1
     ]
 
 
-def audit(client, names=()):
+def audit(client: Etcd, names: Sequence[str] = ()) -> tuple[list[str], str]:
     """What is wrong, as lines, and what was seen. Each of the names has to have a digest at the last height; one that began with
     a dump has none at the heights that it passed over."""
-    gone, is_frame = ledger.pruned(client)[0], b'"frame"' in client.get(ledger.SETTINGS).value
+    gone, is_frame = ledger.pruned(client)[0], b'"frame"' in client.need(ledger.SETTINGS).value
     entries = sorted(all_below(client, LOG, keys_only=True), key=lambda pair: pair.made)
     begun = next(pair.made for pair in entries if pair.key == GENESIS)
     first = [begun] if is_frame and not gone else []

@@ -6,7 +6,11 @@ import shutil
 import signal
 import sys
 import time
+from collections.abc import Callable, Mapping, Sequence
 from pathlib import Path
+from random import Random
+from subprocess import Popen
+from typing import NoReturn
 
 import transfers  # first: it finds tools/
 import audits
@@ -14,7 +18,9 @@ import engines
 import etcd
 import ledger
 from rvstm_tools.sessions.processes import Session, Settings
-from clusters import HERE, MEMBERS, WITH_FILES, changed_program, say
+from clusters import HERE, MEMBERS, WITH_FILES, Cluster, changed_program, say
+from etcd import Object
+from networks import Network
 
 CALLS, PAUSE = 20, 0.3
 SECONDS_PARTED = 6
@@ -28,12 +34,12 @@ FAKETIME = Path("/usr/lib/x86_64-linux-gnu/faketime/libfaketime.so.1")  # of Deb
 
 
 class Trial:
-    def __init__(self, cluster, source):
+    def __init__(self, cluster: Cluster, source: Random) -> None:
         self.cluster, self.random, self.names = cluster, source, list(cluster.kinds)
         self.wrong = self.faults = self.digests_pruned = 0
-        self.proposers = {}
+        self.proposers: dict[str, Popen[bytes]] = {}
 
-    def begin(self):
+    def begin(self) -> None:
         self.cluster.begin()
         for name in self.names:
             self.cluster.node(name)
@@ -41,14 +47,14 @@ class Trial:
             self.propose(name)
         self.cluster.settle(self.names)
 
-    def propose(self, name):
+    def propose(self, name: str) -> None:
         self.proposers[name] = self.cluster.propose(name, 10**6, "--calls", CALLS, "--pause", PAUSE)
 
-    def expect(self, is_so, text):
+    def expect(self, is_so: bool, text: str) -> None:
         self.wrong += not is_so
         say(("" if is_so else "WRONG: ") + text)
 
-    def inject(self, fault):
+    def inject(self, fault: "Fault") -> None:
         """Does what a fault is, appends a block behind it, and waits until all nodes have run that."""
         self.faults += 1
         try:
@@ -63,50 +69,60 @@ class Trial:
                 self.expect(False, f"{name} ended: {self.cluster.log(name).splitlines()[-1]}")
                 self.propose(name) if name in self.proposers else self.cluster.node(name)
 
-    def node(self):
+    def node(self) -> str:
         return self.random.choice(self.names)
 
-    def engine(self, name):
+    def engine(self, name: str) -> int | None:
         """The process of a node's engine, if it is one that the node has told already."""
         told = re.findall(r"engine (\d+|in this process)", self.cluster.log(name))
         return int(told[-1]) if told and told[-1].isdigit() else None
 
-    def again(self, name):
+    def engine_of(self, name: str) -> int:
+        """The process of an engine that is one."""
+        pid = self.engine(name)
+        if pid is None:
+            raise ValueError(f"the engine of {name} is no process")
+        return pid
+
+    def again(self, name: str) -> None:
         """Starts a node, and waits until it has run a block that is new."""
         self.cluster.node(name)
         self.cluster.append(transfers.transfers(self.random, CALLS))
         self.cluster.settle([name])
 
-    def without_a_file(self):
+    def without_a_file(self) -> str:
         """A node that begins again with a dump."""
         return self.random.choice([name for name in self.names if name not in WITH_FILES])
 
-    def count_of(self, name, text):
+    def count_of(self, name: str, text: str) -> int:
         return self.cluster.log(name).count(text)
 
-    def told_last(self, name, text):
+    def told_last(self, name: str, text: str) -> str:
         return [line for line in self.cluster.log(name).splitlines() if text in line][-1].split(" ", 2)[2]
 
-    def stop(self, name, seconds):
+    def stop(self, name: str, seconds: float) -> None:
         """Stops a process for a while."""
         self.cluster.all[name].send_signal(signal.SIGSTOP)
         time.sleep(seconds)
         self.cluster.all[name].send_signal(signal.SIGCONT)
 
-    def part(self, name):
+    def part(self, name: str) -> None:
         """Parts a process from all others for a while, or stops it where there are no networks."""
-        if not hasattr(self.cluster.network, "part"):
+        network = self.cluster.network
+        if not isinstance(network, Network):
             return self.stop(name, SECONDS_PARTED)
-        self.cluster.network.part(name)
+        network.part(name)
         time.sleep(SECONDS_PARTED)
-        self.cluster.network.part(name, False)
+        network.part(name, False)
 
-    def stranger(self, name, *words, **how):
+    def stranger(
+        self, name: str, *words: object, script: str = "node", under: Sequence[str | Path] = (), env: Mapping[str, str] | None = None
+    ) -> str:
         """A node beside the others, which is ended when it has come to the last height. Answers what it said."""
         shutil.rmtree(self.cluster.folder / name, ignore_errors=True)
         self.cluster.logs.pop(name, None)
         (self.cluster.folder / f"{name}.log").unlink(missing_ok=True)
-        self.cluster.node(name, *words, **how)
+        self.cluster.node(name, *words, script=script, under=under, env=env)
         height, until = self.cluster.heights(), time.monotonic() + SECONDS_A_STRANGER
         while not self.cluster.is_at(name, height) and self.cluster.all[name].poll() is None and time.monotonic() < until:
             time.sleep(0.1)
@@ -115,7 +131,7 @@ class Trial:
         self.cluster.all.pop(name).wait()
         return told
 
-    def end(self):
+    def end(self) -> int:
         """The last audit, and the controls."""
         for process in self.proposers.values():
             process.terminate()
@@ -129,7 +145,7 @@ class Trial:
         return 1 if self.wrong else 0
 
 
-def node_killed(trial):
+def node_killed(trial: Trial) -> str:
     name = trial.node()
     trial.cluster.kill(name)
     time.sleep(trial.random.random() * 3)
@@ -137,7 +153,7 @@ def node_killed(trial):
     return f"{name} by kill -9, and started again"
 
 
-def node_with_a_file_killed(trial):
+def node_with_a_file_killed(trial: Trial) -> str:
     """Its folder with the dumps goes too: the file has to do."""
     name, cluster = trial.random.choice(WITH_FILES), trial.cluster
     before = trial.count_of(name, FROM_A_FILE)
@@ -154,10 +170,10 @@ def node_with_a_file_killed(trial):
     return f"{name} {KILLS + 1} times by kill -9, and started again without its folder; it went on from its file {came} times"
 
 
-def engine_with_a_file_killed(trial):
+def engine_with_a_file_killed(trial: Trial) -> str:
     name = trial.random.choice(WITH_FILES)
     before = trial.count_of(name, FROM_A_FILE)
-    os.kill(trial.engine(name), signal.SIGKILL)
+    os.kill(trial.engine_of(name), signal.SIGKILL)
     trial.cluster.kills.append("engine")
     trial.cluster.append(transfers.transfers(trial.random, CALLS))
     trial.cluster.settle([name])
@@ -166,7 +182,7 @@ def engine_with_a_file_killed(trial):
     return f"that of {name} by kill -9, and it {trial.told_last(name, FROM_A_FILE)}"
 
 
-def all_nodes_killed(trial):
+def all_nodes_killed(trial: Trial) -> str:
     for name in trial.names:
         trial.cluster.kill(name)
     for name in trial.names:
@@ -174,23 +190,23 @@ def all_nodes_killed(trial):
     return "by kill -9 at once, and started again"
 
 
-def engine_killed(trial):
+def engine_killed(trial: Trial) -> str:
     name = trial.random.choice([name for name in trial.names if trial.engine(name)])
-    os.kill(trial.engine(name), signal.SIGKILL)
+    os.kill(trial.engine_of(name), signal.SIGKILL)
     trial.cluster.kills.append("engine")
     return f"that of {name} by kill -9"
 
 
-def engine_stopped(trial):
+def engine_stopped(trial: Trial) -> str:
     name = trial.random.choice([name for name in trial.names if trial.engine(name)])
-    pid = trial.engine(name)
+    pid = trial.engine_of(name)
     os.kill(pid, signal.SIGSTOP)
     time.sleep(3)
     os.kill(pid, signal.SIGCONT)
     return f"that of {name} for 3 s by SIGSTOP"
 
 
-def leader_killed(trial):
+def leader_killed(trial: Trial) -> str:
     leader = trial.cluster.leader()
     trial.cluster.kill(f"m{leader}")
     new = trial.cluster.leader()
@@ -199,38 +215,38 @@ def leader_killed(trial):
     return f"m{leader} by kill -9; m{new} led then"
 
 
-def leader_stopped(trial):
+def leader_stopped(trial: Trial) -> str:
     leader = trial.cluster.leader()
     trial.stop(f"m{leader}", SECONDS_PARTED)
     return f"m{leader} for {SECONDS_PARTED} s by SIGSTOP"
 
 
-def leader_parted(trial):
+def leader_parted(trial: Trial) -> str:
     leader = trial.cluster.leader()
     trial.part(f"m{leader}")
     return f"m{leader} from all for {SECONDS_PARTED} s"
 
 
-def node_parted(trial):
+def node_parted(trial: Trial) -> str:
     trial.part("n2")
     return f"n2 from all for {SECONDS_PARTED} s"
 
 
-def proposer_parted(trial):
+def proposer_parted(trial: Trial) -> str:
     trial.part("p2")
     return f"p2 from all for {SECONDS_PARTED} s"
 
 
-def proposer_killed(trial):
+def proposer_killed(trial: Trial) -> str:
     trial.cluster.kill("p1")
     trial.propose("p1")
     return "p1 by kill -9, and started again"
 
 
-def proposer_dies_between_parts_and_block(trial):
+def proposer_dies_between_parts_and_block(trial: Trial) -> str:
     before, dying = trial.cluster.client.count(ledger.PARTS), ledger.Proposer("dying", trial.cluster.client)
 
-    def die():
+    def die() -> NoReturn:
         raise InterruptedError
 
     try:
@@ -241,20 +257,20 @@ def proposer_dies_between_parts_and_block(trial):
     return f"it left {left} parts and no block"
 
 
-def long_block(trial):
+def long_block(trial: Trial) -> str:
     block = transfers.long_calls(trial.random, 500, gas=1000)
     trial.cluster.append(block)
     return f"one of {len(block):,} bytes in parts"
 
 
-def strange_blocks(trial):
+def strange_blocks(trial: Trial) -> str:
     blocks = transfers.strange(trial.random)
     for block, _ in blocks.values():
         trial.cluster.append(block)
     return f"{len(blocks)} as strangers send them"
 
 
-def compaction(trial):
+def compaction(trial: Trial) -> str:
     name, cluster = trial.node(), trial.cluster
     before = trial.count_of(name, "reads the log anew")
     cluster.kill(name)
@@ -264,22 +280,22 @@ def compaction(trial):
     return f"{name} was killed before, and {said}"
 
 
-def pruning(trial):
+def pruning(trial: Trial) -> str:
     trial.wrong += trial.cluster.audit()  # of what is there now: nodes that are behind have less
     told = ledger.by_height(audits.all_below(trial.cluster.client, ledger.DIGESTS))
     height, gone = ledger.prune(trial.cluster.client, 2, 2)
     trial.digests_pruned += sum(len(values) for at, values in told.items() if at < height)
-    told = trial.stranger("alone", "--alike", "9")
-    if gone and "STOPS" not in told:
+    said = trial.stranger("alone", "--alike", "9")
+    if gone and "STOPS" not in said:
         raise ValueError("a node from nothing did not stop")
-    return f"{gone} blocks are gone, the log begins behind height {height}; a node from nothing said: {told.splitlines()[-1].split(' ', 1)[1]}"
+    return f"{gone} blocks are gone, the log begins behind height {height}; a node from nothing said: {said.splitlines()[-1].split(' ', 1)[1]}"
 
 
-def late_node(trial):
+def late_node(trial: Trial) -> str:
     return "one from nothing: " + trial.stranger("late").splitlines()[1].split(" ", 1)[1]
 
 
-def damaged_dump(trial):
+def damaged_dump(trial: Trial) -> str:
     name = trial.without_a_file()
     dumps = sorted((trial.cluster.folder / name).glob("*.dump"))
     if not dumps:
@@ -296,12 +312,12 @@ def damaged_dump(trial):
     return f"{name} refused its own, and {next((line.split(' ', 2)[2] for line in told if 'takes the dump' in line or 'begins' in line), 'went on')}"
 
 
-def full_disk(trial):
+def full_disk(trial: Trial) -> str:
     name, folder = trial.node(), trial.cluster.folder / "small"
     folder.mkdir(exist_ok=True)
     trial.cluster.kill(name)
     before = trial.count_of(name, "keeps no dump")
-    under = ["unshare", "-m", "sh", "-c", SMALL_DISK, trial.cluster.folder / name]
+    under: list[str | Path] = ["unshare", "-m", "sh", "-c", SMALL_DISK, trial.cluster.folder / name]
     trial.cluster.node(name, under=under)
     for _ in range(600):
         if trial.count_of(name, "keeps no dump") > before:
@@ -313,7 +329,7 @@ def full_disk(trial):
     return f"64 KiB for {told.split(' ', 1)[1]}, and it went on; it is started again on the other disk"
 
 
-def full_disk_of_a_file(trial):
+def full_disk_of_a_file(trial: Trial) -> str:
     """The node has to stop by name."""
     place = trial.cluster.folder / "small-file"
     place.mkdir(exist_ok=True)
@@ -323,7 +339,7 @@ def full_disk_of_a_file(trial):
     return f"64 KiB; a node from nothing said: {told.splitlines()[-1].split(' ', 1)[1]}"
 
 
-def two_nodes_on_one_file(trial):
+def two_nodes_on_one_file(trial: Trial) -> str:
     """The second one has to stop by name."""
     told = trial.stranger("twin", "--store", trial.cluster.folder / f"{trial.random.choice(WITH_FILES)}.store")
     if "store Busy 1" not in told.splitlines()[-1]:
@@ -331,7 +347,7 @@ def two_nodes_on_one_file(trial):
     return told.splitlines()[-1].split(" ", 1)[1]
 
 
-def damaged_file(trial):
+def damaged_file(trial: Trial) -> str:
     """One bit of a program in a file. The node has to stop by name, and to begin with a dump where it is told to."""
     file = trial.cluster.folder / f"spoilt-{trial.faults}.store"
     trial.stranger("spoilt", "--store", file)
@@ -346,7 +362,7 @@ def damaged_file(trial):
     return f"a node stopped by name; with --anew it {begun.split(' ', 2)[2]}"
 
 
-def flip_in_a_program(path):
+def flip_in_a_program(path: Path) -> None:
     """Changes one bit of a program in a file, when a session has brought all that was kept into it."""
     of_session = {word: transfers.SETTINGS[word] for word in ("frame_limit", "frame_gas", "brief")}
     for _ in range(TRIES_FOR_A_FILE):  # the engine of a killed node may have it for a moment
@@ -358,7 +374,7 @@ def flip_in_a_program(path):
     path.write_bytes(data)
 
 
-def clock_wrong(trial):
+def clock_wrong(trial: Trial) -> str:
     if not FAKETIME.exists():
         return "there is no faketime here"
     name, plain = trial.node(), trial.cluster.folder / "rvstm-in-time"  # an engine reads no clock, and a preview takes no faketime
@@ -374,7 +390,7 @@ def clock_wrong(trial):
     return f"that of {name} by {clock['FAKETIME']} for {SECONDS_PARTED} s; it is started again"
 
 
-def two_nodes_in_one_folder(trial):
+def two_nodes_in_one_folder(trial: Trial) -> str:
     """The second one has to stop by name."""
     name, cluster = trial.node(), trial.cluster
     cluster.start("twin", sys.executable, HERE / "node", "--etcd", cluster.urls, "--name", "twin", "--folder", cluster.folder / name)
@@ -384,7 +400,7 @@ def two_nodes_in_one_folder(trial):
     return told.split(" ", 1)[1]
 
 
-def two_nodes_of_one_name(trial):
+def two_nodes_of_one_name(trial: Trial) -> str:
     name, cluster = trial.node(), trial.cluster
     words = ["--etcd", cluster.urls, "--name", name, "--folder", cluster.folder / "twin", "--http", f"{cluster.network.address('twin')}:0"]
     twin = cluster.start("twin", sys.executable, HERE / "node", *words)
@@ -396,7 +412,7 @@ def two_nodes_of_one_name(trial):
     return f"both were {name} for {SECONDS_PARTED} s{', and the second one ended' if ended else ''}; that is started again"
 
 
-def member_replaced(trial):
+def member_replaced(trial: Trial) -> str:
     """Ends a member for good, and puts a new one, with nothing, in its place."""
     number = trial.random.randrange(MEMBERS)
     cluster = trial.cluster
@@ -409,7 +425,7 @@ def member_replaced(trial):
     return f"m{number} by a new one, from nothing"
 
 
-def once(cluster, path, body):
+def once(cluster: Cluster, path: str, body: Object) -> None:
     """Asks for what etcd refuses where it was done by an earlier request, whose answer was lost."""
     try:
         cluster.client.ask(path, body)
@@ -417,7 +433,7 @@ def once(cluster, path, body):
         say(f"{path}: {error}")
 
 
-def controls(trial):
+def controls(trial: Trial) -> None:
     """A node that lies once and one that runs a changed program: both have to be named."""
     cluster, height = trial.cluster, trial.cluster.heights() + 3
     cluster.node("liar", script="liar", env={**os.environ, "LIE_AT": str(height)})
@@ -439,7 +455,9 @@ def controls(trial):
     trial.expect(named == {"liar", "changed"}, f"controls: the audit names {' and '.join(sorted(named)) or 'nobody'}")
 
 
-FAULTS = [
+Fault = Callable[[Trial], str]
+
+FAULTS: list[Fault] = [
     node_killed, node_with_a_file_killed, all_nodes_killed, engine_killed, engine_with_a_file_killed, engine_stopped, leader_killed,
     leader_stopped, leader_parted, node_parted, proposer_parted, proposer_killed, proposer_dies_between_parts_and_block, long_block,
     strange_blocks, compaction, pruning, late_node, damaged_dump, damaged_file, full_disk, full_disk_of_a_file, clock_wrong, two_nodes_of_one_name,

@@ -9,7 +9,10 @@ import socket
 import subprocess
 import sys
 import time
+from collections.abc import Callable, Mapping, Sequence
 from pathlib import Path
+from subprocess import Popen
+from typing import Self
 
 import transfers  # first: it finds tools/
 import audits
@@ -18,6 +21,7 @@ import etcd
 import ledger
 import networks
 from engines import BUILT, C_LIBRARY, PR_SET_PDEATHSIG
+from etcd import Object
 
 HERE = Path(__file__).resolve().parent
 MEMBERS = 3
@@ -26,12 +30,15 @@ SECONDS_FOR_ETCD = 300  # a machine with much else to do takes its time
 STARTED = time.monotonic()
 HEIGHT = re.compile(r"height (\d+)")
 
+Word = str | Path
+AnyNetwork = networks.Network | networks.Loopback
 
-def say(text):
+
+def say(text: str) -> None:
     print(f"[{time.monotonic() - STARTED:6.1f}] {text}", flush=True)
 
 
-def free_ports(count):
+def free_ports(count: int) -> list[int]:
     """Ports that nobody has now."""
     lines = [socket.create_server(("127.0.0.1", 0)) for _ in range(count)]
     ports = [line.getsockname()[1] for line in lines]
@@ -40,11 +47,11 @@ def free_ports(count):
     return ports
 
 
-def end_with_parent():
+def end_with_parent() -> None:
     C_LIBRARY.prctl(PR_SET_PDEATHSIG, signal.SIGKILL)
 
 
-def changed_program(path):
+def changed_program(path: Path) -> Path:
     """Makes a program that differs from rvstm in one letter of what it answers."""
     data = Path(engines.rvstm()).read_bytes()
     if b"returned" not in data:
@@ -54,31 +61,35 @@ def changed_program(path):
     return path
 
 
-def engines_known(folder=Path()):
+def engines_known(folder: Path = Path()) -> dict[str, list[Word]]:
     """How the four nodes run blocks: two have a file, and the last one goes by the library for C, where it is built."""
     library = os.environ.get("RVSTM_LIBRARY") or (str(BUILT) if BUILT.is_file() else "")
-    files = {name: ["--store", folder / f"{name}.store"] for name in WITH_FILES}
-    known = {"n1": [], "n2": ["--workers", "2", *files["n2"]], "n3": ["--workers", "4", *files["n3"]]}
+    files: dict[str, list[Word]] = {name: ["--store", folder / f"{name}.store"] for name in WITH_FILES}
+    known: dict[str, list[Word]] = {"n1": [], "n2": ["--workers", "2", *files["n2"]], "n3": ["--workers", "4", *files["n3"]]}
     return {**known, **({"n4": ["--library", library]} if library else {})}
 
 
 class Cluster:
-    def __init__(self, folder, network=None):
+    def __init__(self, folder: str | Path, network: AnyNetwork | None = None) -> None:
         if not shutil.which("etcd"):
             raise ValueError("there is no etcd: Debian's package etcd-server has it")
-        self.folder, self.random, self.network = Path(folder), random.Random(1), network or networks.Loopback()
+        self.folder, self.random = Path(folder), random.Random(1)
+        self.network: AnyNetwork = network or networks.Loopback()
         self.folder.mkdir(parents=True)
-        self.all, self.logs, self.kills, self.kinds = {}, {}, [], engines_known(self.folder)
+        self.all: dict[str, Popen[bytes]] = {}
+        self.logs: dict[str, Path] = {}
+        self.kills: list[str] = []
+        self.kinds = engines_known(self.folder)
         ports = free_ports(2 * MEMBERS)
         self.clients = [f"http://{self.network.address(f'm{number}')}:{port}" for number, port in enumerate(ports[:MEMBERS])]
         self.peers = [f"http://{self.network.address(f'm{number}')}:{port}" for number, port in enumerate(ports[MEMBERS:])]
         self.urls = ",".join(self.clients)
         self.client = etcd.Etcd(self.urls, SECONDS_FOR_ETCD)
 
-    def __enter__(self):
+    def __enter__(self) -> Self:
         return self
 
-    def __exit__(self, *_):
+    def __exit__(self, *_: object) -> None:
         for process in self.all.values():
             process.send_signal(signal.SIGCONT)
             process.kill()
@@ -89,20 +100,24 @@ class Cluster:
 
     # ---- processes
 
-    def start(self, name, *words, **how):
+    def start(
+        self, name: str, *words: object, under: Sequence[Word] = (), before: Callable[[], None] = end_with_parent, env: Mapping[str, str] | None = None
+    ) -> Popen[bytes]:
         self.logs[name] = self.folder / f"{name}.log"
         with open(self.logs[name], "ab") as log:
-            words = [str(word) for word in (*self.network.words(name), *how.pop("under", []), *words)]
-            self.all[name] = subprocess.Popen(words, stdout=log, stderr=log, preexec_fn=how.pop("before", end_with_parent), **how)
+            line = [str(word) for word in (*self.network.words(name), *under, *words)]
+            self.all[name] = subprocess.Popen(line, stdout=log, stderr=log, preexec_fn=before, env=env)
         return self.all[name]
 
-    def command(self, name, script, *words, **how):
-        return self.start(name, sys.executable, HERE / script, "--etcd", self.urls, "--name", name, *words, **how)
+    def command(
+        self, name: str, script: str, *words: object, under: Sequence[Word] = (), env: Mapping[str, str] | None = None
+    ) -> Popen[bytes]:
+        return self.start(name, sys.executable, HERE / script, "--etcd", self.urls, "--name", name, *words, under=under, env=env)
 
-    def log(self, name):
+    def log(self, name: str) -> str:
         return self.logs[name].read_text(errors="backslashreplace") if name in self.logs else ""
 
-    def kill(self, name):
+    def kill(self, name: str) -> None:
         process = self.all.pop(name)
         process.kill()
         process.wait()
@@ -110,7 +125,7 @@ class Cluster:
 
     # ---- members
 
-    def member(self, number, state="new"):
+    def member(self, number: int, state: str = "new") -> None:
         cluster = ",".join(f"m{other}={url}" for other, url in enumerate(self.peers))
         self.start(
             f"m{number}", "etcd", "--name", f"m{number}", "--data-dir", self.folder / f"m{number}", "--log-level", "warn", "--logger", "zap",
@@ -119,10 +134,10 @@ class Cluster:
             "--initial-cluster", cluster, "--initial-cluster-token", "ledger", "--initial-cluster-state", state,
         )
 
-    def status(self, number):
+    def status(self, number: int) -> Object:
         return etcd.Etcd([self.clients[number]], 0).ask("maintenance/status", {})
 
-    def leader(self):
+    def leader(self) -> int:
         """The number of the leader, which a new election may take a while to find."""
         for _ in range(100):
             for number in range(MEMBERS):
@@ -137,7 +152,7 @@ class Cluster:
 
     # ---- nodes and proposers
 
-    def begin(self, block=None, **settings):
+    def begin(self, block: bytes | None = None, **settings: object) -> None:
         """Starts the members, and puts a genesis, that of the demonstration unless told, with settings beside its own."""
         for number in range(MEMBERS):
             self.member(number)
@@ -146,48 +161,50 @@ class Cluster:
         for file in transfers.FILES:
             self.trial.put_program(file)
 
-    def node(self, name, *words, **how):
-        words = words or self.kinds.get(name, [])
-        words = ["--folder", self.folder / name, "--http", f"{self.network.address(name)}:0", *words]
-        return self.command(name, how.pop("script", "node"), *words, **how)
+    def node(
+        self, name: str, *words: object, script: str = "node", under: Sequence[Word] = (), env: Mapping[str, str] | None = None
+    ) -> Popen[bytes]:
+        words = words or tuple(self.kinds.get(name, []))
+        place = ("--folder", self.folder / name, "--http", f"{self.network.address(name)}:0")
+        return self.command(name, script, *place, *words, under=under, env=env)
 
-    def propose(self, name, count, *words):
+    def propose(self, name: str, count: int, *words: object) -> Popen[bytes]:
         return self.command(name, "propose", "--transfers", count, *words)
 
-    def append(self, block):
+    def append(self, block: str | bytes) -> int:
         return self.trial.append(block if isinstance(block, bytes) else block.encode())
 
-    def address(self, name):
-        return self.client.get(ledger.NODES + name).value.decode()
+    def address(self, name: str) -> str:
+        return self.client.need(ledger.NODES + name).value.decode()
 
-    def heights(self):
+    def heights(self) -> int:
         """How many blocks the log has had."""
         gone = ledger.pruned(self.client)[0]
         return self.client.count(ledger.BLOCKS) + (gone or 1)
 
-    def digests(self, height):
+    def digests(self, height: int) -> dict[str, str]:
         """What nodes published at a height, by their names."""
         return ledger.digests(self.client, height, height).get(height, {})
 
-    def reach(self, name, height, seconds=SECONDS_FOR_ETCD):
+    def reach(self, name: str, height: int, seconds: float = SECONDS_FOR_ETCD) -> None:
         """Waits until a node published the digest of a height."""
         self.settle([name], seconds, height)
 
-    def settle(self, names, seconds=SECONDS_FOR_ETCD, height=None):
+    def settle(self, names: Sequence[str], seconds: float = SECONDS_FOR_ETCD, height: int | None = None) -> float:
         """Waits until nodes published a digest of a height or above, or of the last one, and answers how long that took."""
-        began, height = time.monotonic(), height or self.heights()
-        while away := [name for name in names if not self.is_at(name, height)]:
+        began, wanted = time.monotonic(), height or self.heights()
+        while away := [name for name in names if not self.is_at(name, wanted)]:
             if time.monotonic() - began > seconds:
-                raise ValueError(f"{', '.join(away)} did not come to height {height}")
+                raise ValueError(f"{', '.join(away)} did not come to height {wanted}")
             time.sleep(0.1)
         return time.monotonic() - began
 
-    def is_at(self, name, height):
+    def is_at(self, name: str, height: int) -> bool:
         """Whether a node published a digest of a height or above; one that began with a dump passed over those before."""
         prefix = f"{ledger.DIGESTS}{name}/"
         return bool(self.client.range(etcd.keys(ledger.at(ledger.DIGESTS, name, height), etcd.behind(prefix), limit=1))[1])
 
-    def wait_for(self, name, text, seconds=SECONDS_FOR_ETCD):
+    def wait_for(self, name: str, text: str, seconds: int = SECONDS_FOR_ETCD) -> str:
         """Waits until a process says something, and answers the line."""
         for _ in range(10 * seconds):
             lines = [line for line in self.log(name).splitlines() if text in line]
@@ -196,7 +213,7 @@ class Cluster:
             time.sleep(0.1)
         raise ValueError(f"{name} did not say '{text}'")
 
-    def audit(self, names=()):
+    def audit(self, names: Sequence[str] = ()) -> int:
         """Says what an audit finds, and answers how many things are wrong."""
         wrong, seen = audits.audit(self.client, names)
         for line in wrong:

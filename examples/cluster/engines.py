@@ -8,6 +8,7 @@ import sys
 import threading
 import time
 from pathlib import Path
+from typing import Protocol
 
 TOP = Path(__file__).resolve().parent.parent.parent
 sys.path.insert(0, str(TOP / "tools"))
@@ -15,9 +16,9 @@ from rvstm_tools.errors import UserError
 from rvstm_tools.options import ProgramChoice
 from rvstm_tools.programs import finding
 from rvstm_tools.sessions import answers
-from rvstm_tools.sessions.answers import Done, Kind
-from rvstm_tools.sessions.processes import Session
-from rvstm_tools.sessions.requests import WITH_BODY
+from rvstm_tools.sessions.answers import Answer, Done, Kind
+from rvstm_tools.sessions.processes import Session, Settings
+from rvstm_tools.sessions.requests import WITH_BODY, Request
 
 BUILT = TOP / "crates/rvstm_c/out/embedded/librvstm.so"
 C_LIBRARY = ctypes.CDLL(None)
@@ -32,12 +33,12 @@ class Ended(Exception):
     """The engine died, or failed, which says nothing of the block: another engine runs it again."""
 
 
-def rvstm():
+def rvstm() -> str:
     """The path of the program rvstm."""
     return str(finding.find(ProgramChoice(), finding.home(), os.environ))
 
 
-def end_with_node(node):
+def end_with_node(node: int) -> None:
     """Ends the process where the thread of the node that started it ends."""
     C_LIBRARY.prctl(PR_SET_PDEATHSIG, signal.SIGKILL)
     if os.getppid() != node:
@@ -47,21 +48,22 @@ def end_with_node(node):
 class Process(Session):
     """A process that ends with its node, and is killed where it does not answer in time."""
 
-    def __init__(self, settings):
+    def __init__(self, settings: Settings) -> None:
         pipe, node = subprocess.PIPE, os.getpid()
         words = [rvstm(), *settings.words()]
         self.process = subprocess.Popen(words, stdin=pipe, stdout=pipe, stderr=pipe, preexec_fn=lambda: end_with_node(node))
-        self.pid, self.until = self.process.pid, None
+        self.pid: int | None = self.process.pid
+        self.until: float | None = None
         self.patience = SECONDS_BESIDE + (settings.frame_gas or 0) / GAS_A_SECOND
         threading.Thread(target=self.watch, daemon=True).start()
 
-    def watch(self):
+    def watch(self) -> None:
         while self.process.poll() is None:
             if self.until and time.monotonic() > self.until:
                 self.process.kill()
             time.sleep(0.5)
 
-    def ask(self, request):
+    def ask(self, request: Request) -> Answer:
         self.until = time.monotonic() + self.patience
         try:
             answer = super().ask(request)
@@ -73,14 +75,16 @@ class Process(Session):
             self.until = None
         return answer
 
-    def told_at_its_end(self):
+    def told_at_its_end(self) -> str:
         """What stands on standard error, as why its file is refused."""
         self.process.wait()
+        assert self.process.stderr is not None
         return self.process.stderr.read().decode(errors="backslashreplace").strip()
 
-    def close(self):
+    def close(self) -> None:
         self.process.kill()
         self.process.wait()
+        assert self.process.stdin and self.process.stdout and self.process.stderr
         self.process.stdout.close()
         self.process.stderr.close()
         try:
@@ -116,9 +120,9 @@ class Parts(ctypes.Structure):
 class Library:
     """A session of the library, in the node's own process. Nothing bounds its time but the gas."""
 
-    pid = None
+    pid: int | None = None
 
-    def __init__(self, path, settings):
+    def __init__(self, path: str, settings: Settings) -> None:
         self.library, self.handle = ctypes.CDLL(path), Handle()
         self.library.rvstm_answer_length.restype = ctypes.c_size_t
         gas = NO_LIMIT if settings.frame_gas is None else settings.frame_gas
@@ -127,9 +131,9 @@ class Library:
         if status != DONE:
             raise Ended(f"rvstm_open_with answers {status}")
 
-    def ask(self, request):
+    def ask(self, request: Request) -> Answer:
         """The answer to a request, as a process gives it."""
-        words = []
+        words: list[object] = []
         for field in request.fields:
             is_number = len(field) <= 10 and field.isdigit()
             words += [ctypes.c_uint64(int(field))] if is_number else [field, ctypes.c_size_t(len(field))]
@@ -141,22 +145,36 @@ class Library:
             raise Ended(f"rvstm_{request.word.decode()} answers {status}")
         return answers.refused(self.reason(), Kind.REFUSED if status == REFUSED else Kind.FAILED)
 
-    def reason(self):
+    def reason(self) -> bytes:
         parts = Parts()
         self.library.rvstm_refusal(ctypes.byref(self.handle), ctypes.byref(parts))
         line = b" %d" % parts.line if parts.line else b""
         return b"%s%s %s %d" % (parts.area, line, parts.name, parts.number)
 
-    def body(self):
+    def body(self) -> bytes:
         length = self.library.rvstm_answer_length(ctypes.byref(self.handle))
         buffer = ctypes.create_string_buffer(length + 1)
         self.library.rvstm_answer(ctypes.byref(self.handle), buffer, ctypes.c_size_t(length))
-        return buffer.raw[:length]
+        return bytes(buffer.raw[:length])
 
-    def close(self):
+    def close(self) -> None:
         self.library.rvstm_close(ctypes.byref(self.handle))
 
 
-def engine(settings, library=None):
-    """A session of the library where its path is given, else a process."""
-    return Library(library, settings) if library else Process(settings)
+class Engine(Protocol):
+    """What answers requests: a process, the library, or in tests something in their place."""
+
+    pid: int | None
+
+    def ask(self, request: Request) -> Answer:
+        """The answer to a request."""
+
+    def close(self) -> None:
+        """Ends it."""
+
+
+def engine(settings: Settings, library: str | None = None) -> Engine:
+    """A session of the library if its path is given, otherwise a process."""
+    if library:
+        return Library(library, settings)
+    return Process(settings)

@@ -11,7 +11,8 @@ import os
 import ssl
 import time
 import urllib.parse
-from typing import NamedTuple
+from collections.abc import Callable, Iterable, Iterator
+from typing import Any, NamedTuple
 
 SECONDS_A_REQUEST = 5
 SECONDS_BETWEEN_TRIES = 0.05
@@ -22,11 +23,16 @@ TOKEN_IS_OLD = 16
 MAY_ANSWER_LATER = (1, 4, 8, 13, 14, TOKEN_IS_OLD)
 FAULTS_OF_A_LINE = (OSError, http.client.HTTPException, json.JSONDecodeError)
 
+Object = dict[str, Any]
+"""An object of JSON."""
+Line = http.client.HTTPConnection
+"""A connection with a member."""
+
 
 class Refused(ValueError):
     """A request that etcd refuses, with gRPC's code."""
 
-    def __init__(self, code, text):
+    def __init__(self, code: int, text: str) -> None:
         super().__init__(f"etcd: {text} ({code})")
         self.code = code
 
@@ -49,69 +55,69 @@ class Pair(NamedTuple):
     lease: int
 
 
-def pack(data):
+def pack(data: str | bytes) -> str:
     return base64.b64encode(data if isinstance(data, bytes) else data.encode()).decode()
 
 
-def unpack(text):
+def unpack(text: str) -> bytes:
     return base64.b64decode(text)
 
 
-def pair_of(told):
+def pair_of(told: Object) -> Pair:
     key = unpack(told["key"]).decode("ascii", "backslashreplace")
     numbers = (int(told.get(word, 0)) for word in ("create_revision", "mod_revision", "lease"))
     return Pair(key, unpack(told.get("value", "")), *numbers)
 
 
-def behind(prefix):
+def behind(prefix: str) -> str:
     """The first key behind all keys that begin with a prefix."""
     return prefix[:-1] + chr(ord(prefix[-1]) + 1)
 
 
-def keys(first, last=None, **options):
+def keys(first: str, last: str | None = None, **options: object) -> Object:
     """A key, or those from one on to before another."""
     return {"key": pack(first), **({"range_end": pack(last)} if last else {}), **options}
 
 
-def below(prefix, **options):
+def below(prefix: str, **options: object) -> Object:
     return keys(prefix, behind(prefix), **options)
 
 
-def put(key, value, lease=0):
+def put(key: str, value: str | bytes, lease: int = 0) -> Object:
     return {"request_put": {"key": pack(key), "value": pack(value), "lease": lease}}
 
 
-def keep(key):
+def keep(key: str) -> Object:
     """Takes a key from its lease, and leaves its value. The key has to be there."""
     return {"request_put": {"key": pack(key), "ignore_value": True}}
 
 
-def read(wanted):
+def read(wanted: Object) -> Object:
     return {"request_range": wanted}
 
 
-def delete(wanted):
+def delete(wanted: Object) -> Object:
     return {"request_delete_range": wanted}
 
 
-def is_absent(key):
+def is_absent(key: str) -> Object:
     return {"key": pack(key), "target": "CREATE", "result": "EQUAL", "create_revision": 0}
 
 
-def is_there(key):
+def is_there(key: str) -> Object:
     return {"key": pack(key), "target": "CREATE", "result": "GREATER", "create_revision": 0}
 
 
-def pairs_of(told):
+def pairs_of(told: Object) -> list[Pair]:
     return [pair_of(pair) for pair in told.get("kvs", [])]
 
 
-def pairs_read(told):
+def pairs_read(told: Object) -> list[list[Pair]]:
     """Of each read of a transaction the pairs."""
     return [pairs_of(answer.get("response_range", {})) for answer in told.get("responses", [])]
 
 
-def context():
+def context() -> ssl.SSLContext:
     """How TLS is spoken."""
     made = ssl.create_default_context(cafile=os.environ.get("ETCDCTL_CACERT"))
     if os.environ.get("ETCDCTL_CERT"):
@@ -122,12 +128,14 @@ def context():
 class Etcd:
     """Asks one member, and the next one where it does not answer. For one thread at a time."""
 
-    def __init__(self, urls, patience=30):
+    def __init__(self, urls: str | Iterable[str], patience: float = 30) -> None:
         self.urls = urls.split(",") if isinstance(urls, str) else list(urls)
-        self.patience, self.line, self.token = patience, None, None
-        self.say = lambda text: None  # is told where no member answers for a while
+        self.patience = patience
+        self.line: Line | None = None
+        self.token: str | None = None
+        self.say: Callable[[str], None] = lambda text: None  # is told where no member answers for a while
 
-    def ask(self, path, body):
+    def ask(self, path: str, body: Object) -> Object:
         """The answer of the first member that gives one. A request may have been carried out more than once, or be carried out
         later: a caller makes only requests for which that does no harm."""
         now = time.monotonic()
@@ -149,64 +157,76 @@ class Etcd:
                 self.turn()
                 time.sleep(SECONDS_BETWEEN_TRIES)
 
-    def ask_once(self, path, body):
-        self.line = self.line or self.connection(SECONDS_A_REQUEST)
-        self.line.request("POST", f"/v3/{path}", json.dumps(body), self.headers())
-        answer = self.line.getresponse()
-        told = json.loads(answer.read())
+    def ask_once(self, path: str, body: Object) -> Object:
+        self.line = line = self.line or self.connection(SECONDS_A_REQUEST)
+        line.request("POST", f"/v3/{path}", json.dumps(body), self.headers())
+        answer = line.getresponse()
+        told: Object = json.loads(answer.read())
         if answer.status != 200:
             raise Refused(told.get("code", 0), told.get("error", "no reason given"))
         return told
 
-    def connection(self, seconds):
+    def connection(self, seconds: float) -> Line:
         url = urllib.parse.urlsplit(self.urls[0])
+        assert url.hostname is not None
         if url.scheme == "https":
             return http.client.HTTPSConnection(url.hostname, url.port, timeout=seconds, context=context())
         return http.client.HTTPConnection(url.hostname, url.port, timeout=seconds)
 
-    def headers(self):
+    def headers(self) -> dict[str, str]:
         """The token of the user, where there is one."""
         user, _, password = os.environ.get("ETCDCTL_USER", "").partition(":")
         if not user:
             return {}
         if self.token is None:
+            assert self.line is not None
             self.line.request("POST", "/v3/auth/authenticate", json.dumps({"name": user, "password": password}))
             told = json.loads(self.line.getresponse().read())
             if "token" not in told:
                 raise Refused(told.get("code", 0), told.get("error", "no token"))
-            self.token = told["token"]
+            self.token = str(told["token"])
         return {"Authorization": self.token}
 
-    def turn(self):
+    def turn(self) -> None:
         """Goes on with the next member."""
         if self.line is not None:
             self.line.close()
         self.line = None
         self.urls.append(self.urls.pop(0))
 
-    def range(self, wanted):
+    def range(self, wanted: Object) -> tuple[int, list[Pair]]:
         """The revision of the answer, and the pairs."""
         told = self.ask("kv/range", wanted)
         return int(told["header"]["revision"]), pairs_of(told)
 
-    def get(self, key):
+    def get(self, key: str) -> Pair | None:
         """The pair of a key, or None."""
         return next(iter(self.range(keys(key))[1]), None)
 
-    def count(self, prefix):
+    def need(self, key: str) -> Pair:
+        """The pair of a key that is there."""
+        pair = self.get(key)
+        if pair is None:
+            raise ValueError(f"{key} is not in etcd")
+        return pair
+
+    def count(self, prefix: str) -> int:
         return int(self.ask("kv/range", below(prefix, count_only=True)).get("count", 0))
 
-    def transact(self, compare, success, failure=()):
+    def transact(
+        self, compare: Iterable[Object], success: Iterable[Object], failure: Iterable[Object] = ()
+    ) -> tuple[bool, Object]:
         """Whether all comparisons held, and the answer."""
         told = self.ask("kv/txn", {"compare": list(compare), "success": list(success), "failure": list(failure)})
         return told.get("succeeded", False), told
 
-    def watch(self, prefix, revision, quiet):
+    def watch(self, prefix: str, revision: int, quiet: float) -> Iterator[list[Pair]]:
         """What is put below a prefix from a revision on, as lists of pairs: of all that came meanwhile one list. Ends where nothing came
         for some seconds, or the member is gone: the caller then watches on from behind the last one, by the next member."""
         self.turn()
         self.line = line = self.connection(quiet)
-        line._http_vsn, line._http_vsn_str = 10, "HTTP/1.0"  # which has no chunks: all that came is read at once
+        setattr(line, "_http_vsn", 10)
+        setattr(line, "_http_vsn_str", "HTTP/1.0")  # which has no chunks: all that came is read at once
         try:
             wanted = {**below(prefix), "start_revision": revision, "filters": ["NODELETE"], "fragment": True}
             line.request("POST", "/v3/watch", json.dumps({"create_request": wanted}), self.headers())
@@ -225,7 +245,7 @@ class Etcd:
         finally:
             line.close()
 
-    def is_ended(self, told):
+    def is_ended(self, told: Object) -> bool:
         """Whether etcd ends a watch by what it tells."""
         if "error" in told:
             self.token = None

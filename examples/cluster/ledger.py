@@ -19,9 +19,11 @@ import math
 import re
 import secrets
 import zlib
+from collections.abc import Callable, Iterable, Iterator, Mapping, Sequence
 from typing import NamedTuple
 
 import etcd
+from etcd import Etcd, Object, Pair
 from etcd import behind, below, delete, is_absent, is_there, keep, keys, put, read
 
 LOG, PARTS, DIGESTS, DUMPS, NODES = "/log/", "/parts/", "/digests/", "/dumps/", "/nodes/"
@@ -51,24 +53,38 @@ class Mark(NamedTuple):
     revision: int = 0
 
 
-def sha256(data):
+class AgreedDump(NamedTuple):
+    """A dump that enough nodes made alike: where, its SHA-256, and the names of the nodes."""
+
+    mark: Mark
+    content: str
+    names: list[str]
+
+
+Values = dict[int, dict[str, str]]
+"""What nodes published, by height and name."""
+
+
+def sha256(data: bytes) -> str:
     return hashlib.sha256(data).hexdigest()
 
 
-def at(prefix, name, height):
+def at(prefix: str, name: str, height: int) -> str:
     return f"{prefix}{name}/{height:010d}"
 
 
-def by_height(pairs):
+def by_height(pairs: Iterable[Pair]) -> Values:
     """Of digests or dumps the values by height and name."""
-    found = {}
+    found: Values = {}
     for pair in pairs:
-        name, height = PLACE.fullmatch(pair.key).groups()
+        place = PLACE.fullmatch(pair.key)
+        assert place is not None
+        name, height = place.groups()
         found.setdefault(int(height), {})[name] = pair.value.decode()
     return dict(sorted(found.items()))
 
 
-def digests(client, first, last):
+def digests(client: Etcd, first: int, last: int) -> Values:
     """What all nodes published from a height on to another, by height and name."""
     names = [pair.key.removeprefix(NODES) for pair in client.range(below(NODES, keys_only=True))[1]]
     wanted = [read(keys(at(DIGESTS, name, first), at(DIGESTS, name, last + 1))) for name in names]
@@ -76,7 +92,7 @@ def digests(client, first, last):
     return by_height(pair for pairs in etcd.pairs_read(told) for pair in pairs)
 
 
-def different_from(name, told):
+def different_from(name: str, told: Mapping[str, str]) -> tuple[list[str], bool]:
     """The names that say otherwise at a height than one does, and whether they are most of all."""
     others = sorted(other for other, value in told.items() if value != told[name])
     return others, 2 * len(others) > len(told)
@@ -85,27 +101,29 @@ def different_from(name, told):
 # ---- entries of the log
 
 
-def parts_of_key(key):
+def parts_of_key(key: str) -> str:
     """What the keys of a block's parts begin with."""
     return PARTS + key.removeprefix(LOG).removeprefix("blocks/") + "/"
 
 
-def is_block(pair):
+def is_block(pair: Pair) -> bool:
     return pair.key == GENESIS or pair.key.startswith(BLOCKS)
 
 
-def pruned(client):
+def pruned(client: Etcd) -> tuple[int, int]:
     """The height and the revision of the last block that may be gone."""
     pair = client.get(PRUNED)
-    return tuple(map(int, pair.value.split())) if pair else (0, 0)
+    height, revision = map(int, pair.value.split()) if pair else (0, 0)
+    return height, revision
 
 
-def block_of(client, pair, limit):
+def block_of(client: Etcd, pair: Pair, limit: int) -> bytes | None:
     """The bytes of a block, or None where an entry stands for none, which all nodes see alike. A limit of 0 is none."""
     head = HEAD.match(pair.value)
     if not head:
         return None
-    data, unpacked = pair.value[head.end() :], zlib.decompressobj()
+    data: bytes | None = pair.value[head.end() :]
+    unpacked = zlib.decompressobj()
     if head[1]:
         data = whole(client, pair, head[1].decode().split())
     try:
@@ -115,7 +133,7 @@ def block_of(client, pair, limit):
     return block if unpacked.eof and not unpacked.unused_data and (not limit or len(block) <= limit) else None
 
 
-def whole(client, pair, digests):
+def whole(client: Etcd, pair: Pair, digests: Sequence[str]) -> bytes | None:
     """The bytes of a block in parts, or None. A part counts that was made before the entry, and was kept by it."""
     parts = []
     for number, digest in enumerate(digests):
@@ -128,7 +146,7 @@ def whole(client, pair, digests):
     return b"".join(parts)
 
 
-def is_refused(block, is_genesis):
+def is_refused(block: bytes, is_genesis: bool) -> bool:
     """Whether a node refuses a block before its session sees it, which all nodes do alike: `store` lines mint."""
     return not is_genesis and re.search(rb"^store ", block, re.M) is not None
 
@@ -140,18 +158,18 @@ class Proposer:
     """Appends entries. Each block has a key of its own, so that one whose answer was lost is not appended twice, and no proposer
     waits for another: the order is that of etcd's revisions."""
 
-    def __init__(self, name, client):
+    def __init__(self, name: str, client: Etcd) -> None:
         self.name, self.client, self.number = f"{name}.{secrets.token_hex(4)}", client, 0
 
-    def put_program(self, file):
+    def put_program(self, file: bytes) -> None:
         key = PROGRAMS + sha256(file)
         self.client.transact([is_absent(key)], [put(key, file)])
 
-    def begin(self, block, settings):
+    def begin(self, block: bytes, settings: Mapping[str, object]) -> bool:
         """Puts the genesis and the settings, and answers whether none was there before."""
         return self.put_block(GENESIS, block, [is_absent(SETTINGS)], [put(SETTINGS, json.dumps(settings))])[0]
 
-    def append(self, block, between=lambda: None):
+    def append(self, block: bytes, between: Callable[[], None] = lambda: None) -> int:
         """Appends a block, and answers its revision."""
         self.number += 1
         key = f"{BLOCKS}{self.name}/{self.number:010d}"
@@ -166,7 +184,9 @@ class Proposer:
                 raise ValueError("there is no genesis: propose --genesis puts it")
             # else the parts are gone, since their time ran out: they are put anew
 
-    def put_block(self, key, block, compare, beside, between=lambda: None):
+    def put_block(
+        self, key: str, block: bytes, compare: Sequence[Object], beside: Sequence[Object], between: Callable[[], None] = lambda: None
+    ) -> tuple[bool, Object]:
         data = zlib.compress(block, 1)
         parts = [data[start : start + LONGEST_PART] for start in range(0, len(data), LONGEST_PART)]
         parts = parts if len(data) > LONGEST_INLINE else []
@@ -188,10 +208,11 @@ class Proposer:
 class Log:
     """The entries behind a revision, in their order, as they come."""
 
-    def __init__(self, urls, revision):
-        self.client, self.revision, self.say = etcd.Etcd(urls, math.inf), revision, print
+    def __init__(self, urls: str | Iterable[str], revision: int) -> None:
+        self.client, self.revision = etcd.Etcd(urls, math.inf), revision
+        self.say: Callable[[str], None] = print
 
-    def batches(self):
+    def batches(self) -> Iterator[list[Pair]]:
         """Lists of entries; an empty one where none came for a second."""
         while True:
             try:
@@ -205,7 +226,7 @@ class Log:
                 self.say(f"watches from revision {self.revision + 1}, and etcd was compacted to {error}: reads the log anew")
                 yield from self.read()
 
-    def read(self):
+    def read(self) -> Iterator[list[Pair]]:
         """The entries that are there now."""
         wanted = below(LOG, keys_only=True, min_create_revision=self.revision + 1, sort_target="CREATE", sort_order="ASCEND")
         _, told = self.client.transact([], [read(wanted), read(keys(PRUNED))])
@@ -221,7 +242,7 @@ class Log:
             yield self.checked(pairs)
         self.revision = now
 
-    def checked(self, pairs):
+    def checked(self, pairs: list[Pair]) -> list[Pair]:
         """The entries, none of which was changed since it was made, or made at the revision of another."""
         for pair in pairs:
             if pair.made != pair.changed:
@@ -232,7 +253,7 @@ class Log:
         return pairs
 
 
-def revision_at(client, height, name):
+def revision_at(client: Etcd, height: int, name: str) -> int | None:
     """The revision of the block of a height, by the digests of a node and by the log; None where it, or what follows, is pruned."""
     known, revision = pruned(client)
     if height <= known:
@@ -240,25 +261,27 @@ def revision_at(client, height, name):
     wanted = keys(at(DIGESTS, name, known), at(DIGESTS, name, height + 1), sort_target="KEY", sort_order="DESCEND", limit=1)
     _, own = client.range(wanted)
     if own:
-        known, revision = int(PLACE.fullmatch(own[0].key)[2]), int(own[0].value.split()[1])
+        place = PLACE.fullmatch(own[0].key)
+        assert place is not None
+        known, revision = int(place[2]), int(own[0].value.split()[1])
     elif not known:
-        known, revision = int(json.loads(client.get(SETTINGS).value)["as"] == "frame"), client.get(GENESIS).made
+        known, revision = int(json.loads(client.need(SETTINGS).value)["as"] == "frame"), client.need(GENESIS).made
     if height == known:
         return revision
-    behind_it = {"min_create_revision": revision + 1, "sort_target": "CREATE", "sort_order": "ASCEND", "limit": height - known}
+    behind_it: Object = {"min_create_revision": revision + 1, "sort_target": "CREATE", "sort_order": "ASCEND", "limit": height - known}
     _, blocks = client.range(below(BLOCKS, keys_only=True, **behind_it))
     if len(blocks) < height - known:
         raise ValueError(f"the session is at height {height}, and the log ends at {known + len(blocks)}: it is another log, or an older one")
     return blocks[-1].made
 
 
-def programs_until(client, revision):
+def programs_until(client: Etcd, revision: int) -> list[bytes]:
     """The files of all programs that were put until a revision."""
     _, pairs = client.range(below(PROGRAMS, keys_only=True, max_create_revision=revision, sort_target="CREATE", sort_order="ASCEND"))
-    return [client.get(pair.key).value for pair in pairs]
+    return [client.need(pair.key).value for pair in pairs]
 
 
-def agreed_dumps(client, alike, own=""):
+def agreed_dumps(client: Etcd, alike: int, own: str = "") -> list[AgreedDump]:
     """The dumps that so many nodes made alike, or this one, the newest first: the mark, the SHA-256, and the names."""
     found = []
     for height, told in by_height(client.range(below(DUMPS))[1]).items():
@@ -267,17 +290,17 @@ def agreed_dumps(client, alike, own=""):
         names = sorted(name for name in told if told[name] == value)
         if (len(names) >= alike or own in names) and 2 * len(names) > len(told):
             content, digest, revision = value.split()
-            found.append((Mark(height, digest, int(revision)), content, names))
+            found.append(AgreedDump(Mark(height, digest, int(revision)), content, names))
     return found[::-1]
 
 
-def prune(client, kept, alike):
+def prune(client: Etcd, kept: int, alike: int) -> tuple[int, int]:
     """Removes what is older than the oldest of the newest dumps that so many nodes made alike, and compacts. Answers the
     height up to which the log is pruned, and how many blocks that were; the mark is put before anything goes."""
     dumps = agreed_dumps(client, alike)
     if len(dumps) < kept:
         return pruned(client)[0], 0
-    mark = dumps[kept - 1][0]
+    mark = dumps[kept - 1].mark
     client.ask("kv/put", put(PRUNED, f"{mark.height} {mark.revision}")["request_put"])
     _, blocks = client.range(below(BLOCKS, keys_only=True, max_create_revision=mark.revision))
     gone = [delete(wanted) for pair in blocks for wanted in (keys(pair.key), below(parts_of_key(pair.key)))]

@@ -4,19 +4,23 @@ network namespace of its own, as by unshare -n."""
 import os
 import subprocess
 import time
+from collections.abc import Iterable
+from subprocess import Popen
 
 from engines import end_with_node
 
 PREFIX = "10.77.0."
 
 
-def ip(*words):
+def ip(*words: str) -> None:
     subprocess.run(["ip", *words], check=True, capture_output=True)
 
 
 class Network:
-    def __init__(self, names):
-        self.places, self.holders, node = {}, {}, os.getpid()
+    def __init__(self, names: Iterable[str]) -> None:
+        self.places: dict[str, str] = {}
+        self.holders: dict[str, Popen[bytes]] = {}
+        node = os.getpid()
         ip("link", "set", "lo", "up")
         ip("link", "add", "bridge", "type", "bridge")
         ip("address", "add", PREFIX + "1/24", "dev", "bridge")
@@ -25,7 +29,7 @@ class Network:
             self.holders[name] = subprocess.Popen(["unshare", "-n", "sleep", "infinity"], preexec_fn=lambda: end_with_node(node))
             self.join(name, number)
 
-    def join(self, name, number):
+    def join(self, name: str, number: int) -> None:
         """Links the namespace of a process with the bridge."""
         pid = self.holders[name].pid
         while os.readlink(f"/proc/{pid}/ns/net") == os.readlink("/proc/self/ns/net"):
@@ -36,23 +40,23 @@ class Network:
         setup = f"ip link set lo up; ip address add {self.places[name]}/24 dev eth0; ip link set eth0 up"
         subprocess.run([*self.words(name), "sh", "-c", setup], check=True)
 
-    def words(self, name):
+    def words(self, name: str) -> list[str]:
         """What stands before a command that runs in the namespace of a name."""
         return ["nsenter", f"--net=/proc/{self.holders[name].pid}/ns/net"] if name in self.holders else []
 
-    def address(self, name):
+    def address(self, name: str) -> str:
         return self.places.get(name, PREFIX + "1")
 
-    def part(self, name, is_parted=True):
+    def part(self, name: str, is_parted: bool = True) -> None:
         ip("link", "set", f"at-{name}", "down" if is_parted else "up")
 
-    def close(self):
+    def close(self) -> None:
         for holder in self.holders.values():
             holder.kill()
             holder.wait()
 
 
-def is_here():
+def is_here() -> bool:
     """Whether this machine allows such networks."""
     try:
         return subprocess.run(["unshare", "-n", "ip", "link", "set", "lo", "up"], capture_output=True).returncode == 0
@@ -63,11 +67,11 @@ def is_here():
 class Loopback:
     """No network of its own: nothing can be parted."""
 
-    def words(self, name):
+    def words(self, name: str) -> list[str]:
         return []
 
-    def address(self, name):
+    def address(self, name: str) -> str:
         return "127.0.0.1"
 
-    def close(self):
+    def close(self) -> None:
         pass

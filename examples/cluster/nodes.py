@@ -1,7 +1,6 @@
 """A node: follows the log, has each block run by its engine, publishes the digest of each height, and compares it with the others'."""
 
 import argparse
-import collections
 import contextlib
 import fcntl
 import http.client
@@ -11,17 +10,21 @@ import os
 import re
 import threading
 import time
+from collections import Counter, OrderedDict, defaultdict
+from collections.abc import Iterator, Mapping, Sequence
 from pathlib import Path
 
 import engines
 import etcd
 import ledger
 import status
-from etcd import is_absent, keys, put, read
+from engines import Engine
+from etcd import Object, Pair, is_absent, keys, put, read
 from ledger import DIGESTS, DUMPS, GENESIS, NODES, NO_DIGEST, PROGRAMS, Mark
 from rvstm_tools.sessions import answers
+from rvstm_tools.sessions.answers import Answer, Refusal, State
 from rvstm_tools.sessions.processes import Settings
-from rvstm_tools.sessions.requests import Request
+from rvstm_tools.sessions.requests import Request, Word
 
 KEPT_DUMPS = 3
 KEPT_ANSWERS = 64
@@ -42,39 +45,47 @@ class Stop(ValueError):
 class Counts:
     """What a node counts for /metrics."""
 
-    def __init__(self):
+    def __init__(self) -> None:
         self.frames = self.bytes_run = self.bytes_answered = 0
-        self.seconds = collections.Counter()  # fetch, run, publish, dump
-        self.refusals = collections.Counter()
+        self.seconds: defaultdict[str, float] = defaultdict(float)  # fetch, run, publish
+        self.refusals: Counter[str] = Counter()
 
 
 class Node:
-    def __init__(self, name, urls, folder, workers=None, library=None, alike=2, quota=2 << 30, store=None, anew=False):
+    def __init__(
+        self, name: str, urls: str, folder: str | Path, workers: int | None = None, library: str | None = None, alike: int = 2, quota: int = 2 << 30, store: str | None = None, anew: bool = False
+    ) -> None:
         self.name, self.urls, self.folder, self.alike, self.quota = name, urls, Path(folder), alike, quota
         self.workers, self.library, self.store, self.anew = workers, library, store, anew
-        self.client, self.engine, self.busy = etcd.Etcd(urls, math.inf), None, threading.Lock()
-        self.mark, self.settings, self.told = Mark(), None, {}
-        self.pending, self.values, self.answers = [], {}, collections.OrderedDict()
-        self.named, self.looked, self.counts = set(), 0, Counts()
+        self.client, self.busy = etcd.Etcd(urls, math.inf), threading.Lock()
+        self.engine: Engine | None = None
+        self.mark, self.settings = Mark(), Settings()
+        self.told: Object = {}
+        self.pending: list[tuple[str, str]] = []
+        self.values: dict[int, str] = {}
+        self.answers: OrderedDict[int, Answer] = OrderedDict()
+        self.named: set[tuple[int, str]] = set()
+        self.looked, self.counts = 0, Counts()
         self.client.say = self.say
         self.folder.mkdir(parents=True, exist_ok=True)
 
-    def say(self, text):
+    def say(self, text: str) -> None:
         print(f"{time.strftime('%H:%M:%S')} {self.name} {text}", flush=True)
 
     # ---- the engine
 
-    def ask(self, word, *fields, body=b""):
+    def ask(self, word: Word, *fields: bytes, body: bytes = b"") -> Answer:
         """The answer of the engine, one that all machines give."""
         answer = self.tried(Request(word, fields, body))
         if answer.kind == b"failed":
             raise engines.Ended(answer.line.decode().strip())
         return answer
 
-    def tried(self, request):
+    def tried(self, request: Request) -> Answer:
         """The answer of the engine. What its file does not take is handed in again, some times."""
         for _ in range(MOST_TRIES):
             with self.busy:
+                assert self.engine is not None
                 answer = self.engine.ask(request)
             if not answer.line.startswith(b"failed store "):
                 return answer
@@ -82,31 +93,32 @@ class Node:
             time.sleep(SECONDS_BETWEEN_TRIES)
         raise Stop(f"the file {self.store} does not take what follows height {self.mark.height}: {answer.line.decode().strip()}")
 
-    def need(self, word, *fields, body=b""):
+    def need(self, word: Word, *fields: bytes, body: bytes = b"") -> bytes:
         """The answer to a request that has to be done."""
         answer = self.ask(word, *fields, body=body)
         if answer.kind != b"ok":
             raise Stop(f"{word.decode()} is answered {answer.line.decode().strip()}")
         return answer.body
 
-    def begin(self):
+    def begin(self) -> None:
         """Starts an engine, and brings it to where it can go on: by its file, by a dump, or from the log's begin."""
         self.start_engine()
         kept = self.kept() if self.store else None
         self.go_on(kept) if kept else self.begin_anew()
         self.looked = self.mark.height
+        assert self.engine is not None
         self.say(f"begins at height {self.mark.height}, engine {self.engine.pid or 'in this process'}")
 
-    def start_engine(self):
+    def start_engine(self) -> None:
         with self.busy:
             if self.engine:
                 self.engine.close()
             self.engine = engines.engine(self.settings, self.library)
 
-    def kept(self):
+    def kept(self) -> Mark | None:
         """Where the session in the file is; None where it has run no block, or where the node begins anew."""
         try:
-            told = answers.state_of(self.need(b"state"))
+            told = answers.state_of(self.need(Word.STATE))
         except engines.Ended as error:
             if str(error) not in UNFIT:
                 raise
@@ -119,14 +131,15 @@ class Node:
             self.need_anew(f"its file {self.store} is at height {height}, and the log behind that is pruned")
         return Mark(height, self.digest_told(told), revision) if revision else None
 
-    def need_anew(self, why):
+    def need_anew(self, why: str) -> None:
         """Goes on where the node was told to begin anew in such a case."""
         if not self.anew:
             raise Stop(f"{why}; started with --anew the node begins as a new one does, with a dump")
         self.say(f"{why}: begins anew")
 
-    def put_file_aside(self):
+    def put_file_aside(self) -> None:
         """Renames a file that is refused, and starts an engine with a new one. Its log goes first: beside a new file it would be read."""
+        assert self.store is not None
         file = os.path.realpath(self.store)
         aside = f"{file}.refused-{time.time_ns()}"
         for end in ("-wal", ""):
@@ -135,9 +148,9 @@ class Node:
         self.say(f"keeps the refused file as {aside}")
         self.start_engine()
 
-    def go_on(self, mark):
+    def go_on(self, mark: Mark) -> None:
         """Goes on from the file. What it ran last may not have been published: the node died, or the engine before it answered."""
-        self.mark, answer = mark, self.ask(b"last")
+        self.mark, answer = mark, self.ask(Word.LAST)
         self.say(f"goes on from its file at height {mark.height}")
         if answer.line != NEVER_RAN:
             self.answers[mark.height] = answer
@@ -147,24 +160,24 @@ class Node:
         if mark.height % self.told["every"] == 0:
             self.make_dump()
 
-    def begin_anew(self):
+    def begin_anew(self) -> None:
         """Begins with a dump, or with the first entry of the log."""
         self.mark, dump = self.newest_dump()
         gone, revision = ledger.pruned(self.client)
         if self.mark.revision < revision:
             raise ledger.Gone(f"the log begins behind height {gone}, and no dump of that height or above is to be had")
         for file in ledger.programs_until(self.client, self.mark.revision):
-            self.ask(b"program", body=file)
+            self.ask(Word.PROGRAM, body=file)
         if dump is not None:
-            self.need(b"begin", b"%d" % self.mark.height, self.mark.digest.encode(), body=dump)
+            self.need(Word.BEGIN, b"%d" % self.mark.height, self.mark.digest.encode(), body=dump)
         self.pending, self.values = [], {}
 
     # ---- dumps
 
-    def path(self, height):
+    def path(self, height: int) -> Path:
         return self.folder / f"{height:010d}.dump"
 
-    def newest_dump(self):
+    def newest_dump(self) -> tuple[Mark, bytes | None]:
         """The newest dump that enough nodes made alike, or this one alone, from the own folder or from another node."""
         for mark, content, names in ledger.agreed_dumps(self.client, self.alike, self.name):
             for name in sorted(names, key=lambda name: name != self.name):
@@ -177,9 +190,9 @@ class Node:
                     self.say(f"takes the dump of height {mark.height} from {name}, {len(dump)} bytes, made alike by {', '.join(names)}")
                     return mark, dump
                 self.say(f"refuses the dump of height {mark.height} from {name}: its SHA-256 is another")
-        return Mark(revision=self.client.get(GENESIS).made - 1), None
+        return Mark(revision=self.client.need(GENESIS).made - 1), None
 
-    def fetched(self, name, path):
+    def fetched(self, name: str, path: str) -> bytes:
         """What another node answers by HTTP."""
         pair = self.client.get(NODES + name)
         host, _, port = (pair.value.decode() if pair else "").rpartition(":")
@@ -196,9 +209,9 @@ class Node:
             raise OSError(f"status {answer.status}")
         return data
 
-    def make_dump(self):
+    def make_dump(self) -> None:
         """Keeps the storage in a file, and publishes its SHA-256. Where the disk is full, the node goes on without it."""
-        dump, path = self.need(b"dump"), self.path(self.mark.height)
+        dump, path = self.need(Word.DUMP), self.path(self.mark.height)
         new = path.with_suffix(".new")
         try:
             with open(new, "wb") as file:
@@ -216,34 +229,34 @@ class Node:
         self.publish([(ledger.at(DUMPS, self.name, self.mark.height), value)])
         self.tell_quota()
 
-    def tell_quota(self):
+    def tell_quota(self) -> None:
         used = int(self.client.ask("maintenance/status", {})["dbSize"])
         if used > QUOTA_TOLD * self.quota:
             self.say(f"etcd has {used >> 20} MiB of {self.quota >> 20}, and takes no block where it is full: prune the log")
 
     # ---- the log
 
-    def take(self, pair):
+    def take(self, pair: Pair) -> None:
         """Does what an entry of the log says."""
         if pair.key.startswith(PROGRAMS):
-            self.ask(b"program", body=pair.value)
+            self.ask(Word.PROGRAM, body=pair.value)
         elif pair.key == GENESIS and self.told["as"] == "begin":
-            self.need(b"begin", b"0", NO_DIGEST.encode(), body=self.block_of(pair) or b"")
+            self.need(Word.BEGIN, b"0", NO_DIGEST.encode(), body=self.block_of(pair) or b"")
         elif ledger.is_block(pair):
             self.run_block(pair)
 
-    def block_of(self, pair):
+    def block_of(self, pair: Pair) -> bytes | None:
         """The bytes of an entry, none of one that a node refuses: its frame is then one of no bytes, so that heights agree."""
         limit = 0 if pair.key == GENESIS else self.settings.frame_limit
         block = ledger.block_of(self.client, pair, limit)
         return None if block is None or ledger.is_refused(block, pair.key == GENESIS) else block
 
-    def run_block(self, pair):
+    def run_block(self, pair: Pair) -> None:
         times = [time.monotonic()]
         block = self.block_of(pair)
         times.append(time.monotonic())
-        answer = self.ask(b"frame", body=block or b"")
-        told = answers.state_of(self.need(b"state"))
+        answer = self.ask(Word.FRAME, body=block or b"")
+        told = answers.state_of(self.need(Word.STATE))
         times.append(time.monotonic())
         if told.height != self.mark.height + 1:
             raise Stop(f"the engine is at height {told.height} behind block {self.mark.height + 1}")
@@ -259,33 +272,34 @@ class Node:
         if is_dump:
             self.make_dump()
 
-    def digest_told(self, told):
+    def digest_told(self, told: State) -> str:
+        assert told.digest is not None
         return told.digest.hex()
 
-    def count(self, block, answer, times, is_refused):
+    def count(self, block: bytes, answer: Answer, times: Sequence[float], is_refused: bool) -> None:
         counts = self.counts
         counts.frames += 1
         counts.bytes_run += len(block)
         counts.bytes_answered += len(answer.body)
         counts.seconds["fetch"] += times[1] - times[0]
         counts.seconds["run"] += times[2] - times[1]
-        if answer.kind == b"refused":
+        if isinstance(answer, Refusal):
             counts.refusals["NoBlock" if is_refused else answer.name] += 1
             self.say(f"height {self.mark.height}: {'no block, ' if is_refused else ''}{answer.line.decode().strip()}")
 
     # ---- what is published
 
-    def digest_is_to_be_published(self):
+    def digest_is_to_be_published(self) -> None:
         self.values[self.mark.height] = f"{self.mark.digest} {self.mark.revision}"
         self.pending.append((ledger.at(DIGESTS, self.name, self.mark.height), self.values[self.mark.height]))
 
-    def flush(self):
+    def flush(self) -> None:
         began = time.monotonic()
         self.publish(self.pending)
         self.pending = []
         self.counts.seconds["publish"] += time.monotonic() - began
 
-    def publish(self, pairs):
+    def publish(self, pairs: Sequence[tuple[str, str]]) -> None:
         """Publishes values, each once. A node that comes to another value than it published before does not go on."""
         names = [key for key, _ in pairs]
         if self.client.transact(map(is_absent, names), [put(key, value) for key, value in pairs])[0]:
@@ -299,7 +313,7 @@ class Node:
         if missing:
             self.publish(missing)
 
-    def compare(self):
+    def compare(self) -> None:
         """Compares the last digests with those of the other nodes."""
         first = max(1, self.looked - HEIGHTS_BETWEEN_LOOKS)
         self.looked = self.mark.height
@@ -309,7 +323,7 @@ class Node:
         for height in [height for height in self.values if height < first]:
             del self.values[height]
 
-    def judge(self, height, told):
+    def judge(self, height: int, told: Mapping[str, str]) -> None:
         others, are_most = ledger.different_from(self.name, told)
         if are_most:
             line = self.different_line(height, others)
@@ -319,7 +333,7 @@ class Node:
                 self.say(f"height {height}: {other} differs from this node, one of {len(told)}")
             self.named.add((height, other))
 
-    def different_line(self, height, others):
+    def different_line(self, height: int, others: Sequence[str]) -> str:
         """The first line of this node's answer that differs from that of another one, which tells its own."""
         for other in others:
             try:
@@ -338,7 +352,7 @@ class Node:
     # ---- the whole
 
     @contextlib.contextmanager
-    def alone(self):
+    def alone(self) -> Iterator[None]:
         """Has the folder for itself."""
         with open(self.folder / "lock", "w") as lock:
             try:
@@ -347,15 +361,15 @@ class Node:
                 raise Stop(f"another node has the folder {self.folder}") from error
             yield
 
-    def settle(self):
+    def settle(self) -> None:
         """Waits for the genesis, and takes the settings that it came with."""
         while not self.client.get(GENESIS):
             time.sleep(0.1)
-        self.told = json.loads(self.client.get(ledger.SETTINGS).value)
+        self.told = json.loads(self.client.need(ledger.SETTINGS).value)
         of_session = {word: self.told[word] for word in ("frame_limit", "frame_gas", "brief")}
         self.settings = Settings(digest=True, workers=self.workers, store=self.store, **of_session)
 
-    def follow(self):
+    def follow(self) -> None:
         log = ledger.Log(self.urls, self.mark.revision)
         log.say = log.client.say = self.say
         for pairs in log.batches():
@@ -366,10 +380,10 @@ class Node:
             if self.mark.height - self.looked >= HEIGHTS_BETWEEN_LOOKS or not pairs and self.values:
                 self.compare()
 
-    def run(self):
+    def run(self) -> None:
         """Runs until the node has to stop, which is an error that says why."""
         self.settle()
-        deaths = collections.Counter()
+        deaths: Counter[int] = Counter()
         while True:
             try:
                 self.begin()
@@ -385,14 +399,14 @@ class Node:
 # ---- the command
 
 
-def address(text):
+def address(text: str) -> tuple[str, int]:
     host, _, port = text.rpartition(":")
     if not host or not port.isdigit():
         raise argparse.ArgumentTypeError(f"{text} is no HOST:PORT")
     return host, int(port)
 
 
-def options(doc):
+def options(doc: str) -> argparse.Namespace:
     parser = argparse.ArgumentParser(usage=doc.split("\n\n")[1].removeprefix("usage: "))
     parser.add_argument("--etcd", required=True)
     parser.add_argument("--name", required=True)
@@ -415,7 +429,7 @@ def options(doc):
     return given
 
 
-def start(kind, given):
+def start(kind: type[Node], given: argparse.Namespace) -> int:
     """Runs a node, and tells why it stopped."""
     node = kind(given.name, given.etcd, given.folder, given.workers, given.library, given.alike, given.quota << 20, given.store, given.anew)
     try:
@@ -431,3 +445,4 @@ def start(kind, given):
     finally:
         if node.engine:
             node.engine.close()
+    return 0

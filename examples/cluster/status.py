@@ -14,12 +14,16 @@ import http.server
 import re
 import threading
 from collections import Counter
+from typing import TYPE_CHECKING, NamedTuple
 
 import engines
 import etcd
 import ledger
-from ledger import BLOCKS
+from ledger import BLOCKS, Values
 from rvstm_tools.sessions.requests import Request
+
+if TYPE_CHECKING:
+    from nodes import Node
 
 SECONDS_A_READER = 10
 SECONDS_FOR_THE_ENGINE = 0.05
@@ -38,19 +42,36 @@ td { font-family: monospace } .differs { background: #c00; color: #fff } .absent
 """
 
 
-def rows_of(told):
+class Page(NamedTuple):
+    """An answer: its status, its kind and its bytes."""
+
+    status: int
+    kind: str
+    data: bytes
+
+
+class Rows(NamedTuple):
+    """The names of all nodes, the rows of a table, and how many heights differ."""
+
+    names: list[str]
+    rows: list[str]
+    wrong: int
+
+
+def rows_of(told: Values) -> Rows:
     """The names of all nodes, the rows of a table, and how many heights differ. What stands in etcd may be any text."""
     names = sorted({name for values in told.values() for name in values})
-    rows, wrong = [], 0
+    rows: list[str] = []
+    wrong = 0
     for height, values in sorted(told.items(), reverse=True):
         most = Counter(values.values()).most_common(1)[0][0]
         wrong += len(set(values.values())) > 1
         cells = [cell_of(values.get(name), most) for name in names]
         rows.append(f"<tr><td>{height}</td>{''.join(cells)}</tr>")
-    return names, rows, wrong
+    return Rows(names, rows, wrong)
 
 
-def cell_of(value, most):
+def cell_of(value: str | None, most: str) -> str:
     if value is None:
         return '<td class="absent">-</td>'
     kind = "" if value == most else ' class="differs"'
@@ -60,10 +81,10 @@ def cell_of(value, most):
 class Status:
     """What the pages of a node say."""
 
-    def __init__(self, node):
+    def __init__(self, node: "Node") -> None:
         self.node, self.client, self.lock = node, etcd.Etcd(node.urls, SECONDS_FOR_ETCD), threading.Lock()
 
-    def answer(self, path):
+    def answer(self, path: str) -> Page:
         """The status, the kind and the bytes of an answer."""
         word, _, rest = path.removeprefix("/").partition("/")
         if word in ("state", "get"):
@@ -71,35 +92,37 @@ class Status:
         if word in ("receipts", "dump") and re.fullmatch("[0-9]{1,10}", rest):
             return self.kept(word, int(rest))
         if rest or word not in ("healthz", "metrics", ""):
-            return 404, "text/plain", b"there is no such page\n"
-        return getattr(self, word or "page")()
+            return Page(404, "text/plain", b"there is no such page\n")
+        return self.healthz() if word == "healthz" else self.metrics() if word else self.page()
 
-    def read(self, word, key):
+    def read(self, word: str, key: str) -> Page:
         request = Request(word.encode(), (key.encode(),) if word == "get" else ())
         if word == "get" and not re.fullmatch("[0-9a-f]{64}", key) or word == "state" and key:
-            return 404, "text/plain", b"a key has 64 lower-case hex digits\n"
+            return Page(404, "text/plain", b"a key has 64 lower-case hex digits\n")
         if not self.node.busy.acquire(timeout=SECONDS_FOR_THE_ENGINE):
-            return 503, "text/plain", b"a block runs\n"
+            return Page(503, "text/plain", b"a block runs\n")
         try:
+            if self.node.engine is None:
+                raise engines.Ended
             answer = self.node.engine.ask(request)
-        except (engines.Ended, AttributeError):
-            return 503, "text/plain", b"the engine begins\n"
+        except engines.Ended:
+            return Page(503, "text/plain", b"the engine begins\n")
         finally:
             self.node.busy.release()
-        return 200, "text/plain", answer.body
+        return Page(200, "text/plain", answer.body)
 
-    def kept(self, word, height):
+    def kept(self, word: str, height: int) -> Page:
         try:
             data = self.node.answers[height].text() if word == "receipts" else self.node.path(height).read_bytes()
         except (KeyError, OSError):
-            return 404, "text/plain", b"this height is not kept\n"
-        return 200, "text/plain", data
+            return Page(404, "text/plain", b"this height is not kept\n")
+        return Page(200, "text/plain", data)
 
-    def healthz(self):
+    def healthz(self) -> Page:
         node = self.node
-        return 200, "text/plain", f"{node.name} height {node.mark.height} digest {node.mark.digest}\n".encode()
+        return Page(200, "text/plain", f"{node.name} height {node.mark.height} digest {node.mark.digest}\n".encode())
 
-    def lag(self):
+    def lag(self) -> int | None:
         """How many blocks of the log the node has not run, or None where etcd does not say."""
         try:
             with self.lock:
@@ -109,17 +132,18 @@ class Status:
             return None
         return max(0, blocks - self.node.mark.height)
 
-    def metrics(self):
+    def metrics(self) -> Page:
         counts, lag = self.node.counts, self.lag()
         lines = [f"rvstm_height {self.node.mark.height}", f"rvstm_frames_total {counts.frames}"]
         lines += [] if lag is None else [f"rvstm_lag_blocks {lag}"]
         lines += [f"rvstm_block_bytes_total {counts.bytes_run}", f"rvstm_answer_bytes_total {counts.bytes_answered}"]
         lines += [f'rvstm_refused_total{{name="{name}"}} {number}' for name, number in sorted(counts.refusals.copy().items())]
         lines += [f'rvstm_seconds_total{{of="{word}"}} {seconds:.6f}' for word, seconds in sorted(counts.seconds.copy().items())]
-        return 200, "text/plain; version=0.0.4", ("\n".join(lines) + "\n").encode()
+        return Page(200, "text/plain; version=0.0.4", ("\n".join(lines) + "\n").encode())
 
-    def page(self):
-        node, told = self.node, {}
+    def page(self) -> Page:
+        node = self.node
+        told: Values = {}
         try:
             with self.lock:
                 told, said = ledger.digests(self.client, max(0, node.mark.height - HEIGHTS_SHOWN + 1), node.mark.height), ""
@@ -131,17 +155,17 @@ class Status:
             "name": html.escape(node.name), "height": node.mark.height, "told": said, "wrong": wrong, "shown": len(rows), "rows": "\n".join(rows),
             "lag": "unknown how far" if lag is None else lag, "heads": "".join(f"<th>{html.escape(name)}</th>" for name in names),
         }
-        return 200, "text/html; charset=utf-8", (PAGE % words).encode()
+        return Page(200, "text/html; charset=utf-8", (PAGE % words).encode())
 
 
-def serve(node, host, port):
+def serve(node: "Node", host: str, port: int) -> int:
     """Answers readers by threads of their own, and tells etcd where."""
     status = Status(node)
 
     class Handler(http.server.BaseHTTPRequestHandler):
         timeout = SECONDS_A_READER
 
-        def do_GET(self):
+        def do_GET(self) -> None:
             code, kind, data = status.answer(self.path)
             self.send_response(code)
             self.send_header("Content-Type", kind)
@@ -149,7 +173,7 @@ def serve(node, host, port):
             self.end_headers()
             self.wfile.write(data)
 
-        def log_message(self, *_):
+        def log_message(self, *_: object) -> None:
             pass
 
     server = http.server.ThreadingHTTPServer((host, port), Handler)

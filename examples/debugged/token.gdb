@@ -5,12 +5,14 @@ monitor calls
 break take
 reverse-continue
 info args
-monitor value key:alice
-monitor value bbbbbbbbbbbbbbbbbbbbbbbbbbbbbbbbbbbbbbbbbbbbbbbbbbbbbbbbbbbbbbbb
+monitor value row:acct:key:alice
+monitor value row:acct:key:bob
 finish
 reverse-next
 next
 next
+step
+step
 step
 step
 print balance
@@ -22,12 +24,12 @@ stepi
 reverse-stepi
 reverse-step
 reverse-finish
-monitor go 37
+monitor go 63
 maintenance flush register-cache
 x/i $pc
 stepi
 print $a0
-print/d *(long long *)($sp + 8)
+print/d *(long long *)$a1
 reverse-continue
 print $moment
 monitor end

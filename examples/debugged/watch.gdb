@@ -9,7 +9,7 @@ reverse-continue
 delete
 finish
 reverse-next
-tbreak token.c:83
+tbreak token.c:95
 continue
 info locals
 continue

@@ -115,7 +115,7 @@ static void compare(const char *rvstm, text frame, text store)
 
 int main(int count, char **words)
 {
-    static const char path[] = "token.elf", key[] = "aaaaaaaaaaaaaaaaaaaaaaaaaaaaaaaaaaaaaaaaaaaaaaaaaaaaaaaaaaaaaaaa";
+    static const char path[] = "token.elf", key[] = "61636374616c6963650000000000000000000000000000000000000000000014";
     rvstm_session session = {0};
     if (count != 2) stop("usage: embed RVSTM");
     if (rvstm_version() != RVSTM_VERSION) stop("the library has another version than its header");

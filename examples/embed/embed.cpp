@@ -106,7 +106,7 @@ static void run(const std::string &rvstm)
     } catch (const Refusal &refusal) {
         std::cout << "refused " << refusal.what() << "\n";
     }
-    std::cout << session.get(std::string(64, 'a')) << session.state();
+    std::cout << session.get("61636374616c6963650000000000000000000000000000000000000000000014") << session.state();
 }
 
 int main(int count, char **words)

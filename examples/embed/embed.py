@@ -46,7 +46,9 @@ class Parts(ctypes.Structure):
 class Session:
     """A session of the library. Its answers are bytes; a refusal is a ValueError, and want of memory a MemoryError."""
 
-    def __init__(self, library, frame_limit=64 << 20, frame_gas=NO_LIMIT, digest=False, brief=False):
+    def __init__(
+        self, library: str, frame_limit: int = 64 << 20, frame_gas: int = NO_LIMIT, digest: bool = False, brief: bool = False
+    ) -> None:
         self.library, self.handle = ctypes.CDLL(library), Handle()
         self.library.rvstm_answer_length.restype = ctypes.c_size_t
         settings = Settings(frame_limit, frame_gas, digest, brief)
@@ -54,15 +56,15 @@ class Session:
         if status != DONE:
             raise ValueError(f"rvstm_open_with answers {status}")
 
-    def __enter__(self):
+    def __enter__(self) -> "Session":
         return self
 
-    def __exit__(self, *_):
+    def __exit__(self, *_: object) -> None:
         self.library.rvstm_close(ctypes.byref(self.handle))
 
-    def ask(self, name, *given):
+    def ask(self, name: str, *given: bytes | int) -> bytes:
         """Makes a call that is given bytes and numbers, and returns its answer."""
-        words = []
+        words: list[object] = []
         for value in given:
             words += [ctypes.c_uint64(value)] if isinstance(value, int) else [value, ctypes.c_size_t(len(value))]
         status = self.library[name](ctypes.byref(self.handle), *words)
@@ -72,29 +74,29 @@ class Session:
             raise ValueError(f"{name} answers {status}")
         return self.answer()
 
-    def reason(self):
+    def reason(self) -> str:
         parts = Parts()
         self.library.rvstm_refusal(ctypes.byref(self.handle), ctypes.byref(parts))
         line = f", line {parts.line}" if parts.line else ""
         return f"{parts.area.decode()} {parts.name.decode()} {parts.number}{line}"
 
-    def answer(self):
+    def answer(self) -> bytes:
         length = self.library.rvstm_answer_length(ctypes.byref(self.handle))
         buffer = ctypes.create_string_buffer(length + 1)
         self.library.rvstm_answer(ctypes.byref(self.handle), buffer, ctypes.c_size_t(length))
-        return buffer.raw[:length]
+        return bytes(buffer.raw[:length])
 
 
-def named(session, block):
+def named(session: Session, block: bytes) -> bytes:
     """A block file whose programs are handed in, with their names in the place of their paths."""
-    def name_of(program):
+    def name_of(program: re.Match[bytes]) -> bytes:
         name = session.ask("rvstm_program", Path(program[2].decode()).read_bytes())
         return program[1] + b" " + name.strip()
 
     return PROGRAM.sub(name_of, block)
 
 
-def compare(rvstm, frame, dump):
+def compare(rvstm: str, frame: bytes, dump: bytes) -> None:
     """Compares a frame's answer and the storage with what `rvstm seq` prints."""
     in_order = subprocess.run([rvstm, "seq", "token.block"], capture_output=True, check=True).stdout
     # The result of `seq` has the storage before its line `end`; a dump has two lines before it.
@@ -104,7 +106,7 @@ def compare(rvstm, frame, dump):
     print(f"{len(in_order)} bytes, as seq")
 
 
-def main():
+def main() -> None:
     if len(sys.argv) != 3:
         sys.exit(__doc__)
     library, rvstm = sys.argv[1:]
@@ -116,7 +118,7 @@ def main():
             session.ask("rvstm_frame", block)  # it has a path, and no name, and a session opens no file
         except ValueError as refusal:
             print(f"refused {refusal}")
-        print((session.ask("rvstm_get", b"a" * 64) + session.ask("rvstm_state")).decode(), end="")
+        print((session.ask("rvstm_get", b"61636374616c6963650000000000000000000000000000000000000000000014") + session.ask("rvstm_state")).decode(), end="")
 
 
 if __name__ == "__main__":

@@ -135,7 +135,7 @@ fn main() -> Result<(), Box<dyn std::error::Error>> {
     if let Err(refusal) = session.frame(block.as_bytes()) {
         println!("refused {refusal}");
     }
-    print!("{}", text(&session.get(&"a".repeat(64))?));
+    print!("{}", text(&session.get("61636374616c6963650000000000000000000000000000000000000000000014")?));
     print!("{}", text(&session.state()?));
     Ok(())
 }

@@ -1,27 +1,31 @@
-/* Transfers with a fee. An account is a key of 32 bytes, an amount 8 bytes, the lowest first; an absent
-   account has 0. The first byte of the input says what is asked:
+/* Transfers with a fee. An account has 20 bytes, an amount 8 bytes, the lowest first; an absent account has 0.
+   The first word of the input, 4 bytes, says what is asked:
 
        0 FROM TO AMOUNT      transfer: FROM pays the amount, and a fee of 2 to the pot
        1 ACCOUNT             balance
+       2                     what the pot has
 
-   The pot is the account whose key is the text "fees". Each transfer adds to it, and none reads it; nor is TO
-   read. So transfers from different accounts do not conflict, unless one pays from an account that an earlier
-   one paid to. Sums wrap at 2^64: whoever writes the block sees that all accounts together have less.
+   The pot is a row of its own, and no account. Each transfer adds to it, and none reads it; nor is TO read. So transfers from
+   different accounts do not conflict, unless one pays from an account that an earlier one paid to. Sums wrap at 2^64: whoever
+   writes the block sees that all accounts together have less.
 
    The output is the balance of the account, after a transfer that of FROM. A call has no sender: whoever
    writes the block may transfer. It needs rules three.
 
    fees.elf is made by clang, fees-gnu.elf by GCC. */
 
-#include "numbers.h"
+#include "rows.h"
 
-enum { TRANSFER = 0, BALANCE = 1, FEE = 2 };
+enum { TRANSFER = 0, BALANCE = 1, POT = 2, FEE = 2 };
 
-static const u8 pot[KEY_LENGTH] = "fees";
+TABLE(acct);
+TABLE(fee);
 
-static u64 balance_of(const u8 *account) {
+static const struct key pot = TEXT_KEY(fee, "pot");
+
+static u64 balance_at(const struct key *key) {
     u64 amount = 0;
-    u32 length = storage_read(account, &amount, sizeof amount);
+    u32 length = storage_read(key, &amount, sizeof amount);
     if (length != ABSENT && length != sizeof amount) {
         REVERT("the account has no amount");
     }
@@ -29,35 +33,48 @@ static u64 balance_of(const u8 *account) {
 }
 
 static u64 transfer(struct cursor *input) {
-    const u8 *from = take_key(input), *to = take_key(input);
+    const struct account *from = take_account(input), *to = take_account(input);
     u64 amount = take_u64(input);
+    struct key payer, payee;
     take_end(input);
-    u64 balance = balance_of(from);
+    ROW_KEY(&payer, acct, *from);
+    ROW_KEY(&payee, acct, *to);
+    u64 balance = balance_at(&payer);
     if (balance < FEE || balance - FEE < amount) {
         REVERT("the balance is too small");
     }
     balance -= amount + FEE;
-    storage_write(from, &balance, sizeof balance);
-    storage_add(to, amount);
-    storage_add(pot, FEE);
-    return balance_of(from);
+    storage_write(&payer, &balance, sizeof balance);
+    storage_add(&payee, amount);
+    storage_add(&pot, FEE);
+    return balance_at(&payer);
 }
 
 static u64 tell_balance(struct cursor *input) {
-    const u8 *account = take_key(input);
+    const struct account *account = take_account(input);
+    struct key key;
     take_end(input);
-    return balance_of(account);
+    ROW_KEY(&key, acct, *account);
+    return balance_at(&key);
+}
+
+static u64 tell_pot(struct cursor *input) {
+    take_end(input);
+    return balance_at(&pot);
 }
 
 void contract(const u8 *input, u32 length) {
     struct cursor cursor = cursor_over(input, length);
     u64 told;
-    switch (take_u8(&cursor)) {
+    switch (take_u32(&cursor)) {
     case TRANSFER:
         told = transfer(&cursor);
         break;
     case BALANCE:
         told = tell_balance(&cursor);
+        break;
+    case POT:
+        told = tell_pot(&cursor);
         break;
     default:
         REVERT("unknown request");

@@ -1,5 +1,5 @@
-/* A ledger of tokens. An account is a key of 32 bytes, an amount 8 bytes, the lowest first; an absent
-   account has 0. The first byte of the input says what is asked:
+/* A ledger of tokens. An account has 20 bytes, an amount 8 bytes, the lowest first; an absent account has 0.
+   The first word of the input, 4 bytes, says what is asked:
 
        0 ACCOUNT AMOUNT      mint: the account has so much more
        1 FROM TO AMOUNT      transfer
@@ -10,47 +10,59 @@
 
    token.elf is made by clang, token-gnu.elf by GCC. */
 
-#include "numbers.h"
+#include "rows.h"
 
 enum { MINT = 0, TRANSFER = 1, BALANCE = 2 };
 
-static u64 balance_of(const u8 *account) {
+TABLE(acct);
+
+static u64 balance_at(const struct key *key) {
     u64 amount = 0;
-    u32 length = storage_read(account, &amount, sizeof amount);
+    u32 length = storage_read(key, &amount, sizeof amount);
     if (length != ABSENT && length != sizeof amount) {
         REVERT("the account has no amount");
     }
     return amount;
 }
 
-static u64 add(const u8 *account, u64 amount) {
+static u64 add(const struct account *account, u64 amount) {
+    struct key key;
     u64 sum;
-    if (__builtin_add_overflow(balance_of(account), amount, &sum)) {
+    ROW_KEY(&key, acct, *account);
+    if (__builtin_add_overflow(balance_at(&key), amount, &sum)) {
         REVERT("the balance is too large");
     }
-    storage_write(account, &sum, sizeof sum);
+    storage_write(&key, &sum, sizeof sum);
     return sum;
 }
 
-static u64 take(const u8 *account, u64 amount) {
-    u64 balance = balance_of(account);
+static u64 take(const struct account *account, u64 amount) {
+    struct key key;
+    ROW_KEY(&key, acct, *account);
+    u64 balance = balance_at(&key);
     if (balance < amount) {
         REVERT("the balance is too small");
     }
     balance -= amount;
-    storage_write(account, &balance, sizeof balance);
+    storage_write(&key, &balance, sizeof balance);
     return balance;
 }
 
+static u64 balance_of(const struct account *account) {
+    struct key key;
+    ROW_KEY(&key, acct, *account);
+    return balance_at(&key);
+}
+
 static u64 mint(struct cursor *input) {
-    const u8 *account = take_key(input);
+    const struct account *account = take_account(input);
     u64 amount = take_u64(input);
     take_end(input);
     return add(account, amount);
 }
 
 static u64 transfer(struct cursor *input) {
-    const u8 *from = take_key(input), *to = take_key(input);
+    const struct account *from = take_account(input), *to = take_account(input);
     u64 amount = take_u64(input);
     take_end(input);
     take(from, amount);
@@ -59,7 +71,7 @@ static u64 transfer(struct cursor *input) {
 }
 
 static u64 tell_balance(struct cursor *input) {
-    const u8 *account = take_key(input);
+    const struct account *account = take_account(input);
     take_end(input);
     return balance_of(account);
 }
@@ -67,7 +79,7 @@ static u64 tell_balance(struct cursor *input) {
 void contract(const u8 *input, u32 length) {
     struct cursor cursor = cursor_over(input, length);
     u64 told;
-    switch (take_u8(&cursor)) {
+    switch (take_u32(&cursor)) {
     case MINT:
         told = mint(&cursor);
         break;

@@ -1,0 +1,75 @@
+"""Signed calls: what a sender signs, the object of JSON that it sends, and what is refused of it."""
+
+import hashlib
+import json
+import sys
+from dataclasses import dataclass
+from pathlib import Path
+
+from cryptography.exceptions import InvalidSignature
+from cryptography.hazmat.primitives.asymmetric.ed25519 import Ed25519PublicKey
+
+sys.path.append(str(Path(__file__).resolve().parents[2] / "tools"))
+from rvstm_tools.texts.blocks import LONGEST_INPUT
+from rvstm_tools.texts.keys import ACCOUNT_LENGTH
+
+MOST_GAS = 1_000_000  # of a call
+LONGEST = LONGEST_INPUT - ACCOUNT_LENGTH  # bytes of an input; the node puts the account before it
+FIELDS = {"key": str, "number": int, "gas": int, "input": str, "signature": str}
+
+
+class RefusedError(Exception):
+    """Why a request is refused: a status of HTTP, and a text."""
+
+    def __init__(self, status: int, text: str) -> None:
+        super().__init__(text)
+        self.status = status
+
+
+def account_of(key: bytes) -> bytes:
+    """The account of a public key: the first 20 bytes of its SHA-256."""
+    return hashlib.sha256(key).digest()[:ACCOUNT_LENGTH]
+
+
+@dataclass(frozen=True)
+class SignedCall:
+    """A call that somebody signed: the public key, the number of the call, the most gas, the input, and the signature."""
+
+    key: bytes
+    number: int
+    gas: int
+    input: bytes
+    signature: bytes
+
+    @property
+    def account(self) -> bytes:
+        """Who signed."""
+        return account_of(self.key)
+
+    def check(self, program: str) -> None:
+        """Refuses a call that its key did not sign."""
+        try:
+            Ed25519PublicKey.from_public_bytes(self.key).verify(self.signature, message(program, self.number, self.gas, self.input))
+        except (InvalidSignature, ValueError):  # ValueError: the key has not 32 bytes
+            raise RefusedError(403, "the signature is not that of the key") from None
+
+
+def message(program: str, number: int, gas: int, data: bytes) -> bytes:
+    """What is signed. It names the program, so that a ledger of another program does not take the call."""
+    return f"rvstm call\n{program}\n{number}\n{gas}\n{data.hex()}\n".encode()
+
+
+def call_of(body: bytes) -> SignedCall:
+    """The call that the body of a request has."""
+    try:
+        given = json.loads(body)
+        values = [given[name] for name in FIELDS]
+        if [type(value) for value in values] != list(FIELDS.values()) or len(given) != len(FIELDS):
+            raise ValueError
+        key, number, gas, data, signature = values
+        call = SignedCall(bytes.fromhex(key), number, gas, bytes.fromhex(data), bytes.fromhex(signature))
+    except (ValueError, LookupError, TypeError, RecursionError):
+        raise RefusedError(400, f"a call is an object with {', '.join(FIELDS)}: two numbers, and else texts in hex") from None
+    if not 0 < call.gas <= MOST_GAS or not 0 <= call.number < 1 << 64 or len(call.input) > LONGEST:
+        raise RefusedError(400, f"gas is 1 to {MOST_GAS}, a number has 64 bits, and an input has at most {LONGEST} bytes")
+    return call
