@@ -1,10 +1,11 @@
 """Each command of the program and each tool, once by its documented form. What is printed stands in the pages, or follows from
 the block by hand."""
 
+import json
 import re
+import signal
 import xml.etree.ElementTree
 from collections.abc import Callable, Sequence
-
 
 from gate import pages
 from gate.built import OF_LIBRARY, PROGRAM, are_noted
@@ -49,6 +50,8 @@ LISTING = """\
 """
 NEW_STATE = "rules 1\nheight 0\nkeys 0\nprograms 0\nframe-limit 67108864\nframe-gas none\nbrief 0\n"
 TOO_SMALL = b"the balance is too small".hex()
+BOB = "61636374626f6200000000000000000000000000000000000000000000000014"
+"""The key `row:acct:key:bob`."""
 
 
 def printed(came: str, wanted: str) -> None:
@@ -105,11 +108,11 @@ def dis(run: Run) -> None:
 def debug(run: Run) -> None:
     """A replay, with the lines that `--more` adds."""
     words = ("debug", "token.block", "--call", "2")
-    lines = "g 00010368\nb\nm 0010fff0 16\nwhat\nq\n"
-    wanted = "64 00010368 ecall\n63 00010364 addi x17,x0,4\n00000000000000002300000000000000\nwhat\n"
+    lines = "g 00010450\nb\nm 0010fff8 8\nwhat\nq\n"
+    wanted = "90 00010450 ecall\n89 0001044c addi x17,x0,4\n2300000000000000\nwhat\n"
     same(rvstm(run, *words, folder=TOKEN, data=lines).done(), wanted)
-    more = rvstm(run, *words, "--more", folder=TOKEN, data=f"e\nt 64\nt 66\nv {'b' * 64}\n").done()
-    wanted = f"ends reverted {TOO_SMALL} 310 65\n64 00010368 ecall\nrefused AtEnd 2\nvalue 2300000000000000\n"
+    more = rvstm(run, *words, "--more", folder=TOKEN, data=f"e\nt 90\nt 92\nv {BOB}\n").done()
+    wanted = f"ends reverted {TOO_SMALL} 352 91\n90 00010450 ecall\nrefused AtEnd 2\nvalue 2300000000000000\n"
     same(more, wanted)
 
 
@@ -177,6 +180,20 @@ def test(run: Run) -> None:
     same(tool(run, "test", written(run.place / "one.list", text % 639)).status, 0)
     same(tool(run, "test", written(run.place / "one.list", text % 638)).status, 1)
     same(tool(run, "test", written(run.place / "one.list", text % "x")).status, 2)
+    test_over_a_result(run)
+
+
+def test_over_a_result(run: Run) -> None:
+    """A list over what three calls left, twice: for a table of gas, and compared with that table, in formats for machines."""
+    written(run.place / "result", rvstm(run, "seq", "counter.block", folder=COUNTER).done())
+    call = f"call counter 1000 {KEY}\nexpect {KEY} u32:4\n"
+    written(run.place / "one.list", f"storage result\nprogram counter {COUNTER}/counter.elf\n{call}")
+    tool(run, "test", ".", "--gas", "gas.txt", "--write", folder=run.place).done()
+    holds((run.place / "gas.txt").read_text().endswith("  639     0  one.list\n"), "another table", "the gas of the call")
+    done = tool(run, "test", ".", "--gas", "gas.txt", "--json", "--junit", "tests.xml", folder=run.place).done()
+    sums = {"kind": "sums", "tests": 1, "failed": 0, "calls": 1, "expectations": 1, "not_met": 0}
+    same(json.loads(done.splitlines()[-1]), sums)
+    holds('tests="2" failures="0"' in (run.place / "tests.xml").read_text(), "another file", "two tests without a failure")
 
 
 def result(run: Run) -> None:
@@ -204,15 +221,9 @@ def schedule(run: Run) -> None:
     printed(rvstm(run, "drive", "counter.block", "--workers", "2", "--schedule", whole, folder=COUNTER).done(), COUNTED)
 
 
-def node(run: Run) -> None:
-    """The example of a node, in memory and over a file."""
-    tool(run, "node", folder=run.place).done()
-    tool(run, "node", "--store", "ledger.sqlite", "--seconds", "3", folder=run.place).done()
-
-
 def trace(run: Run) -> None:
     """The storage calls and the gas of a call."""
-    wanted = "call 2 of token.block: reverted, 65 steps, gas 310 of 5000, pc 00010368\n..\n"
+    wanted = "call 2 of token.block: reverted, 91 steps, gas 352 of 5000, pc 00010450\n..\n"
     printed(tool(run, "trace", "token.block", "--call", "2", folder=TOKEN).done(), wanted)
 
 
@@ -233,7 +244,8 @@ def explore(run: Run) -> None:
 def gdb(run: Run) -> None:
     """A packet of gdb's protocol: why the call stops, which it does at its first instruction, by signal 5."""
     done = tool(run, "gdb", "counter.block", "--call", "0", folder=COUNTER, data="+$?#3f")
-    holds(bool(re.match(r"\+\$[ST]05.*#[0-9a-f]{2}", done.out)), done.out, "+$S05#.. or +$T05..#..")
+    trapped = f"{signal.SIGTRAP:02x}"
+    holds(bool(re.match(rf"\+\$[ST]{trapped}.*#[0-9a-f]{{2}}", done.out)), done.out, f"+$S{trapped}#.. or +$T{trapped}..#..")
 
 
 def verify(run: Run) -> None:
@@ -288,18 +300,36 @@ def release(run: Run) -> None:
         same(tool(run, "release").status, 2)
 
 
+def new(run: Run) -> None:
+    """A folder is made whether there is a compiler or not. The cases of an author build it, and run its test."""
+    ended = tool(run, "new", "votes", folder=run.place)
+    holds(ended.status == 0 or "votes is made, and not built: " in ended.errors, ended.errors, "a folder that is built")
+    made = sorted(path.name for path in (run.place / "votes").iterdir() if path.suffix != ".elf")
+    same(made, [".gitignore", "Makefile", "README.md", "votes.c", "votes.explore", "votes.list"])
+
+
+def session(run: Run) -> None:
+    """A list as a frame, and what the session in the file has then."""
+    path = run.place / "ledger"
+    tool(run, "session", "--store", path, "counter.list", folder=COUNTER).done()
+    came = tool(run, "session", "--store", path, "--get", "key:1", "--last", folder=COUNTER).done()
+    same(came.splitlines()[1].split(), [f"{1:064x}:", "03000000", "3"])
+    same(came.count("  returned  "), 3, "calls of the last frame")
+
+
 TOOLS: dict[str, tuple[Callable[[Run], None], Sequence[Tool]]] = {
     "block": (block, ()),
     "test": (test, ()),
     "result": (result, ()),
     "conflicts": (picture, ()),
     "schedule": (schedule, ()),
-    "node": (node, ()),
     "trace": (trace, ()),
     "coverage": (coverage, ()),
     "explore": (explore, ()),
     "gdb": (gdb, ()),
     "verify": (verify, (Tool.LLVM,)),
+    "new": (new, ()),
+    "session": (session, ()),
     "preview": (preview, ()),
     "example": (example, ()),
     "library": (library, ()),

@@ -12,10 +12,11 @@ from gate.machine import CONTRACTS, Tool
 from gate.texts import written
 
 EXAMPLES = TOP / "examples"
+EXPLORED = EXAMPLES / "explored"
 MAKEFILE = TOP / "sdk/Makefile"
 EXPECTED = ("auction", "digest", "fees", "token")
 """The examples that have a text of what their block prints."""
-PLANTED = {"auction-77": ("auction", 2, 1), "auction-own": ("auction", 3, 1), "fees-late": ("fees", 1, 17), "token-doubles": ("token", 1, 1)}
+PLANTED = {"auction-77": ("auction", 2, 1), "auction-own": ("auction", 3, 1), "fees-late": ("fees", 1, 1), "token-doubles": ("token", 1, 1)}
 """The programs with a planted bug: the example, how many calls are left, and the seed."""
 DESCRIPTIONS = (
     ("call echo 100 u8:{other}", "explore: FILE, line 3: other: no line `draw` above has this name"),
@@ -38,9 +39,9 @@ DESCRIPTIONS = (
     ("call echo 100 u8:{some}\nstorage\nholds keys()", "# line 5: holds keys()"),
 )
 """Texts of descriptions, with a line that is printed of each."""
-SLOW = ("auction", "lock")
+SLOW = ("lock",)
 """The examples whose calls have many steps."""
-FAILING = ("parts", "files", "tables")
+FAILING = ("parts", "files", "tables", "shapes")
 CHARGES = re.compile(r" gas \d+ pc [0-9a-f]+")
 
 
@@ -82,13 +83,14 @@ def block_of_list(run: Run, name: str) -> None:
 
 
 def lists(run: Run) -> None:
-    """Each list as a test, with the programs of both compilers."""
+    """Each list as a test, with the programs of both compilers, and with those in Rust."""
     tool(run, "test", "--variant", "gnu", ".", folder=EXAMPLES).done()
+    tool(run, "test", "--variant", "rust", "exchange", "vault", folder=EXAMPLES).done()
 
 
 def described(run: Run, name: str, program: str) -> None:
     """A description, with the program of one compiler: nothing is broken."""
-    words = ("--seconds", "1", "--seed", str(run.setting.seed % 1000), "--replace", f"{name}={EXAMPLES / program}")
+    words = ("--seconds", "1", "--jobs", "1", "--seed", str(run.setting.seed % 1000), "--replace", f"{name}={EXAMPLES / program}")
     done = tool(run, "explore", EXAMPLES / name / f"{name}.explore", *words).done()
     same(done.splitlines()[-1], "nothing is broken")
 
@@ -106,6 +108,21 @@ def planted(run: Run, name: str) -> None:
     same(tool(run, "test", found).status, 0, "with the bug")
     right = written(run.place / "right.list", found.read_text().replace(f"{name}.elf", f"{example}.elf"))
     same(tool(run, "test", right).status, 1, "without the bug")
+
+
+def modelled(run: Run) -> None:
+    """A bank that answers what its model says, and with a bug that does not."""
+    made(run, EXPLORED / "bank.c", "bank.elf")
+    same((run.place / "bank.elf").read_bytes() == (EXPLORED / "bank.elf").read_bytes(), True)
+    last = tool(run, "explore", EXPLORED / "bank.explore", "--calls", "500").done().splitlines()[-1]
+    same(last, "nothing is broken")
+    made(run, EXPLORED / "bank.c", "bank.elf", more=["MORE=-DBUG=1"])
+    words = ("--replace", f"bank={run.place}/bank.elf", "--folder", run.place / "kept")
+    same(tool(run, "explore", EXPLORED / "bank.explore", *words).status, 1, "explore")
+    found = run.place / "kept/found.list"
+    same(len(re.findall("^call ", found.read_text(), re.M)), 2, "calls that are left")
+    again = tool(run, "explore", EXPLORED / "bank.explore", *words).out.splitlines()[0]
+    holds(again.startswith(f"still broken by the calls of {found}: line 8: method deposit: "), again, "what was found before")
 
 
 def traced(run: Run, name: str) -> None:
@@ -188,13 +205,13 @@ def failing(run: Run, name: str) -> None:
 
 def keys_of_tables(run: Run) -> None:
     """Keys of tables by the words of their list."""
-    folder, told = EXAMPLES / "auction", EXAMPLES / "told"
-    result = rvstm(run, "seq", "auction.block", folder=folder).done()
-    table = tool(run, "result", "--list", "auction.list", folder=folder, data=result).done()
+    folder, told = EXAMPLES / "lock", EXAMPLES / "told"
+    result = rvstm(run, "seq", "lock.block", folder=folder).done()
+    table = tool(run, "result", "--list", "lock.list", folder=folder, data=result).done()
     keys = sorted({found for found in re.findall(r"^ *(?:wrote )*([^ ]*): .*", table, re.M)})
     same("\n".join(keys) + "\n", (told / "keys.told").read_text())
     svg = run.place / "picture"
-    tool(run, "conflicts", "auction.block", "--svg", svg, "--list", "auction.list", folder=folder).done()
+    tool(run, "conflicts", "lock.block", "--svg", svg, "--list", "lock.list", folder=folder).done()
     same("\n".join(re.findall(r">(table:[^<]*)", svg.read_text())) + "\n", (told / "waits.told").read_text())
 
 
@@ -263,6 +280,7 @@ def cases() -> list[Case]:
         Case("checks that fail on this machine", failing_on_this_machine, (Tool.CC, Tool.MAKE)),
         Case("example tally-rust as tally", in_rust),
         Case("keys of tables by their words", keys_of_tables),
+        Case("description bank with its model", modelled, CONTRACTS, cost=3, needs_speed=True),
         Case("lists as tests", lists, cost=10),
         Case("reckon traced by its lines", by_lines, (*CONTRACTS, Tool.LLVM), cost=2),
         Case("lines that lists reach", covered, (*CONTRACTS, Tool.LLVM), cost=3),

@@ -58,7 +58,8 @@ class Block:
 
 def page_files() -> list[Path]:
     """The pages, README first."""
-    return [TOP / "README.md", TOP / "CONTRIBUTING.md", *sorted((TOP / "docs").glob("*.md")), TOP / "bench/README.md"]
+    others = ("bench/README.md", "examples/cluster/README.md")
+    return [TOP / "README.md", TOP / "CONTRIBUTING.md", *sorted((TOP / "docs").glob("*.md")), *(TOP / name for name in others)]
 
 
 def code_blocks(lines: Sequence[str]) -> Iterator[tuple[int, list[str]]]:
@@ -221,6 +222,7 @@ def tree_of(run: Run) -> Path:
     (tree / "crates/rvstm/out").mkdir(parents=True)
     for path in (tree / "bin/rvstm", tree / "crates/rvstm/out/rvstm"):
         path.symlink_to(run.program)
+    (tree / "bin/rvstm-tools").symlink_to(TOP / "tools/rvstm-tools")
     return tree
 
 
