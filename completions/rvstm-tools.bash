@@ -2,7 +2,7 @@
 _rvstm_tools() {
     local word=${COMP_WORDS[COMP_CWORD]} options=""
     if [ "$COMP_CWORD" = 1 ]; then
-        COMPREPLY=($(compgen -W "block conflicts coverage example explore gdb library node preview release result schedule test trace verify --help" -- "$word"))
+        COMPREPLY=($(compgen -W "block conflicts coverage example explore gdb library new preview release result schedule session test trace verify --help" -- "$word"))
         return
     fi
     case ${COMP_WORDS[1]} in
@@ -10,15 +10,16 @@ _rvstm_tools() {
     conflicts) options="--help --program --preview --list --svg" ;;
     coverage) options="--help --program --preview --lcov --sdk" ;;
     example) options="--help" ;;
-    explore) options="--help --program --preview --seed --calls --seconds --length --out --replace" ;;
+    explore) options="--help --program --preview --seed --jobs --calls --seconds --length --out --folder --replace" ;;
     gdb) options="--help --program --preview --call --list" ;;
     library) options="--help" ;;
-    node) options="--help --program --preview --seed --store --seconds" ;;
+    new) options="--help --rust" ;;
     preview) options="--help" ;;
     release) options="--help" ;;
-    result) options="--help --list --json --registers" ;;
+    result) options="--help --list --json --schema --registers" ;;
     schedule) options="--help --program --preview --to-done --from" ;;
-    test) options="--help --program --preview --filter --variant --update" ;;
+    session) options="--help --program --preview --get --list --state --dump --last --replay --write --store --frame-limit --frame-gas --workers --brief" ;;
+    test) options="--help --program --preview --jobs --only --filter --variant --update --json --junit --gas --within --write" ;;
     trace) options="--help --program --preview --call --list --lines --svg" ;;
     verify) options="--help --sums --yes" ;;
     esac
