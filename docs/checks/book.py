@@ -49,7 +49,6 @@ class Book:
 
     @property
     def summary(self) -> str:
-        """How much there is to read."""
         held = self.reading
         parts = ((held.lines, "line of definitions"), (len(held.rows), "file"), (len(held.types), "type of the code"), (len(held.modules), "module of the kit"))
         lines, files, types, modules = (sources.counted(number, name) for number, name in parts)
@@ -116,7 +115,6 @@ def filled(text: str) -> list[str]:
 
 
 def file_lines(number: int, row: Row) -> Iterator[str]:
-    """A file of a book."""
     yield from heading(f"{number}  {row.file}, {row.read} of {row.lines} lines")
     yield from [f"-- {line}".rstrip() for line in definitions.head_comment(row.file)]
     for entry in entries_of(row):
@@ -125,14 +123,12 @@ def file_lines(number: int, row: Row) -> Iterator[str]:
 
 
 def type_lines(held: Type) -> Iterator[str]:
-    """A type of a book."""
     yield from ["", f"{held.kind.value} {held.name}, {sources.shown(held.path)}:{held.line}"]
     yield from [f"    {line}" for line in [*(f"/// {line}" for line in held.comment), *held.text.splitlines()]]
     yield from [f"    {words}: {text}" for words, text in seen_of(held)]
 
 
 def kit_lines(names: Names) -> Iterator[str]:
-    """A module of the kit."""
     file = reading.kit_file(names.module)
     yield from ["", f"{names.module.library} {names.module.name}" + (f", {file}" if file else "")]
     yield from [f"    {line}" for line in filled(", ".join(names.names))]

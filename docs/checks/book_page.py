@@ -51,13 +51,11 @@ dd { margin: 0; }
 
 
 def anchor(cited: Cited) -> str:
-    """The anchor of a definition, a type, or a module of the kit."""
     place = reading.module_of(cited).library + "." + reading.module_of(cited).name if cited.kind is Place.KIT else f"{cited.place}.{cited.name}"
     return f"{cited.kind.value}-{re.sub(r'[^0-9A-Za-z_.◌]+', '-', place)}" + ("" if place.isascii() else f"-{abs(sum(map(ord, place)))}")
 
 
 def file_anchor(file: str) -> str:
-    """The anchor of a file."""
     return f"file-{file.replace('/', '-')}"
 
 
@@ -144,7 +142,6 @@ class Page:
         yield f"<p>{prose(' '.join(call.comment))}</p><pre>{self.linked_code(text, types, names)}</pre></section>"
 
     def file(self, number: int, row: Row) -> Iterator[str]:
-        """A file of definitions."""
         lines = f"{row.read} of {row.lines} lines" if row.rest else f"{row.lines} lines"
         yield f'<h2 id="{file_anchor(row.file)}">{number}&ensp;{escape(row.file)}</h2>'
         yield f'<p>{prose(" ".join(definitions.head_comment(row.file)))} <span class="quiet">({lines})</span></p>'
@@ -172,7 +169,6 @@ class Page:
         return f'<p class="quiet">used by {links}</p>' if users else ""
 
     def type(self, held: Type) -> Iterator[str]:
-        """A type of the code."""
         cited = Cited(Place.TYPE, held.crate, held.name)
         ghost = "\n".join([*held.model.values(), *re.findall(r"ghost .*", held.code)])
         names = by_word(citations.names_in(held.path, sources.without_comments(ghost)))
@@ -184,7 +180,6 @@ class Page:
         yield (f"<dl>{seen}</dl>" if seen else "") + self.users(cited) + "</section>"
 
     def kit(self, names: Names) -> Iterator[str]:
-        """A module of the kit."""
         module = names.module
         cited = next(cited for cited in self.held.reading.cited if cited.kind is Place.KIT and reading.module_of(cited) == module)
         file = reading.kit_file(module)

@@ -55,7 +55,6 @@ class Call:
 
     @property
     def clause_names(self) -> list[str]:
-        """The names of its `ensures` clauses, in their order."""
         return [clause.name for clause in self.clauses if clause.kind == "ensures" and clause.name]
 
     @property
@@ -71,7 +70,6 @@ class Call:
 
 
 def clauses_of(head: str) -> Iterator[Clause]:
-    """The clauses of a call's head."""
     for match in CLAUSE.finditer(head):
         depth, end = 1, match.end()
         while depth and end < len(head):

@@ -42,7 +42,6 @@ class Cited:
 
     @property
     def type(self) -> Type:
-        """The type, if it is one."""
         return types(self.place)[self.name]
 
 
@@ -112,7 +111,6 @@ def code_names(path: Path, text: str) -> dict[str, Cited]:
 
 
 def cited_by_type(cited: Cited) -> set[Cited]:
-    """What a type or a trait of the code cites."""
     held = cited.type
     if held.model:
         return cited_by_text(held.path, held.model["Value"])
@@ -130,7 +128,6 @@ def own_names(cited: Cited) -> dict[str, Cited]:
 
 @functools.cache
 def citations(cited: Cited) -> frozenset[Cited]:
-    """What a definition or a type cites."""
     if cited.kind is Place.DEFINITION:
         code = definitions(cited.place).by_name[cited.name].code
         return frozenset({*own_names(cited).values(), *cited_by_text(sources.CRATES / cited.place, code)})

@@ -31,8 +31,6 @@ class Definition:
 
 @dataclass(frozen=True)
 class Definitions:
-    """The definitions of a file."""
-
     by_name: dict[str, Definition]
     owner: dict[str, str]
     """By each name that a definition gives, such as a constructor of its data, the name of that definition."""
@@ -84,7 +82,6 @@ class Type:
 
 @functools.cache
 def definitions(file: str) -> Definitions:
-    """The definitions of a file below crates/."""
     lines = sources.lines_of(file)
     heads = [(number, str(match[1] or match[2])) for number, line in enumerate(lines) if (match := DEFINITION.match(line))]
     starts = [start_of(lines, number) for number, _ in heads]

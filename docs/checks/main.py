@@ -56,7 +56,6 @@ PRINTERS = (
 
 
 def parser() -> argparse.ArgumentParser:
-    """The parser of the command line."""
     made = argparse.ArgumentParser("docs/check", description=DESCRIPTION, epilog=EXAMPLE, formatter_class=argparse.RawDescriptionHelpFormatter)
     choice = made.add_mutually_exclusive_group()
     for printer in PRINTERS:
@@ -89,7 +88,6 @@ def check() -> int:
 
 
 def run(given: argparse.Namespace) -> int:
-    """Does what the command line asks for."""
     if given.html and not given.book:
         raise MisuseError("--html goes with --book")
     if given.html:
@@ -106,6 +104,5 @@ def run(given: argparse.Namespace) -> int:
 
 
 def main(words: Sequence[str] | None = None) -> int:
-    """Runs docs/check with these words, by default those of the command line."""
     given = parser().parse_args(sys.argv[1:] if words is None else words)
     return errors.ended("docs/check", lambda: run(given))

@@ -60,7 +60,6 @@ def anchors_of(text: str) -> set[str]:
 
 
 def links_of(text: str) -> list[str]:
-    """Where the links of a page lead."""
     return [link for line in lines_of(text) if not line.is_code for link in LINK.findall(line.text)]
 
 

@@ -41,7 +41,6 @@ class Named:
 
 
 def named_calls(text: str) -> Iterator[Named]:
-    """The calls that a page names."""
     for path, clauses in CALL.findall(text):
         yield Named(path, tuple(re.findall(r"`(\w+)`", clauses)))
     for proved in PROVED.findall(text):
@@ -162,5 +161,4 @@ def faults_of(page: Path, text: str, options: Iterable[str]) -> Iterator[str]:
 
 
 def options_of(parser: argparse.ArgumentParser) -> list[str]:
-    """The options that a parser takes."""
     return [option for action in parser._actions for option in action.option_strings]

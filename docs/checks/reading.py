@@ -166,7 +166,6 @@ def lines_left_out(file: str, names: Iterable[str]) -> int:
 
 
 def row_of(file: str, found: set[Cited]) -> Row:
-    """The row of a file."""
     names = list(definitions(file).by_name)
     cited = tuple(name for name in names if Cited(Place.DEFINITION, file, name) in found)
     rest = tuple(name for name in names if name not in cited)
@@ -178,7 +177,6 @@ def row_of(file: str, found: set[Cited]) -> Row:
 
 
 def module_of(cited: Cited) -> Module:
-    """The module of a name of the kit."""
     library, specs, name = cited.place.removeprefix("Rattle.").removesuffix(".TheVariants").partition(".specs.")
     return Module(library, name) if specs else Module(*cited.place.split(".", 1))
 

@@ -20,12 +20,10 @@ def crate_names() -> tuple[str, ...]:
 
 
 def is_crate(name: str) -> bool:
-    """Whether a crate of this repository has the name."""
     return (CRATES / name).is_dir()
 
 
 def crate_of(path: Path) -> str:
-    """The crate that a file is in."""
     return path.relative_to(CRATES).parts[0]
 
 
@@ -36,7 +34,6 @@ def shown(path: Path) -> str:
 
 @functools.cache
 def text_of(path: Path) -> str:
-    """The text of a file."""
     return path.read_text()
 
 
@@ -64,7 +61,6 @@ def without_comments(text: str) -> str:
 
 
 def first_sentence(lines: list[str]) -> str:
-    """The first sentence of a comment of some lines."""
     text = " ".join(line.strip() for line in lines).strip()
     found = re.match(r"(.*?(?<!\.)\.)(?= [A-Z`(]|$)", text)
     return (found[1] if found else text).strip()

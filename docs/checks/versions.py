@@ -21,7 +21,6 @@ class Said:
 
 
 def places() -> tuple[Said, ...]:
-    """The places that say the version."""
     version, number = PRODUCTS.version(), str(PRODUCTS.version_number())
     return (
         Said("crates/rvstm_c/src/lib.rt", r"^const VERSION: u32 = ([\d_]+);$", number),

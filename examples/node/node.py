@@ -158,11 +158,9 @@ class Handler(BaseHTTPRequestHandler):
             self.send_object(error.status, {"error": str(error)})
 
     def send_object(self, status: int, given: Object) -> None:
-        """Sends an object."""
         self.send(status, "application/json", json.dumps(given).encode() + b"\n")
 
     def send(self, status: int, kind: str, body: bytes) -> None:
-        """Sends an answer."""
         self.send_response(status)
         self.send_header("Content-Type", kind)
         self.send_header("Content-Length", str(len(body)))

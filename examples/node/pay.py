@@ -59,7 +59,6 @@ def asked(port: int, method: str, path: str, given: Object | None = None) -> Obj
 
 
 def main() -> int:
-    """Pays."""
     parser = argparse.ArgumentParser(description=__doc__, formatter_class=argparse.RawDescriptionHelpFormatter)
     parser.add_argument("key", type=Path, metavar="KEY", help="the file of the payer's private key")
     parser.add_argument("to", nargs="?", type=bytes.fromhex, metavar="TO", help="the account that is paid, 20 bytes in hex")

@@ -15,7 +15,6 @@ FOLDERS = {"commands": "tools/developers", "bench": "bench"}
 
 
 def command_of(name: str) -> Command:
-    """The command of a name."""
     for package in FOLDERS:
         path = Path(__file__).with_name(package) / f"{name.replace('-', '_')}.py"
         if path.is_file():
@@ -25,7 +24,6 @@ def command_of(name: str) -> Command:
 
 
 def parser_of(command: Command) -> argparse.ArgumentParser:
-    """The parser of a command."""
     folder = FOLDERS[sys.modules[command.run.__module__].__name__.split(".")[1]]
     parser = argparse.ArgumentParser(
         prog=f"{folder}/{command.name}",
@@ -39,13 +37,11 @@ def parser_of(command: Command) -> argparse.ArgumentParser:
 
 
 def run(name: str, words: Sequence[str]) -> int:
-    """Runs a command, and returns its status."""
     command = command_of(name)
     return command.run(parser_of(command).parse_intermixed_args(words))
 
 
 def main() -> int:
-    """Runs the command that the first word of the command line names."""
     if isinstance(sys.stdout, io.TextIOWrapper):
         sys.stdout.reconfigure(errors="backslashreplace")
     name, *words = sys.argv[1:] or [""]

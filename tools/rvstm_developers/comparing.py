@@ -27,7 +27,6 @@ def model_of(rvstm: Path, settings: Settings = Settings()) -> Model:
 
 
 def shown(answer: Answer | None) -> str:
-    """The beginning of an answer."""
     return "no answer" if answer is None else repr(answer.text()[:SHOWN])
 
 
@@ -86,7 +85,6 @@ def difference(rvstm: Path, text: bytes, settings: Settings, *, is_at_once: bool
 
 
 def body_of(session: Session, word: Word) -> bytes:
-    """The bytes that a session answers to a question."""
     answer = session.ask(Request(word))
     if not isinstance(answer, Done):
         raise UserError(f"a session answers {shown(answer)} to `{word.decode()}`")

@@ -28,8 +28,6 @@ FIELDS_OF_AN_ANSWER = 7
 
 
 class Status(enum.IntEnum):
-    """What a call of the library returns."""
-
     DONE = 0
     REFUSED = 1
     CLOSED = 2
@@ -53,7 +51,6 @@ class Called:
 
 
 def compile_driver(place: Path, words: Sequence[str] = ()) -> Path:
-    """Compiles the driver with the archive. Returns its path."""
     driver = place / "driver"
     flags = ["-std=c11", "-Wall", "-Wextra", "-Wpedantic", "-Werror", "-O1", f"-I{TOP}/include"]
     running.output_of(["cc", *flags, *words, "-o", driver, DRIVER, ARCHIVE])
@@ -70,7 +67,6 @@ class Library(Pipes):
     """The process of the driver, which has some sessions side by side."""
 
     def call(self, place: int, letter: bytes, number: int = 0, first: bytes = b"", second: bytes = b"") -> Called:
-        """What a call of the session at a place answers."""
         self.give(b"%d %s %d %d %d\n" % (place, letter, number, len(first), len(second)) + first + second)
         words = self.output.readline().split()
         if len(words) != FIELDS_OF_AN_ANSWER or int(words[0]) != place:
@@ -79,7 +75,6 @@ class Library(Pipes):
         return Called(status, line_of(status, words[2:6], length), self.output.read(length))
 
     def ask(self, place: int, request: Request) -> Called:
-        """The answer of a session to a request."""
         word, fields, body = request
         letter = LETTERS[Word(word)]
         if word == Word.BEGIN:

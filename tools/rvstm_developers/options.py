@@ -6,14 +6,12 @@ from rvstm_tools.programs import finding
 
 
 def rvstm_parser() -> argparse.ArgumentParser:
-    """The argument RVSTM."""
     parser = argparse.ArgumentParser(add_help=False)
     parser.add_argument("rvstm", metavar="RVSTM", type=finding.absolute, help="the program, such as crates/rvstm/out/rvstm")
     return parser
 
 
 def folder_parser() -> argparse.ArgumentParser:
-    """The argument FOLDER."""
     parser = argparse.ArgumentParser(add_help=False)
     parser.add_argument(
         "folder", metavar="FOLDER", type=finding.absolute, help="a folder that has contracts/*.elf, such as tests/cases"
@@ -26,5 +24,4 @@ def add_nothing(parser: argparse.ArgumentParser) -> None:
 
 
 def add_picture(parser: argparse.ArgumentParser) -> None:
-    """Adds the argument PICTURE."""
     parser.add_argument("picture", metavar="PICTURE", type=finding.absolute, nargs="?", help="a file of SVG to draw into")

@@ -26,7 +26,6 @@ def head_of(rules: int) -> str:
 def block_text(
     paths: Iterable[object], storage: Storage | None = None, calls: Iterable[CallLine] = (), head: str = HEADS[0]
 ) -> str:
-    """A block file with this head."""
     return head + blocks.text(map(str, paths), storage, calls).removeprefix(HEADS[0])
 
 
@@ -36,7 +35,6 @@ def word(number: int, size: int = 4) -> bytes:
 
 
 def lines_of(items: Iterable[object]) -> str:
-    """A text with one item a line."""
     return "".join(f"{item}\n" for item in items)
 
 

@@ -18,13 +18,11 @@ a short run goes into loading modules."""
 
 
 def command_of(name: str) -> Command:
-    """The command of a name."""
     command: Command = importlib.import_module(f"rvstm_tools.commands.{name}").COMMAND
     return command
 
 
 def parser_of(commands: Sequence[Command]) -> argparse.ArgumentParser:
-    """The parser of the whole command line."""
     parser = argparse.ArgumentParser(prog="rvstm-tools", description="Writes, builds, tests and debugs contracts for rvstm.")
     subparsers = parser.add_subparsers(title="commands", metavar="COMMAND", required=True)
     for command in commands:
@@ -42,7 +40,6 @@ def parser_of(commands: Sequence[Command]) -> argparse.ArgumentParser:
 
 
 def subparsers_of(parser: argparse.ArgumentParser) -> dict[str, argparse.ArgumentParser]:
-    """The parsers of the commands, by their names."""
     (choices,) = (action.choices for action in parser._actions if isinstance(action.choices, dict))
     return choices
 

@@ -15,8 +15,6 @@ from types import FrameType
 
 
 class Status(enum.IntEnum):
-    """The exit status of a command."""
-
     DONE = 0
     FAILED = 1
     """What was asked for does not hold, or the command cannot continue."""
@@ -34,7 +32,6 @@ class MisuseError(UserError):
 
 
 def reason(error: Exception) -> str:
-    """What is wrong, in one line."""
     if isinstance(error, BrokenPipeError):
         return "the output is closed"
     if isinstance(error, OSError):

@@ -79,7 +79,6 @@ def program_parser() -> argparse.ArgumentParser:
 
 
 def program_choice(given: argparse.Namespace) -> ProgramChoice:
-    """What the options of `program_parser` say."""
     return ProgramChoice(given.program, given.preview)
 
 
@@ -93,12 +92,10 @@ def list_parser() -> argparse.ArgumentParser:
 
 
 def view(given: argparse.Namespace) -> View:
-    """What the list of `list_parser` says of keys and values."""
     return lists.read_view(given.list) if given.list is not None else View()
 
 
 def call_parser() -> argparse.ArgumentParser:
-    """The arguments that name a call of a block file."""
     parser = argparse.ArgumentParser(add_help=False)
     parser.add_argument("file", metavar="FILE", help="a block file; it and its programs are taken from the current folder")
     parser.add_argument("--call", type=int, required=True, metavar="N", help="the number of the call, from 0")
@@ -106,14 +103,12 @@ def call_parser() -> argparse.ArgumentParser:
 
 
 def seed_parser() -> argparse.ArgumentParser:
-    """The option that names the seed of what is drawn."""
     parser = argparse.ArgumentParser(add_help=False)
     parser.add_argument("--seed", type=int, default=1, metavar="N", help="another number draws other things (1)")
     return parser
 
 
 def jobs_parser() -> argparse.ArgumentParser:
-    """The option that names how many processes run at once."""
     parser = argparse.ArgumentParser(add_help=False)
     processors = len(os.sched_getaffinity(0))
     parser.add_argument(

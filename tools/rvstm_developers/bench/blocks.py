@@ -46,7 +46,6 @@ class TimedBlock:
         return texts.block_text([program or f"{self.source}.elf"], self.store, calls, head)
 
     def first(self, count: int) -> "TimedBlock":
-        """The same with so many calls."""
         return replace(self, calls=self.calls[:count])
 
     def empty(self) -> "TimedBlock":
@@ -55,24 +54,20 @@ class TimedBlock:
 
 
 def compute() -> TimedBlock:
-    """Calls that compute."""
     return TimedBlock("compute on keys of its own", "work", [Input(1_000_000, key(n) + word(ROUNDS)) for n in range(64)])
 
 
 def transfers() -> TimedBlock:
-    """Transfers between random accounts."""
     choice = random.Random(1)
     calls = [Input(2_000, b"".join(key(n) for n in choice.sample(range(ACCOUNTS), 2))) for _ in range(CALLS)]
     return TimedBlock("transfers on 1,900 accounts", "transfer", calls, {key(n): word(1000) for n in range(ACCOUNTS)})
 
 
 def hot_key() -> TimedBlock:
-    """Counts of one key."""
     return TimedBlock("one hot key", "counter", [Input(1_000, key(0))] * CALLS)
 
 
 def hot_sum() -> TimedBlock:
-    """Additions to one key."""
     return TimedBlock("one hot key, added to", "bump", [Input(1_000, key(0))] * CALLS)
 
 
@@ -89,7 +84,6 @@ def assemble(rvstm: Path, place: Path, source: str) -> Path:
 
 
 def speed_calls(number: int) -> list[Input]:
-    """The calls of a program of speed.block."""
     rows = [line.split(" ") for line in (FOLDER / "speed.block").read_text().splitlines()]
     return [Input(int(row[2]), bytes.fromhex(row[3].replace("-", ""))) for row in rows if row[:2] == ["call", str(number)]]
 

@@ -1,5 +1,3 @@
-"""`bench/chain`."""
-
 import argparse
 import importlib.util
 import math
@@ -56,18 +54,15 @@ def seq_time(rvstm: Path, block: str, place: Path) -> float:
 
 
 def transfers(choice: Random, keys: int) -> list[Input]:
-    """The calls of a block between random accounts."""
     pairs = [choice.sample(range(keys), 2) for _ in range(TRANSFERS)]
     return [Input(GAS, key(one) + key(other)) for one, other in pairs]
 
 
 def accounts(keys: int) -> Storage:
-    """A storage of so many accounts."""
     return {key(number): word(1_000_000) for number in range(keys)}
 
 
 def frame_of(place: Path, block: TimedBlock) -> Request:
-    """The frame of a block whose program is in a folder."""
     return frames.named(block.text().encode(), place).frame()
 
 
@@ -116,7 +111,6 @@ class Measured:
         self.after = processes.resident(self.session.process.pid)
 
     def row(self, compared: "Measured") -> list[str]:
-        """The row of the table."""
         share = (self.before - compared.before) / (self.keys - COMPARED) if self.keys > COMPARED else None
         return [
             f"{self.keys:,}", f"{self.first:.1f}",
@@ -153,7 +147,6 @@ class Beside:
 
 
 def print_by_workers(rvstm: Path, settings: Settings, place: Path) -> None:
-    """The table of frames with workers beside the same in order."""
     blocks.assemble(rvstm, place, "work")
     tables.print_head(WORKERS_COLUMNS)
     for keys in (1_000, 100_000):
@@ -177,11 +170,9 @@ class OverNothing:
         (place / "start.block").write_bytes(b"".join(lines[:2]))
 
     def add_round(self) -> None:
-        """A round."""
         self.times.append(seq_time(self.rvstm, "whole.block", self.place) - seq_time(self.rvstm, "start.block", self.place))
 
     def line(self, compared: Measured) -> str:
-        """What is printed of it."""
         ratio = tables.ratio(compared.chain_times, self.times)
         return (
             f"`seq` over an empty storage, less the start of a process: {tables.middle(self.times, '.2f')} ms; "
@@ -222,14 +213,12 @@ class InLibrary:
             raise UserError("the library and a session differ")
 
     def add_round(self) -> None:
-        """A round."""
         before = time.process_time()
         for frame in self.frames:
             self.session.ask("rvstm_frame", frame)
         self.times.append(1000 * (time.process_time() - before) / len(self.frames))
 
     def line(self, measured: Measured) -> str:
-        """What is printed of it."""
         ratio, middle = tables.ratio(self.times, measured.chain_times), 1000 * statistics.median(self.times)
         return f"the library over {measured.keys:,} keys: {middle:.0f} microseconds a block, {ratio:.2f} times `chain`"
 
@@ -288,7 +277,6 @@ def print_by_keys(given: argparse.Namespace, settings: Settings, place: Path) ->
 
 
 def run(given: argparse.Namespace) -> int:
-    """Prints the tables."""
     if given.store:
         commits.print_tables(given.rvstm, given.most)
         return 0
@@ -303,7 +291,6 @@ def run(given: argparse.Namespace) -> int:
 
 
 def add_options(parser: argparse.ArgumentParser) -> None:
-    """Adds its options."""
     parser.add_argument("--most", type=int, default=SIZES[-1], metavar="KEYS", help="leaves storages with more keys out")
     parser.add_argument("--library", type=finding.absolute, metavar="LIBRARY", help="librvstm.so, which is timed too")
     parser.add_argument("--svg", type=finding.absolute, metavar="OUT", help="a file for the picture")

@@ -69,7 +69,6 @@ class Commit:
 
     @property
     def alone(self) -> float:
-        """The commit alone."""
         return self.whole - self.plain
 
 
@@ -79,7 +78,6 @@ def block_of(changes: Storage) -> Request:
 
 
 def changes_of(source: Random, keys: int, count: int) -> Storage:
-    """Random values of so many keys."""
     return {key: source.randbytes(8) for key in map(numbered_key, source.sample(range(keys), count))}
 
 
@@ -95,7 +93,6 @@ class Beside(Pipes):
         return int(self.output.readline()) / 1e6
 
     def commit(self, changes: Storage, answer: bytes) -> float:
-        """Commits values and an answer."""
         body = b"".join(key + value for key, value in sorted(changes.items()))
         return self.asked(b"c" + struct.pack("=II", len(changes), len(answer)) + body + answer)
 
@@ -149,7 +146,6 @@ class Stored:
         return Commit(plain.elapsed, kept.elapsed, plain.processor, kept.processor, plain_try, kept_try, in_c)
 
     def row(self, count: int) -> list[str]:
-        """What commits of so many keys take."""
         found = [self.commit(count) for _ in range(ROUNDS)]
         alone = [one.alone for one in found]
         same, synced, bare = ([one.in_c[number] for one in found] for number in range(len(WAYS)))
@@ -187,7 +183,6 @@ class Stored:
         ]
 
     def close(self) -> None:
-        """Ends all."""
         for process in (self.session, self.plain, *self.beside):
             process.kill()
 
@@ -204,7 +199,6 @@ def traced(process: int, path: Path) -> Iterator[None]:
 
 
 def compiled(place: Path) -> Path:
-    """Compiles commits.c."""
     program = place / "commits"
     running.output_of(["cc", "-O2", "-o", program, FOLDER / "commits.c", "-lsqlite3"])
     return program
@@ -234,7 +228,6 @@ def print_tables(rvstm: Path, most: int) -> None:
 
 
 def print_all(*found: tuple[Sequence[str], list[list[str]]]) -> None:
-    """Prints tables, each with a line after it."""
     for columns, rows in found:
         tables.print_table(columns, rows)
         print()

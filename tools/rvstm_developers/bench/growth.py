@@ -1,5 +1,3 @@
-"""`bench/growth`."""
-
 import argparse
 import math
 import tempfile
@@ -56,7 +54,6 @@ def best_time(words: Sequence[Word], place: Path) -> float:
 
 
 def measured(rvstm: Path, place: Path) -> Iterator[Row]:
-    """Times each block."""
     for source in ("counter", "write"):
         blocks.assemble(rvstm, place, source)
     for size, block in sized():
@@ -90,7 +87,6 @@ def picture(rows: Sequence[Row]) -> Picture:
 
 
 def run(given: argparse.Namespace) -> int:
-    """Prints the table, and draws."""
     with tempfile.TemporaryDirectory() as place:
         rows = list(measured(given.rvstm, Path(place)))
     tables.print_head(["what grows", "size", "calls", "`seq`, ms", "a call, us", "`run`, 4 workers, ms", "a call, us"])

@@ -1,5 +1,3 @@
-"""`bench/instructions`."""
-
 import argparse
 import re
 import tempfile
@@ -31,7 +29,6 @@ class Program:
 
 
 def counted(words: Sequence[Word], folder: Path, place: Path) -> int:
-    """The instructions that a command takes."""
     output = place / "callgrind.out"
     running.output_of(["valgrind", "--tool=callgrind", f"--callgrind-out-file={output}", *words], folder)
     found = re.search(r"^summary: (\d+)", output.read_text(), re.MULTILINE)
@@ -93,7 +90,6 @@ def print_calls(rvstm: Path, place: Path) -> None:
 
 
 def run(given: argparse.Namespace) -> int:
-    """Prints the tables."""
     with tempfile.TemporaryDirectory() as place:
         print_loops(given.rvstm, Path(place))
         print_calls(given.rvstm, Path(place))

@@ -1,5 +1,3 @@
-"""`bench/largest`."""
-
 import argparse
 import hashlib
 import tempfile
@@ -45,7 +43,6 @@ def measured(rvstm: Path, place: Path, words: Sequence[str]) -> bytes:
 
 
 def run(given: argparse.Namespace) -> int:
-    """Prints the table."""
     tables.print_head(["command", "seconds", "MiB"])
     with tempfile.TemporaryDirectory() as folder:
         place = Path(folder)

@@ -1,5 +1,3 @@
-"""`bench/lengths`."""
-
 import argparse
 import math
 import os
@@ -47,8 +45,6 @@ class Round:
 
 @dataclass(frozen=True)
 class Rounds:
-    """The rounds of a length."""
-
     length: int
     calls: int
     rounds: list[Round]
@@ -58,7 +54,6 @@ class Rounds:
         return [one.times[0] / one.times[number + 1] for one in self.rounds]
 
     def ratio(self, number: int) -> float:
-        """The median of these."""
         return statistics.median(self.ratios(number))
 
     def cells(self, fastest: float) -> list[str]:
@@ -108,7 +103,6 @@ def times_at_once(words: Sequence[Word], place: Path) -> list[float]:
 
 
 def rounds_of(rvstm: Path, place: Path, length: int) -> Rounds:
-    """The rounds of a length."""
     count = max(FEWEST_CALLS, min(MOST_CALLS, INSTRUCTIONS_A_BLOCK // length))
     (place / "calls.block").write_text(TimedBlock("", "work", mixing(length, count)).text())
     commands: list[list[Word]] = [[rvstm, "seq", "calls.block"]]
@@ -139,7 +133,6 @@ def picture(found: Sequence[Rounds]) -> Picture:
 
 
 def run(given: argparse.Namespace) -> int:
-    """Prints the table, and draws."""
     with tempfile.TemporaryDirectory() as folder:
         place = Path(folder)
         blocks.assemble(given.rvstm, place, "work")

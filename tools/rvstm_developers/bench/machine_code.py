@@ -45,22 +45,18 @@ def shifted(name: str, rd: int, source: int, amount: int) -> int:
 
 
 def lui(rd: int, upper: int) -> int:
-    """LUI of the upper 20 bits."""
     return (upper & 0xFFFFF) << 12 | rd << 7 | 0x37
 
 
 def auipc(rd: int, upper: int) -> int:
-    """AUIPC of the upper 20 bits."""
     return (upper & 0xFFFFF) << 12 | rd << 7 | 0x17
 
 
 def loaded(name: str, rd: int, base: int, offset: int) -> int:
-    """A load."""
     return (offset & 0xFFF) << 20 | base << 15 | LOADS[name] << 12 | rd << 7 | 0x03
 
 
 def stored(name: str, source: int, base: int, offset: int) -> int:
-    """A store."""
     return (offset >> 5 & 0x7F) << 25 | source << 20 | base << 15 | STORES[name] << 12 | (offset & 0x1F) << 7 | 0x23
 
 
@@ -98,7 +94,6 @@ def storage_call(number: int, key: int) -> list[int]:
 
 
 def text_of(words: Sequence[int]) -> bytes:
-    """The bytes of words."""
     return struct.pack(f"<{len(words)}I", *words)
 
 

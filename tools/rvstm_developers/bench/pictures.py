@@ -48,10 +48,8 @@ class Picture:
         self.parts += [f'<circle cx="{point.x:.0f}" cy="{point.y:.0f}" r="3" fill="{colour}"/>' for point in points]
 
     def label(self, place: Point, text: str, colour: str = "", anchor: str = "") -> None:
-        """Writes a text."""
         more = (f' text-anchor="{anchor}"' if anchor else "") + (f' fill="{colour}"' if colour else "")
         self.parts.append(f'<text x="{place.x:.0f}" y="{place.y:.0f}"{more}>{text}</text>')
 
     def write(self, path: Path) -> None:
-        """Writes the file."""
         path.write_text("\n".join([*self.parts, "</svg>", ""]))

@@ -23,8 +23,6 @@ PEAK = re.compile(rb"^VmHWM:\s+([0-9]+) kB$", re.M)
 
 @dataclass(frozen=True)
 class Spent:
-    """What a run took."""
-
     seconds: float
     processor: float
     """Seconds of all processors."""
@@ -89,7 +87,6 @@ def milliseconds_of(process: int) -> float:
 
 
 def resident(process: int) -> int:
-    """The bytes of a process that are in memory."""
     return int(Path(f"/proc/{process}/statm").read_text().split()[1]) * os.sysconf("SC_PAGE_SIZE")
 
 

@@ -1,5 +1,3 @@
-"""`bench/repeats`."""
-
 import argparse
 import re
 import statistics
@@ -20,14 +18,11 @@ EXECUTIONS = re.compile(rb"^all steps \d+ asks \d+ executions (\d+)", re.M)
 
 
 class NamedText(NamedTuple):
-    """A block file, and what it is called."""
-
     name: str
     text: str
 
 
 def all_blocks(rvstm: Path, place: Path) -> Iterator[NamedText]:
-    """The blocks."""
     for block in (blocks.transfers(), blocks.hot_key(), blocks.hot_sum(), blocks.chain()):
         blocks.assemble(rvstm, place, block.source)
         yield NamedText(block.name, block.text())
@@ -36,7 +31,6 @@ def all_blocks(rvstm: Path, place: Path) -> Iterator[NamedText]:
 
 
 def executions(rvstm: Path, place: Path, workers: int) -> int:
-    """How many executions a run counts."""
     ended = running.run([rvstm, "run", "calls.block", "--workers", str(workers), "--counts"], place)
     found = EXECUTIONS.search(ended.errors)
     if ended.status or not found:
@@ -45,7 +39,6 @@ def executions(rvstm: Path, place: Path, workers: int) -> int:
 
 
 def row(rvstm: Path, place: Path, block: NamedText, runs: int) -> list[str]:
-    """A row of the table."""
     (place / "calls.block").write_text(block.text)
     calls = sum(line.startswith("call ") for line in block.text.splitlines())
     conflicts = running.output_of([rvstm, "conflicts", "calls.block"], place)
@@ -58,7 +51,6 @@ def row(rvstm: Path, place: Path, block: NamedText, runs: int) -> list[str]:
 
 
 def run(given: argparse.Namespace) -> int:
-    """Prints the table."""
     with tempfile.TemporaryDirectory() as folder:
         place = Path(folder)
         rows = (row(given.rvstm, place, block, given.runs) for block in all_blocks(given.rvstm, place))
@@ -67,7 +59,6 @@ def run(given: argparse.Namespace) -> int:
 
 
 def add_options(parser: argparse.ArgumentParser) -> None:
-    """Adds its options."""
     parser.add_argument("runs", metavar="RUNS", type=int, nargs="?", default=RUNS, help=f"how often each block is run ({RUNS})")
 
 

@@ -1,5 +1,3 @@
-"""`bench/run`."""
-
 import argparse
 import shutil
 import statistics
@@ -24,7 +22,6 @@ SHORT_COLUMNS = ["short calls, microseconds each", "`seq`", "`drive`, 1 worker",
 
 
 def builds(place: Path) -> dict[str, Path]:
-    """The builds of plainvm.c that can be made."""
     made = {}
     for compiler in filter(shutil.which, ("gcc", "clang")):
         for level in ("-O2", "-O3"):
@@ -39,7 +36,6 @@ def builds(place: Path) -> dict[str, Path]:
 
 
 def all_blocks(rvstm: Path, place: Path) -> Iterator[tuple[str, str]]:
-    """The blocks by their names."""
     yield "calls that compute", (FOLDER / "speed.block").read_text()
     for number, program in enumerate(SPEED_PROGRAMS):
         yield program, TimedBlock(program, program, blocks.speed_calls(number)).text(f"programs/{program}.elf")
@@ -70,7 +66,6 @@ def fastest_builds(plain: Mapping[str, Path], block: Path, place: Path) -> list[
 
 
 def print_whole(rvstm: Path, old: Path | None, place: Path) -> None:
-    """The table of whole programs."""
     plain = builds(place)
     columns = ["block", "`rvstm seq`, ms", "fastest build with jump tables", "its ms", "ratio", "fastest without", "its ms", "ratio"]
     tables.print_head(columns + (["before, ms", "ratio to before"] if old else []))
@@ -98,7 +93,6 @@ def best_times(commands: Sequence[Sequence[Word]], place: Path) -> list[float]:
 
 
 def print_short(rvstm: Path, place: Path) -> None:
-    """The table of short calls."""
     print()
     tables.print_head(SHORT_COLUMNS)
     (place / "list").write_text("0\n" * 20_000)
@@ -114,7 +108,6 @@ def print_short(rvstm: Path, place: Path) -> None:
 
 
 def print_place_of_loop(rvstm: Path) -> None:
-    """Prints where the function of the loop begins."""
     if not shutil.which("nm"):
         return
     names = running.output_of(["nm", rvstm]).decode().splitlines()
@@ -124,7 +117,6 @@ def print_place_of_loop(rvstm: Path) -> None:
 
 
 def run(given: argparse.Namespace) -> int:
-    """Prints the tables."""
     with tempfile.TemporaryDirectory() as place:
         print_whole(given.rvstm, given.old, Path(place))
         print_short(given.rvstm, Path(place))
@@ -133,7 +125,6 @@ def run(given: argparse.Namespace) -> int:
 
 
 def add_options(parser: argparse.ArgumentParser) -> None:
-    """Adds its options."""
     parser.add_argument("old", metavar="OLD", type=finding.absolute, nargs="?", help="an earlier program to compare it with")
 
 

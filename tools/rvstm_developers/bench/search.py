@@ -1,5 +1,3 @@
-"""`bench/search`."""
-
 import argparse
 import random
 import statistics
@@ -36,7 +34,6 @@ class Found:
     name: str
 
     def line(self) -> str:
-        """What is printed of it."""
         return f"{self.ratio:.2f} {self.name}: {slow_programs.shape_of(self.name).text()}"
 
 
@@ -112,7 +109,6 @@ class Pool:
 
 
 def kind_of(name: str) -> Kind:
-    """What programs of one kind have in common."""
     shape = slow_programs.shape_of(name)
     return Kind(shape.pages * shape.copies, shape.run, shape.reach)
 
@@ -156,7 +152,6 @@ def print_long(bench: Bench, names: list[str]) -> None:
 
 
 def run(given: argparse.Namespace) -> int:
-    """Searches, and prints the worst."""
     with tempfile.TemporaryDirectory() as place:
         bench = Bench(given.rvstm, Path(place))
         without = "".join(f"-{unit}" for unit in given.without)
@@ -166,7 +161,6 @@ def run(given: argparse.Namespace) -> int:
 
 
 def add_options(parser: argparse.ArgumentParser) -> None:
-    """Adds its options."""
     parser.add_argument("--seconds", type=float, default=3_600, metavar="N", help="how long it searches, an hour if left out")
     parser.add_argument("--without", nargs="+", default=[], choices=UNITS, metavar="UNIT", help="units that no program has")
     parser.add_argument("--worst", type=int, default=10, metavar="N", help="how many of the worst run again, 10 if left out")

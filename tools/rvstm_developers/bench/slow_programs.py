@@ -56,8 +56,6 @@ KEYS_ADDRESS, BUFFER_ADDRESS = 0x10_F800, 0x10_FA00
 
 @dataclass(frozen=True, eq=True)
 class Shape:
-    """What a program is made of."""
-
     pages: int  # of code in the file
     copies: int  # places to which they are mapped
     data_pages: int  # over which loads and stores are spread, a power of two
@@ -71,7 +69,6 @@ class Shape:
         return hash((self.pages, self.copies, self.data_pages, self.run, self.reach, self.zero, *self.leaps.items(), *self.units.items()))
 
     def text(self) -> str:
-        """The shape in one line."""
         place = f"{self.pages} x {self.copies} pages, data {self.data_pages}, runs of {self.run} {self.reach}, x0 {self.zero:.2f}"
         return f"{place}; leaps {shares(self.leaps)}; units {shares(self.units)}"
 
@@ -92,7 +89,6 @@ def spread(choice: random.Random) -> float:
 
 
 def drawn(choice: random.Random) -> Shape:
-    """Any shape."""
     units: dict[str, float] = {}
     for group, names in GROUPS.items():
         if choice.random() < LIKELY.get(group, 0.5):
@@ -147,7 +143,6 @@ def fitted(shape: Shape) -> Shape:
 
 
 def without(shape: Shape, units: frozenset[str]) -> Shape:
-    """A shape less some units."""
     return fitted(replace(shape, units={name: weight for name, weight in shape.units.items() if name not in units}))
 
 
@@ -208,7 +203,6 @@ class Program:
         return [0, *(run for part in parts for run in part if run)]
 
     def make(self) -> list[int]:
-        """All words of the code."""
         order = self.order()
         for run, following in zip(order, [*order[1:], self.runs]):
             self.fill(run * self.shape.run, following * self.shape.run)
@@ -335,7 +329,6 @@ def start_words(shape: Shape, start: int, data: int, choice: random.Random) -> l
 
 
 def program_of(shape: Shape, name: str) -> bytes:
-    """The program file of a shape, by a name."""
     program = Program(shape, name)
     text = code.text_of(program.make())
     start = code.FIRST_ADDRESS + shape.copies * len(text)

@@ -104,7 +104,6 @@ def reads_of_a_call() -> int:
 
 
 def frame_of(program: bytes, calls: Sequence[CallLine]) -> Request:
-    """A frame of calls of one program."""
     return Request(Word.FRAME, (), texts.block_text([frames.name_of(program)], {}, calls, texts.head_of(3)).encode())
 
 
@@ -119,7 +118,6 @@ def scattered(program: bytes, number: int, call: int, calls: int, keys: int) -> 
 
 
 def gas_in(body: bytes) -> int:
-    """The gas of the calls of an answer."""
     return sum(int(line.split(b" ", 5)[4]) for line in body.splitlines() if line.startswith(b"call "))
 
 
@@ -144,7 +142,6 @@ def keys_that_come(rvstm: Path, place: Path, rounds: int, store: str | None = No
 
 
 def pages_of_a_list(rvstm: Path, rounds: int) -> list[Row]:
-    """Pages of `list` at the first keys, and at the last ones."""
     keys = random_keys()
     places = (0, KEYS - PAGE - PAGES)
     with begun(rvstm, keys) as session:

@@ -1,5 +1,3 @@
-"""`bench/slowest`."""
-
 import argparse
 import statistics
 import subprocess
@@ -30,8 +28,6 @@ UNITS = {Share.GAS: 1e9, Share.CALL: 1e6}
 
 @dataclass(frozen=True)
 class Options:
-    """What the command line says."""
-
     rvstm: Path
     place: Path
     calls: int
@@ -52,7 +48,6 @@ def write_block(options: Options, name: str, content: Content) -> None:
 
 
 def run_way(options: Options, name: str, way: str) -> Spent:
-    """Runs a block in one way."""
     if way in (CHAIN, CHAIN_4):
         return timed([options.rvstm, *way.split()], options.place, f"{name}.requests")
     command, *words = way.split()
@@ -68,7 +63,6 @@ def shown(name: str, way: str) -> str:
 
 
 def gas_of(options: Options, name: str) -> int:
-    """The gas that the calls of a block use in all."""
     with subprocess.Popen([options.rvstm, "seq", f"{name}.block"], cwd=options.place, stdout=subprocess.PIPE, text=True) as process:
         assert process.stdout is not None
         return sum(int(line.split(" ", 5)[4]) for line in process.stdout if line.startswith("call "))
@@ -107,7 +101,6 @@ def print_row(command: str, runs: Sequence[Spent], whole: int, share: Share, rat
 
 
 def print_sessions(options: Options, names: Sequence[str]) -> None:
-    """Prints the rows over a million keys."""
     acts: dict[str, Callable[[], list[slow_sessions.Row]]] = {
         "one-hash": lambda: slow_sessions.reads_of_one_hash(options.rvstm, options.place, options.rounds),
         "new-keys": lambda: slow_sessions.keys_that_come(options.rvstm, options.place, options.rounds),
@@ -123,7 +116,6 @@ def print_sessions(options: Options, names: Sequence[str]) -> None:
 
 
 def time_of(seconds: float) -> str:
-    """A short time."""
     return f"{seconds * 1e9:.1f} ns" if seconds < 1e-6 else f"{seconds * 1e6:,.1f} µs"
 
 
@@ -139,7 +131,6 @@ def prepare(options: Options) -> None:
 
 
 def run(given: argparse.Namespace) -> int:
-    """Prints the tables."""
     if given.names:
         print("\n".join(f"{name:12} {what}" for name, what in NOTES.items()))
         return 0
@@ -160,7 +151,6 @@ def run(given: argparse.Namespace) -> int:
 
 
 def add_options(parser: argparse.ArgumentParser) -> None:
-    """Adds its options."""
     parser.add_argument("rows", nargs="*", metavar="ROW", help="these alone; --names prints them")
     parser.add_argument("--calls", type=int, default=CALLS, metavar="N", help=f"calls of ten million gas, {CALLS} if left out")
     parser.add_argument("--rounds", type=int, default=ROUNDS, metavar="N", help=f"runs of each row, {ROUNDS} if left out")

@@ -1,5 +1,3 @@
-"""`bench/storages`."""
-
 import argparse
 import hashlib
 import random
@@ -46,7 +44,6 @@ KeyOf = Callable[[int], Key]
 
 
 def digest_key(number: int) -> Key:
-    """A SHA-256."""
     return Key(hashlib.sha256(b"%d" % number).digest())
 
 
@@ -108,7 +105,6 @@ class Measured:
         return tuple(self.timed(act) for act in ACTS)
 
     def median(self, act: str) -> float:
-        """What an act takes."""
         return statistics.median(self.times[act])
 
 
@@ -141,7 +137,6 @@ class Kind:
                 raise UserError(f"{self.name}, {keys:,} keys: the two programs answer otherwise")
 
     def cells(self, keys: int, which: int) -> list[str]:
-        """The row of a size and of a program."""
         sessions, least = self.measured[keys], self.measured[COMPARED][which]
         one = sessions[which]
         share = f"{(one.memory - least.memory) / (keys - COMPARED):.1f}" if keys > COMPARED else "-"
@@ -154,7 +149,6 @@ class Kind:
 
 
 def print_kind(programs: Sequence[Path], files: Mapping[str, bytes], name: str, sizes: Sequence[int], rounds: int) -> None:
-    """The rows of a kind of keys."""
     kind = Kind(name, {keys: [Measured(rvstm, files, KINDS[name], keys) for rvstm in programs] for keys in sizes})
     for _ in range(rounds):
         kind.add_round()
@@ -167,7 +161,6 @@ def print_kind(programs: Sequence[Path], files: Mapping[str, bytes], name: str, 
 
 
 def run(given: argparse.Namespace) -> int:
-    """Prints the table, and what a storage that grows takes."""
     programs = [path for path in (given.rvstm, given.before) if path]
     sizes = [keys for keys in SIZES if keys <= max(given.most, COMPARED)]
     with tempfile.TemporaryDirectory() as place:
@@ -181,7 +174,6 @@ def run(given: argparse.Namespace) -> int:
 
 
 def add_options(parser: argparse.ArgumentParser) -> None:
-    """Adds its options."""
     parser.add_argument("before", nargs="?", metavar="BEFORE", type=finding.absolute, help="another program, which is timed beside it")
     parser.add_argument("--most", type=int, default=SIZES[-1], metavar="KEYS", help="leaves storages with more keys out")
     parser.add_argument("--rounds", type=int, default=ROUNDS, metavar="N", help=f"so many rounds ({ROUNDS})")

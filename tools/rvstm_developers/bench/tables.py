@@ -5,12 +5,10 @@ from collections.abc import Iterable, Sequence
 
 
 def print_head(columns: Sequence[str]) -> None:
-    """Prints the head of a table."""
     print(f"| {' | '.join(columns)} |\n{'|---' * len(columns)}|", flush=True)
 
 
 def print_row(cells: Iterable[str]) -> None:
-    """Prints a row of a table."""
     print(f"| {' | '.join(cells)} |", flush=True)
 
 

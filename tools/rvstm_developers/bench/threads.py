@@ -1,5 +1,3 @@
-"""`bench/threads`."""
-
 import argparse
 import subprocess
 import tempfile
@@ -69,19 +67,16 @@ def times_of(commands: Sequence[Sequence[Word]], place: Path, count: int = TIMES
 
 
 def runs_of(rvstm: Path, block: str) -> list[list[Word]]:
-    """The commands that run a block."""
     words: list[list[Word]] = [[rvstm, "seq", block]]
     return words + [[rvstm, "run", block, "--workers", str(count)] for count in WORKERS]
 
 
 def print_ratios(title: str, rows: Iterable[tuple[str, list[float]]]) -> None:
-    """A table of ratios, a row a block."""
     cells = ([name, *(f"{ratio:.2f}" for ratio in ratios)] for name, ratios in rows)
     tables.print_table([title, *map(tables.of_workers, WORKERS)], cells)
 
 
 def program_ratios(rvstm: Path, place: Path, number: int) -> list[float]:
-    """The ratios for calls of a program of speed.block."""
     name = SPEED_PROGRAMS[number]
     calls = [Input(PROGRAM_GAS, blocks.speed_calls(number)[0].data)] * PROGRAM_CALLS
     (place / f"{name}.block").write_text(TimedBlock(name, name, calls).text(FOLDER / f"programs/{name}.elf"))
@@ -91,7 +86,6 @@ def program_ratios(rvstm: Path, place: Path, number: int) -> list[float]:
 
 
 def measured(rvstm: Path, place: Path, block: TimedBlock) -> Row:
-    """Times a block."""
     blocks.assemble(rvstm, place, block.source)
     (place / "calls.block").write_text(block.text())
     (place / "empty.block").write_text(block.empty().text())
@@ -125,7 +119,6 @@ def picture(rows: Sequence[Row]) -> Picture:
 
 
 def run(given: argparse.Namespace) -> int:
-    """Prints the tables, and draws."""
     with tempfile.TemporaryDirectory() as folder:
         place = Path(folder)
         if given.programs:
@@ -148,7 +141,6 @@ def run(given: argparse.Namespace) -> int:
 
 
 def add_options(parser: argparse.ArgumentParser) -> None:
-    """Adds its options."""
     options.add_picture(parser)
     parser.add_argument("--programs", action="store_true", help="a table alone, for 64 calls of each program of speed.block, a million gas each")
 

@@ -1,5 +1,3 @@
-"""`tools/developers/conflicts-model`."""
-
 import argparse
 from pathlib import Path
 
@@ -25,7 +23,6 @@ def fault_of(program: Program, path: str) -> str:
 
 
 def run(given: argparse.Namespace) -> int:
-    """Compares each block."""
     program, failed = finding.chosen(options.program_choice(given), "conflicts-model"), 0
     for block in given.blocks:
         fault = fault_of(program, block)
@@ -37,7 +34,6 @@ def run(given: argparse.Namespace) -> int:
 
 
 def add_options(parser: argparse.ArgumentParser) -> None:
-    """Adds its options."""
     parser.add_argument("blocks", metavar="BLOCK", nargs="+", help="a block file; it and its programs are taken from the current folder")
 
 

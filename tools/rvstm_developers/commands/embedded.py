@@ -1,5 +1,3 @@
-"""`tools/developers/embedded`."""
-
 import argparse
 import random
 import subprocess
@@ -44,7 +42,6 @@ def block_of(choice: Random, paths: Sequence[str]) -> bytes:
 
 
 def blocks_of(choice: Random, paths: Sequence[str]) -> Iterator[bytes]:
-    """Such blocks, without end."""
     while True:
         yield block_of(choice, paths)
 
@@ -75,7 +72,6 @@ class Compared:
         self.check(self.driver.call(self.place, letter, 0, data), wanted, (letter, data))
 
     def check(self, came: Called, wanted: Called, what: object) -> None:
-        """Compares an answer."""
         self.count += 1
         if came != wanted:
             raise UserError(f"{what!r}"[:200] + f": {came!r} and not {wanted!r}"[:600])
@@ -107,7 +103,6 @@ class Compared:
         self.check(self.driver.ask(self.place, request), Called(status, wanted.line, wanted.body), request)
 
     def close(self) -> None:
-        """Closes both."""
         self.want(Called(Status.DONE, b"ok 0\n"), CLOSE)
         self.check_closed()
         if self.chain.end() != Ended(b"", b"", 0):
@@ -127,7 +122,6 @@ def run_pair(choice: Random, driver: Library, rvstm: Path, paths: Sequence[str],
 
 
 def run(given: argparse.Namespace) -> int:
-    """Runs the pairs."""
     if not embedded_library.ARCHIVE.is_file() or not embedded_library.SHARED.is_file():
         raise UserError(f"there is no {embedded_library.ARCHIVE}: `rvstm-tools library` makes it")
     if subprocess.run([TOP / "examples/embed/try", given.rvstm], check=False).returncode:
@@ -146,7 +140,6 @@ def run(given: argparse.Namespace) -> int:
 
 
 def add_options(parser: argparse.ArgumentParser) -> None:
-    """Adds its options."""
     parser.add_argument("count", metavar="COUNT", type=int, help="how many pairs of sessions are made")
     parser.add_argument("seed", metavar="SEED", type=int, nargs="?", default=1, help="one seed always makes the same sessions (1)")
     group = parser.add_mutually_exclusive_group()

@@ -1,5 +1,3 @@
-"""`tools/developers/ends-model`."""
-
 import argparse
 import functools
 import itertools
@@ -103,8 +101,6 @@ class Graph:
 
 
 class Tally:
-    """How many checks passed, and how many failed."""
-
     def __init__(self) -> None:
         self.passed = self.failed = 0
 
@@ -152,7 +148,6 @@ class Walk:
         self.work, self.causes = 0, [0] * len(block.calls)
 
     def step(self, worker: int) -> None:
-        """Makes the step of a worker."""
         step = worked(self.block, self.state, worker)
         after, is_work = step.after, step.is_work
         self.work += is_work
@@ -179,7 +174,6 @@ class Walk:
 
 
 def random_call(choice: Random) -> Contract:
-    """A call of a random contract."""
     key, other, third = choice.sample((A, B, C), 3)
     return choice.choice((
         Contract(put, key, choice.randrange(3) or None), Contract(get, key), Contract(copy, key, other), Contract(count, key),
@@ -231,12 +225,10 @@ class Adversary(Walk):
         self.schedule: list[int] = []
 
     def step(self, worker: int) -> None:
-        """Makes the step of a worker."""
         self.schedule.append(worker)
         super().step(worker)
 
     def end_task(self, worker: int) -> None:
-        """Ends the task of a worker."""
         while self.state.tasks[worker]:
             self.step(worker)
 
@@ -271,7 +263,6 @@ class Adversary(Walk):
             self.take_back(call, held[call])
 
     def go(self) -> None:
-        """The whole schedule."""
         for call in range(self.calls):
             while self.state.tasks[call] is None:
                 self.step(call)
@@ -302,14 +293,12 @@ def print_adversary(calls: int, out: Path | None) -> None:
 
 
 def seconds_of(word: str | None) -> float:
-    """How long the checks last."""
     if word is None or not word.replace(".", "", 1).isdigit() or float(word) < LEAST_SECONDS:
         raise MisuseError(f"SECONDS, {LEAST_SECONDS} at least, or --adversary CALLS is needed")
     return float(word)
 
 
 def run(given: argparse.Namespace) -> int:
-    """Checks, or makes the schedule of the adversary."""
     tally, began = Tally(), time.time()
     if given.adversary is not None:
         if given.adversary < 1 or given.seed is not None:
@@ -325,7 +314,6 @@ def run(given: argparse.Namespace) -> int:
 
 
 def add_options(parser: argparse.ArgumentParser) -> None:
-    """Adds its options."""
     parser.add_argument("seconds", metavar="SECONDS", nargs="?", help="how long the checks last, 10 at least; after --adversary the file OUT")
     parser.add_argument("seed", metavar="SEED", type=int, nargs="?", help="one seed gives the same walks (0)")
     parser.add_argument("--adversary", metavar="CALLS", type=int, help="makes so many calls run again and again, in place of the checks")

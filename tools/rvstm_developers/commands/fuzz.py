@@ -1,5 +1,3 @@
-"""`tools/developers/fuzz`."""
-
 import argparse
 import enum
 import os
@@ -60,7 +58,6 @@ class Seed:
 
 
 def seeds() -> dict[Kind, list[Seed]]:
-    """The files of the repository."""
     patterns = {
         Kind.ELF: ("examples/*/*.elf", "bench/programs/*.elf"),
         Kind.BLOCK: ("examples/*/*.block",),
@@ -297,7 +294,6 @@ def fuzz_file(runs: Runs, choice: Random, kind: Kind, seed: Seed) -> None:
 
 
 def run(given: argparse.Namespace) -> int:
-    """Runs until the time is over."""
     end, choice, kinds = time.monotonic() + given.seconds, random.Random(given.seed), seeds()
     with tempfile.TemporaryDirectory() as place:
         runs = Runs(given.rvstm, Path(place))
@@ -309,7 +305,6 @@ def run(given: argparse.Namespace) -> int:
 
 
 def add_options(parser: argparse.ArgumentParser) -> None:
-    """Adds its options."""
     parser.add_argument("seconds", metavar="SECONDS", type=float, help="how long it goes on")
     parser.add_argument("seed", metavar="SEED", type=int, nargs="?", default=0, help="one seed always gives the same files (0)")
 

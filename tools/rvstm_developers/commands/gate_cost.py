@@ -1,5 +1,3 @@
-"""`tools/developers/gate-cost`."""
-
 import argparse
 import enum
 import os
@@ -56,7 +54,6 @@ class Process:
 
 
 def processes() -> Iterator[Process]:
-    """All processes."""
     for path in Path("/proc").iterdir():
         if not path.name.isdigit():
             continue
@@ -120,7 +117,6 @@ def measure(gate: subprocess.Popen[bytes]) -> dict[Task, float]:
 
 
 def edits_of(crate: str) -> int:
-    """How many edits of a crate must be refused."""
     return len(list((TOP / "crates" / crate / "must-fail").glob("*.edit")))
 
 
@@ -143,7 +139,6 @@ def print_table(costs: Mapping[Task, float], minutes: float) -> None:
 
 
 def run(given: argparse.Namespace) -> int:
-    """Runs the gate. Returns its status."""
     began = time.time()
     with open(given.log, "w") as log:
         gate = subprocess.Popen(["rt", "ci", *["--anew"] * given.anew, *given.crates], cwd=TOP, stdout=log, stderr=subprocess.STDOUT)
@@ -153,7 +148,6 @@ def run(given: argparse.Namespace) -> int:
 
 
 def add_options(parser: argparse.ArgumentParser) -> None:
-    """Adds its options."""
     parser.add_argument("log", metavar="LOG", type=Path, help="the file for what the gate prints")
     parser.add_argument("crates", metavar="CRATE", nargs="*", help="proves these and those below them; all without it")
     parser.add_argument("--anew", action="store_true", help="keeps nothing of earlier runs")

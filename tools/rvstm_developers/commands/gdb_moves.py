@@ -1,5 +1,3 @@
-"""`tools/developers/gdb-moves`."""
-
 import argparse
 import enum
 import random
@@ -26,8 +24,6 @@ WORD = 4  # bytes
 
 
 class Reason(enum.Enum):
-    """Why a move stops."""
-
     STOP = "stop"
     WATCH = "watch"
     START = "start"
@@ -39,15 +35,11 @@ MARKS = {"replaylog:end": Reason.END, "replaylog:begin": Reason.START, "watch:":
 
 
 class Stop(NamedTuple):
-    """Where a move has to stop, and why."""
-
     moment: int
     reason: Reason
 
 
 class Memory(NamedTuple):
-    """Some bytes of memory."""
-
     start: int
     length: int
 
@@ -87,7 +79,6 @@ class Trace:
         self.words, self.meetings = sorted(set(self.words)), sorted(set(self.meetings))
 
     def pc(self, moment: int) -> int:
-        """The pc at a moment."""
         return self.rows[moment].pc
 
     def registers(self, moment: int) -> str:
@@ -97,7 +88,6 @@ class Trace:
         return b"".join([*words, texts.word(moment, 8)]).hex()
 
     def stack(self, moment: int, place: Memory) -> bytes:
-        """Bytes of the stack at a moment."""
         return self.rows[moment].stack[place.start - STACK :][: place.length]
 
     def has_changed(self, moment: int, watches: Iterable[Memory]) -> bool:
@@ -106,7 +96,6 @@ class Trace:
 
 
 def changed_words(before: bytes, after: bytes) -> list[int]:
-    """The addresses of the words of the stack that differ."""
     if before == after:
         return []
     return [STACK + at for at in range(0, len(before), WORD) if before[at : at + WORD] != after[at : at + WORD]]
@@ -120,12 +109,10 @@ class MovingWire(Wire):
         self.draw, self.said = draw, ""
 
     def hear(self) -> None:
-        """Stops some moves."""
         if self.draw.random() < INTERRUPTED:
             raise InterruptedMove
 
     def show(self, text: str) -> None:
-        """Keeps what gdb would show."""
         self.said = text
 
 
@@ -161,7 +148,6 @@ class Round:
         return Stop(self.trace.last, Reason.END)
 
     def backward(self) -> Stop:
-        """The same on the way back."""
         for moment in range(self.now - 1, -1, -1):
             if self.trace.has_changed(moment + 1, self.watches):
                 return Stop(moment, Reason.WATCH)
@@ -195,7 +181,6 @@ class Round:
         return self.compare()
 
     def compare(self) -> None:
-        """Compares registers and some memory."""
         self.require(self.server.all_registers("g") == self.trace.registers(self.now), "registers")
         start = self.draw.randrange(STACK, STACK_END)
         place = Memory(start, self.draw.randrange(1, STACK_END - start + 1))
@@ -203,48 +188,40 @@ class Round:
         self.require(found == self.trace.stack(self.now, place).hex(), f"memory at {start:08x}")
 
     def step(self) -> None:
-        """A step forward."""
         is_end = self.now == self.trace.last
         is_watched = not is_end and self.trace.has_changed(self.now + 1, self.watches)
         reason = Reason.END if is_end else Reason.WATCH if is_watched else Reason.STOP
         self.move("vCont;s:1;c", Stop(self.now + (not is_end), reason))
 
     def back(self) -> None:
-        """A step back."""
         is_start = self.now == 0
         is_watched = not is_start and self.trace.has_changed(self.now, self.watches)
         reason = Reason.START if is_start else Reason.WATCH if is_watched else Reason.STOP
         self.move("bs", Stop(self.now - (not is_start), reason))
 
     def many(self) -> None:
-        """Some steps back."""
         for _ in range(self.draw.randrange(20)):
             self.back()
 
     def range(self) -> None:
-        """Steps in a range of addresses."""
         first = self.draw.choice(self.trace.addresses)
         last = first + 4 * self.draw.randrange(1, 40)
         self.move(f"vCont;r{first:x},{last:x}:1;c", self.forward(first, last))
 
     def go(self) -> None:
-        """Goes to a moment."""
         self.now = self.draw.randrange(self.trace.total)
         self.server.command(["go", str(self.now)])
         self.compare()
 
     def set(self, kind: str, place: Memory, letter: str) -> None:
-        """Sets or clears a breakpoint or a watchpoint."""
         packet = f"{letter}{kind},{place.start:x},{place.length:x}"
         self.require(self.server.answers[letter](packet) == "OK", packet)
 
     def address_to_break(self) -> int:
-        """An address that is met."""
         addresses = self.trace.addresses
         return self.draw.choice(self.draw.choice((addresses, self.trace.meetings or addresses, [self.trace.pc(0)])))
 
     def place_to_watch(self) -> Memory:
-        """Bytes of the stack that change."""
         start = self.draw.choice(self.trace.words or [STACK])
         return Memory(start, min(self.draw.choice((4, 8)), STACK_END - start))
 
@@ -275,13 +252,11 @@ class Round:
 
 
 def draw_sizes(draw: Random) -> None:
-    """Draws how far is looked at once."""
     moments.REACH.far, moments.REACH.span = draw.choice((8, 64, 100_000)), draw.choice((4, 64, 8192))
     moments.REACH.times_more, moments.REACH.few_steps = draw.choice((2, 8)), draw.choice((0, 3, 64))
 
 
 def run(given: argparse.Namespace) -> int:
-    """Plays the rounds."""
     program = finding.chosen(options.program_choice(given), "gdb-moves")
     call = CallOf(program.path, given.file, given.call)
     trace, draw, compared = Trace(call), random.Random(given.seed), 0
@@ -299,7 +274,6 @@ def run(given: argparse.Namespace) -> int:
 
 
 def add_options(parser: argparse.ArgumentParser) -> None:
-    """Adds its options."""
     parser.add_argument("--rounds", type=int, default=20, metavar="N", help=f"each has {MOVES_OF_ROUND} moves; 20 without it")
 
 

@@ -1,5 +1,3 @@
-"""`tools/developers/growths`."""
-
 import argparse
 import os
 import re
@@ -101,14 +99,11 @@ class Trial:
 
 
 class Sums(NamedTuple):
-    """How many runs there were, and how many failed."""
-
     runs: int
     failed: int
 
 
 def commands(rvstm: Path, place: Path) -> Iterator[Trial]:
-    """The commands that are run, on examples."""
     out, turns = place / "out.elf", place / "turns.schedule"
     turns.write_text("0\n1\n" * 200)
 
@@ -147,7 +142,6 @@ def is_right(trial: Trial, answer: Ended, wanted: Ended) -> bool:
 
 
 def counts(first: int, last: int) -> list[CallLine]:
-    """Calls that count a key each."""
     return [CallLine(0, 1000, numbered_key(number)) for number in range(first, last)]
 
 
@@ -185,8 +179,6 @@ def working_requests(file: bytes) -> list[Request]:
 
 
 class Session:
-    """The requests of a session, and how it may answer them."""
-
     def __init__(self, rvstm: Path, settings: Settings, asked: Iterable[Request]) -> None:
         self.settings, self.requests = settings, list(asked)
         self.text = b"".join(request.text() for request in self.requests)
@@ -217,12 +209,10 @@ class Session:
 
 
 def is_passed(_: Trial, answer: Ended, wanted: Ended) -> bool:
-    """Whether a test of library calls has passed."""
     return answer.status == 0
 
 
 def sessions_of(rvstm: Path, place: Path) -> Iterator[Trial]:
-    """The sessions that are run."""
     work, counter = place / "work.elf", TOP / "examples/counter/counter.elf"
     running.output_of([rvstm, "asm", TOP / "bench/programs/work.s", "--out", work])
     counting, working = list(counting_requests(counter.read_bytes())), working_requests(work.read_bytes())
@@ -237,7 +227,6 @@ def sessions_of(rvstm: Path, place: Path) -> Iterator[Trial]:
 
 
 def tests_of(path: Path, place: Path) -> Iterator[Trial]:
-    """The tests of library calls."""
     listed = running.output_of([path, "--list"]).decode()
     for test in re.findall(r"^(\S+): test$", listed, re.MULTILINE):
         if not test.startswith(LEFT_OUT):
@@ -269,7 +258,6 @@ def run_all(place: Path, trials: Iterable[Trial]) -> Sums:
 
 
 def run(given: argparse.Namespace) -> int:
-    """Runs all trials."""
     with tempfile.TemporaryDirectory() as folder:
         place = Path(folder)
         trials = [*commands(given.rvstm, place), *sessions_of(given.rvstm, place)]
@@ -279,7 +267,6 @@ def run(given: argparse.Namespace) -> int:
 
 
 def add_options(parser: argparse.ArgumentParser) -> None:
-    """Adds its options."""
     parser.add_argument(
         "tests", metavar="TESTS", type=finding.absolute, nargs="?",
         help="the tests of library calls, as `rt test` in crates/growth_tests leaves them in out/growth_tests_tests",

@@ -1,5 +1,3 @@
-"""`tools/developers/kills`."""
-
 import argparse
 import random
 import signal
@@ -47,15 +45,12 @@ class Tape:
         self.stream, self.text = stream, b""
 
     def readline(self) -> bytes:
-        """The next line."""
         return self.keep(self.stream.readline())
 
     def read(self, count: int = -1, /) -> bytes:
-        """So many bytes, or all."""
         return self.keep(self.stream.read(count))
 
     def keep(self, data: bytes) -> bytes:
-        """Keeps some bytes."""
         self.text += data
         return data
 
@@ -191,7 +186,6 @@ class KilledFile:
         return None if check == "ok" else f"integrity_check: {check}"
 
     def keep(self) -> Path:
-        """Keeps the file and the input. Returns the folder."""
         kept = files.kept("kills-", self.path)
         (kept / "input").write_bytes(self.input.read_bytes())
         return kept
@@ -199,8 +193,6 @@ class KilledFile:
 
 @dataclass
 class Rounds:
-    """All rounds, and what was counted in them."""
-
     rvstm: Path
     folder: Path
     choice: Random
@@ -223,7 +215,6 @@ class Rounds:
 
 
 def run(given: argparse.Namespace) -> int:
-    """Runs the rounds."""
     rounds = Rounds(given.rvstm, given.folder, random.Random(given.seed), Counter())
     while rounds.done < given.rounds:
         with tempfile.TemporaryDirectory(prefix="kills-") as place:
@@ -234,7 +225,6 @@ def run(given: argparse.Namespace) -> int:
 
 
 def add_options(parser: argparse.ArgumentParser) -> None:
-    """Adds its options."""
     parser.add_argument("--rounds", type=int, default=100, metavar="N", help="how many sessions there are (100)")
 
 

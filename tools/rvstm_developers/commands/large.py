@@ -1,5 +1,3 @@
-"""`tools/developers/large`."""
-
 import argparse
 import functools
 import itertools
@@ -80,7 +78,6 @@ class Bench:
         self.rvstm, self.place, self.passed, self.failed = rvstm, place, 0, 0
 
     def write(self, trial: Trial) -> None:
-        """Writes the files that a run finds."""
         for name, content in trial.files.items():
             (self.place / name).write_bytes(content)
 
@@ -107,13 +104,11 @@ class Bench:
         return "" if came == trial.wanted else difference(came, trial.wanted)
 
     def tell(self, name: str, fault: str, measured: str) -> None:
-        """Prints how a row ended."""
         self.passed += not fault
         self.failed += bool(fault)
         print(f"{'failed' if fault else 'passed'}  {name}: {measured}" + (f"; {fault}" if fault else ""), flush=True)
 
     def row(self, name: str, trial: Trial) -> None:
-        """Runs a row once."""
         self.write(trial)
         usage = self.run(trial, trial.stack)
         measured = f"{usage.seconds:.2f} s, {usage.processor:.2f} s of the processor, {usage.memory:.0f} MiB"
@@ -140,7 +135,6 @@ class Row(NamedTuple):
 
 
 def difference(came: bytes, wanted: bytes) -> str:
-    """Where an output first is another one."""
     place = differences.place_of(wanted, came)
     part = slice(max(place - SHOWN_BEFORE, 0), place + SHOWN_BEFORE)
     return f"at byte {place} of {len(came)} and {len(wanted)}: {came[part]!r} and not {wanted[part]!r}"
@@ -150,14 +144,12 @@ def difference(came: bytes, wanted: bytes) -> str:
 
 
 def block_files(name: str) -> dict[str, bytes]:
-    """The file of a block and those of its programs."""
     block = blocks.made(name)
     files = {f"{number}.elf": program.file for number, program in enumerate(block.programs)}
     return files | {"block": block.text(files)}
 
 
 def by(words: Sequence[str], wanted: Callable[[Block], bytes], name: str) -> Trial:
-    """A block run by one command."""
     return Trial(list(words), wanted(blocks.made(name)), files=block_files(name))
 
 
@@ -173,7 +165,6 @@ def by_drive(workers: int, missing: int, name: str) -> Trial:
 
 
 def rows_of_block(bench: Bench, name: str) -> Iterator[Row]:
-    """A block run by each command."""
     yield Row(f"{name}, seq", functools.partial(by, ["seq", "block"], Block.result, name), bench.row)
     yield Row(f"{name}, conflicts", functools.partial(by, ["conflicts", "block"], Block.conflicts, name), bench.row)
     for workers in WORKERS:
@@ -186,7 +177,6 @@ def rows_of_block(bench: Bench, name: str) -> Iterator[Row]:
 
 
 def session_words(name: str, *more: str) -> list[str]:
-    """The words of the command line of a session."""
     return [*sessions.settings_of(name).words(), *more]
 
 
@@ -207,7 +197,6 @@ def kept_session(bench: Bench, number: int, workers: Sequence[str], name: str) -
 
 
 def rows_of_session(bench: Bench, name: str) -> Iterator[Row]:
-    """A session without a file, and in one."""
     yield Row(f"{name}, chain", functools.partial(whole_session, (), name), bench.row)
     for count in WORKERS * (name in BY_WORKERS):
         yield Row(f"{name}, chain by {count}", functools.partial(whole_session, ("--workers", str(count)), name), bench.row)
@@ -228,7 +217,6 @@ def rows_of_stacks(bench: Bench) -> Iterator[Row]:
 
 
 def rows(bench: Bench) -> Iterator[Row]:
-    """All rows."""
     for name in blocks.MAKERS:
         yield from rows_of_block(bench, name)
     for name in sessions.MAKERS:
@@ -239,7 +227,6 @@ def rows(bench: Bench) -> Iterator[Row]:
 
 
 def run(given: argparse.Namespace) -> int:
-    """Runs the rows that are asked for."""
     with tempfile.TemporaryDirectory(prefix="large-") as place:
         bench = Bench(given.rvstm, Path(place))
         asked = [row for row in rows(bench) if given.only in row.name]
@@ -253,7 +240,6 @@ def run(given: argparse.Namespace) -> int:
 
 
 def add_options(parser: argparse.ArgumentParser) -> None:
-    """Adds its options."""
     parser.add_argument("--only", default="", metavar="WORD", help="only the rows that have WORD in their names")
     parser.add_argument("--list", action="store_true", help="prints the names of the rows, and runs nothing")
 

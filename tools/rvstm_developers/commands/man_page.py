@@ -1,5 +1,3 @@
-"""`tools/developers/man-page`."""
-
 import argparse
 
 from rvstm_developers import options
@@ -10,7 +8,6 @@ from rvstm_tools.releases import helps
 
 
 def run(given: argparse.Namespace) -> int:
-    """Makes or checks the page."""
     top = checkouts.here("man-page").top
     if given.check:
         helps.check(top, given.rvstm)
@@ -21,7 +18,6 @@ def run(given: argparse.Namespace) -> int:
 
 
 def add_options(parser: argparse.ArgumentParser) -> None:
-    """Adds its options."""
     parser.add_argument("--check", action="store_true", help="writes nothing: the status is 1 if the page is not what the help makes")
 
 

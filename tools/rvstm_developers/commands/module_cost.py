@@ -1,5 +1,3 @@
-"""`tools/developers/module-cost`."""
-
 import argparse
 from collections import defaultdict
 from pathlib import Path
@@ -27,8 +25,6 @@ class Module(NamedTuple):
 
 
 class Cost(NamedTuple):
-    """What a module costs, in seconds."""
-
     seconds: float
     module: Module
 
@@ -40,7 +36,6 @@ def modules(folder: Path) -> list[Module]:
 
 
 def run(given: argparse.Namespace) -> int:
-    """Prints the costs."""
     found = modules(TOP / "crates" / given.crate / "out/incremental")
     if not found:
         raise UserError(f"{given.crate}: no check has kept anything")
@@ -58,7 +53,6 @@ def run(given: argparse.Namespace) -> int:
 
 
 def add_options(parser: argparse.ArgumentParser) -> None:
-    """Adds its options."""
     parser.add_argument("crate", metavar="CRATE", help="the name of the crate")
     parser.add_argument("most", metavar="MOST", type=int, nargs="?", default=30, help="how many modules are printed (30)")
 

@@ -1,5 +1,3 @@
-"""`tools/developers/outside-causes`."""
-
 import argparse
 from dataclasses import dataclass
 from pathlib import Path
@@ -31,7 +29,6 @@ class Place:
         return self.name not in AREAS or self.call in AREAS[self.name]
 
     def function(self) -> str | None:
-        """The function that it is in."""
         return text_of(self.around, How.FN)
 
 
@@ -48,8 +45,6 @@ def is_made(name: str, use: Use) -> bool:
 
 
 class Check:
-    """All places, each with what refused there."""
-
     def __init__(self, uses: Uses) -> None:
         self.uses = uses
         self.places: list[Place] = []
@@ -161,7 +156,6 @@ class Check:
 
 
 def run(given: argparse.Namespace) -> int:
-    """Checks the sources below a folder."""
     places = Check(Uses(given.folder)).places
     for place in sorted(places, key=lambda place: (str(place.path), place.line)):
         path = place.path.relative_to(TOP) if TOP in place.path.parents else place.path
@@ -178,7 +172,6 @@ def run(given: argparse.Namespace) -> int:
 
 
 def add_options(parser: argparse.ArgumentParser) -> None:
-    """Adds its options."""
     parser.add_argument("--places", action="store_true", help="prints each place, and the call or the error that refused")
     parser.add_argument("folder", metavar="FOLDER", type=Path, nargs="?", default=TOP / "crates", help="the crates; those of this checkout without it")
 

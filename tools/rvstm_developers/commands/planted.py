@@ -1,5 +1,3 @@
-"""`tools/developers/planted`."""
-
 import argparse
 import re
 import subprocess
@@ -48,7 +46,6 @@ def explored(words: list[str | Path]) -> Found | None:
 
 
 def run(given: argparse.Namespace) -> int:
-    """Builds and explores the bank with each of its bugs."""
     program, top = finding.chosen(options.program_choice(given), "planted"), checkouts.here("planted").top
     folder, failed = top / "examples/explored", 0
     with tempfile.TemporaryDirectory() as place:
@@ -65,7 +62,6 @@ def run(given: argparse.Namespace) -> int:
 
 
 def add_options(parser: argparse.ArgumentParser) -> None:
-    """Adds its options."""
     parser.add_argument(
         "--seconds", type=options.positive, default=60.0, metavar="N", help="for each search, and for shortening; 60 without it"
     )

@@ -1,5 +1,3 @@
-"""`tools/developers/power-cuts`."""
-
 import argparse
 import os
 import random
@@ -53,8 +51,6 @@ class Cut:
 
 
 class Allowed(Protocol):
-    """What images may hold."""
-
     def at(self, written_before: int, /) -> list[bytes]:
         """The states that are allowed after so many bytes of the answers were written."""
 
@@ -71,8 +67,6 @@ class Recording:
 
 @dataclass(frozen=True)
 class Image:
-    """An image, and the states that it may hold."""
-
     both: Both
     allowed: list[bytes]
 
@@ -86,8 +80,6 @@ class Opened:
 
 
 class Recorder:
-    """Records sessions over a file in a folder."""
-
     def __init__(self, rvstm: Path, place: Path) -> None:
         self.rvstm, self.path, self.list = rvstm, place / "file", place / "list"
         self.library = place / "recorder.so"
@@ -160,13 +152,10 @@ class Expected:
 
 
 class Same:
-    """One state alone."""
-
     def __init__(self, state: bytes) -> None:
         self.state = state
 
     def at(self, _: int) -> list[bytes]:
-        """The state."""
         return [self.state]
 
 
@@ -186,8 +175,6 @@ def sampled(choice: Random, items: Iterable[Item], most: int) -> list[Item]:
 
 
 class Images:
-    """Opens images, and counts."""
-
     def __init__(self, rvstm: Path, choice: Random, place: Path, recorder: Recorder, most: int | None) -> None:
         self.rvstm, self.choice, self.place, self.recorder, self.most = rvstm, choice, place, recorder, most
         self.path = self.place / "image"
@@ -195,7 +182,6 @@ class Images:
         self.counts: Counter[str] = Counter()
 
     def cut(self, what: Recording, depth: int = 0) -> None:
-        """Makes and opens the images of a session."""
         made: Iterable[Image] = self.made(what)
         most = self.most if depth == 0 else MOST_AGAIN
         if most is not None:
@@ -220,7 +206,6 @@ class Images:
                     yield Image(both, allowed)
 
     def opened(self, image: Image) -> Opened:
-        """What an image holds, and what is bad."""
         files.put(self.path, image.both)
         run = files.run(self.rvstm, self.path)
         if run.status or run.errors:
@@ -232,7 +217,6 @@ class Images:
         return Opened(run.output, files.difference_of_rows(self.path, run.output, self.place))
 
     def tell(self, name: str, image: Both, bad: str) -> None:
-        """Prints what is bad about an image, and keeps it."""
         self.counts["bad"] += 1
         files.put(self.path, image)
         print(f"bad, {name}: {files.kept('power-cuts-', self.path)}: {bad}", flush=True)
@@ -251,7 +235,6 @@ def requests_of(choice: Random, folder: Path, number: int) -> list[Request]:
 
 
 def recorded_sessions(rvstm: Path, recorder: Recorder, choice: Random, folder: Path) -> Iterator[Recording]:
-    """The sessions that are recorded."""
     with files.Plain(rvstm) as plain:
         asked = requests_of(choice, folder, REQUESTS)
         first = recorder.record(NOTHING, asked)
@@ -269,7 +252,6 @@ def recorded_sessions(rvstm: Path, recorder: Recorder, choice: Random, folder: P
 
 
 def run(given: argparse.Namespace) -> int:
-    """Makes and opens the images of each session."""
     choice, memory = random.Random(given.seed), "/dev/shm" if os.access("/dev/shm", os.W_OK) else None
     with tempfile.TemporaryDirectory(prefix="power-cuts-", dir=memory) as place:
         recorder = Recorder(given.rvstm, Path(place))
@@ -284,7 +266,6 @@ def run(given: argparse.Namespace) -> int:
 
 
 def add_options(parser: argparse.ArgumentParser) -> None:
-    """Adds its options."""
     parser.add_argument("--most", type=int, metavar="N", help="images of each session at most, taken at random")
 
 

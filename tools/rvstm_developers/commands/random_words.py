@@ -1,5 +1,3 @@
-"""`tools/developers/random-words`."""
-
 import argparse
 import os
 import random
@@ -81,7 +79,6 @@ def ends_of(text: str, registers: Sequence[int]) -> tuple[End, ...]:
 
 
 def differences(receipt: Receipt, limit: int, replay: Replay) -> Iterator[str]:
-    """How a receipt differs from its replay."""
     *before, end = replay.moments
     registers = replay.registers
     spent, last = sum(cost_of(earlier.text, registers) for earlier in before[:-1]), cost_of(end.text, registers)
@@ -101,8 +98,6 @@ def differences(receipt: Receipt, limit: int, replay: Replay) -> Iterator[str]:
 
 @dataclass
 class Tally:
-    """What was run, and how many calls differ."""
-
     words: int = 0
     executed: int = 0
     calls: int = 0
@@ -112,7 +107,6 @@ class Tally:
     mnemonics: Counter[str] = field(default_factory=Counter)
 
     def add(self, other: "Tally") -> None:
-        """Adds another one."""
         self.words += other.words
         self.executed += other.executed
         self.calls += other.calls
@@ -122,7 +116,6 @@ class Tally:
         self.mnemonics += other.mnemonics
 
     def take(self, receipt: Receipt, replay: Replay) -> None:
-        """Counts a call."""
         self.calls += 1
         self.steps += len(replay.moments) - 1
         self.ends[receipt.end] += 1
@@ -154,7 +147,6 @@ def compare(rvstm: Path, seed: str) -> Tally:
 
 
 def run(given: argparse.Namespace) -> int:
-    """Compares programs until there were enough words."""
     seed = random.randrange(2**32) if given.seed is None else given.seed
     began, total, number = time.monotonic(), Tally(), 0
     with ProcessPoolExecutor() as pool:
@@ -173,7 +165,6 @@ def run(given: argparse.Namespace) -> int:
 
 
 def add_options(parser: argparse.ArgumentParser) -> None:
-    """Adds its options."""
     parser.add_argument("words", metavar="WORDS", type=int, help="how many random words the programs have in all")
     parser.add_argument("seed", metavar="SEED", type=int, nargs="?", help="repeats what was drawn; without it each run draws other words")
 

@@ -1,5 +1,3 @@
-"""`tools/developers/store-damage`."""
-
 import argparse
 import os
 import random
@@ -25,14 +23,12 @@ NO_TABLE = "no such table"
 
 
 def turned_over(content: bytes, place: int) -> bytes:
-    """A content with one byte turned over."""
     changed = bytearray(content)
     changed[place] ^= 0xFF
     return bytes(changed)
 
 
 def damaged(choice: Random, whole: bytes) -> bytes:
-    """A content with random damage."""
     content, kind = bytearray(whole), choice.randrange(5)
     place = choice.randrange(len(content))
     if kind == 0:
@@ -68,8 +64,6 @@ class Came:
 
 
 class Damage:
-    """Opens damaged files, and counts what came."""
-
     def __init__(self, rvstm: Path, choice: Random, place: Path) -> None:
         self.rvstm, self.choice, self.place, self.path = rvstm, choice, place, place / "file"
         self.counts: Counter[str] = Counter()
@@ -84,7 +78,6 @@ class Damage:
         self.ended = files.contents(self.path)
 
     def bytes_turned(self, is_long: bool) -> Iterator[Both]:
-        """The files with one byte turned over."""
         for file, log in (self.ended, self.killed):
             for number in range(min(len(file or b""), FIRST_BYTES)):
                 if is_long or self.choice.randrange(ONE_IN) == 0:
@@ -94,7 +87,6 @@ class Damage:
                     yield Both(file, turned_over(log or b"", number))
 
     def random(self, number: int) -> Iterator[Both]:
-        """Files with random damage."""
         for _ in range(number):
             file, log = self.choice.choice((self.ended, self.killed))
             if log is None or self.choice.randrange(2):
@@ -131,7 +123,6 @@ class Damage:
         return Came(f"read as by sqlite3, {contents}", True)
 
     def open(self, damage: Iterable[Both]) -> None:
-        """Opens each, and counts what came."""
         for both in damage:
             came = self.came(both)
             self.counts[came.what] += 1
@@ -148,7 +139,6 @@ class Damage:
 
 
 def run(given: argparse.Namespace) -> int:
-    """Opens damaged files."""
     memory = "/dev/shm" if os.access("/dev/shm", os.W_OK) else None
     with tempfile.TemporaryDirectory(prefix="store-damage-", dir=memory) as place:
         damage = Damage(given.rvstm, random.Random(given.seed), Path(place))
@@ -161,7 +151,6 @@ def run(given: argparse.Namespace) -> int:
 
 
 def add_options(parser: argparse.ArgumentParser) -> None:
-    """Adds its options."""
     parser.add_argument("--long", action="store_true", help="each byte, and 10,000 random damages")
 
 

@@ -1,5 +1,3 @@
-"""`tools/developers/store-faults`."""
-
 import argparse
 import os
 import random
@@ -144,7 +142,6 @@ class Trial:
         self.tell(what, came, name)
 
     def reads(self, what: str, held: bytes, path: Path | None = None) -> None:
-        """A file is read, and holds this."""
         run = files.run(self.rvstm, path or self.path)
         is_read = run == Ended(held, b"", 0)
         came = "read" if is_read else files.refusal_of(run) or "read otherwise" if not run.errors else f"{run.errors!r}"
@@ -155,7 +152,6 @@ class Trial:
 
 
 def other_database(path: Path, *pragmas: str) -> None:
-    """Makes a database of others."""
     files.changed(path, *map(Statement, (*pragmas, "CREATE TABLE other (number)", "INSERT INTO other VALUES (1)")))
 
 
@@ -210,7 +206,6 @@ def try_rights(trial: Trial) -> None:
 
 
 def sqlite_is_locked(path: Path) -> bool:
-    """Whether stock SQLite finds a file locked."""
     base = sqlite3.connect(path, timeout=0)
     try:
         base.execute("SELECT * FROM storage").fetchall()
@@ -250,7 +245,6 @@ def try_journal(trial: Trial) -> None:
 
 
 def remove(path: Path) -> None:
-    """Removes it."""
     path.unlink()
 
 
@@ -273,7 +267,6 @@ def move_and_link(path: Path) -> None:
 
 
 def move_twice(path: Path) -> None:
-    """Moves it away and back."""
     move(path)
     path.with_name("moved").rename(path)
 
@@ -350,7 +343,6 @@ def try_bereft(trial: Trial) -> None:
 
 
 def try_changes(trial: Trial) -> None:
-    """Files that sqlite3 changed."""
     for change in CHANGES:
         files.changed(trial.sound_file(), *change.statements)
         if change.refusal:
@@ -361,7 +353,6 @@ def try_changes(trial: Trial) -> None:
 
 
 def try_settings(trial: Trial) -> None:
-    """Other settings than those that the file keeps."""
     trial.sound_file()
     for settings in OTHERS:
         trial.refuses(f"other settings, {' '.join(settings.words()[1:])}", OTHER_SETTINGS, settings=settings)
@@ -372,7 +363,6 @@ def try_settings(trial: Trial) -> None:
 
 
 def mounted_larger(place: Path) -> None:
-    """Gives a small disk more room."""
     subprocess.run(["mount", "-o", f"remount,size={LARGE}", place], check=True)
 
 
@@ -470,7 +460,6 @@ TRIALS = (try_foreign, try_links, try_rights, try_two, try_journal, try_taken_aw
 
 
 def run(given: argparse.Namespace) -> int:
-    """Makes all trials."""
     with tempfile.TemporaryDirectory(prefix="store-faults-") as place:
         os.chmod(place, 0o755)
         trial = Trial(given.rvstm, random.Random(given.seed), Path(place))

@@ -1,5 +1,3 @@
-"""`tools/developers/stress`."""
-
 import argparse
 import os
 import random
@@ -47,7 +45,6 @@ def driven(rvstm: Path, folder: Path, block: Path, workers: int, choice: Random)
 
 
 def ways(rvstm: Path, folder: Path, block: Path, choice: Random) -> Iterator[Way]:
-    """Some runs and one drive of a block."""
     for _ in range(RUNS_A_BLOCK):
         workers = choice.choice(WORKER_NUMBERS)
         ended = running.run([rvstm, "run", block, "--workers", str(workers), "--counts"], folder)
@@ -94,8 +91,6 @@ def busy() -> list[subprocess.Popen[bytes]]:
 
 @dataclass
 class Comparison:
-    """What was compared, and how much of it differs."""
-
     rvstm: Path
     folder: Path
     place: Path
@@ -113,7 +108,6 @@ class Comparison:
         print(f"differs, {name}: {kept / file} {how}", flush=True)
 
     def compare_block(self, programs: list[str]) -> None:
-        """Compares runs of one block."""
         text, block = blocks.block_of(self.choice, programs), self.place / "random.block"
         block.write_text(text)
         wanted = running.run([self.rvstm, "seq", block], self.folder)
@@ -124,7 +118,6 @@ class Comparison:
                 self.tell(way.name, text.encode(), "differs.block", way.ended.errors)
 
     def compare_session(self, programs: list[str]) -> None:
-        """Compares one session."""
         choice, made = self.choice, blocks.blocks_of(self.choice, programs)
         asked = sessions.session_of(choice, made, blocks.KEYS, self.folder, choice.choice((None, *WORKER_NUMBERS)))
         kind, text = choice.randrange(3), sessions.input_of(choice, asked.requests)
@@ -140,7 +133,6 @@ class Comparison:
 
 
 def run(given: argparse.Namespace) -> int:
-    """Compares until the time is over, or a signal comes."""
     stop: list[bool] = []
     for number in (signal.SIGINT, signal.SIGTERM):
         signal.signal(number, lambda *_: stop.append(True))
@@ -165,7 +157,6 @@ def run(given: argparse.Namespace) -> int:
 
 
 def add_options(parser: argparse.ArgumentParser) -> None:
-    """Adds its options."""
     parser.add_argument("seconds", metavar="SECONDS", type=float, help="how long it goes on")
     parser.add_argument("seed", metavar="SEED", type=int, nargs="?", help="repeats what was drawn; without it each run draws other things")
 

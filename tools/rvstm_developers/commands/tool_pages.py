@@ -1,5 +1,3 @@
-"""`tools/developers/tool-pages`."""
-
 import argparse
 
 from rvstm_developers import options
@@ -11,7 +9,6 @@ from rvstm_tools.releases.products import Products
 
 
 def run(_: argparse.Namespace) -> int:
-    """Makes both."""
     checkout = checkouts.here("tool-pages")
     (checkout.top / parsers.PAGE).write_text(parsers.page_of(Products(checkout).version()))
     (checkout.top / parsers.COMPLETION).write_text(parsers.completion())

@@ -23,7 +23,6 @@ def contracts_of(folder: Path) -> list[str]:
 
 
 def made_programs(rvstm: Path, place: Path, choice: Random) -> list[str]:
-    """The paths of some random programs that are made in a folder."""
     return [str(programs.make(rvstm, choice, place / f"{number}.elf")) for number in range(PROGRAMS_A_BLOCK)]
 
 
@@ -42,7 +41,6 @@ def input_of(choice: Random) -> bytes:
 
 
 def block_of(choice: Random, paths: Sequence[str]) -> str:
-    """A block of some calls of some of these programs."""
     used = choice.sample(paths, choice.randrange(1, min(4, len(paths)) + 1))
     head = choice.choice(texts.HEADS)
     store: dict[Key, bytes] = {}
@@ -56,6 +54,5 @@ def block_of(choice: Random, paths: Sequence[str]) -> str:
 
 
 def blocks_of(choice: Random, paths: Sequence[str]) -> Iterator[bytes]:
-    """Such blocks, without end."""
     while True:
         yield block_of(choice, paths).encode()

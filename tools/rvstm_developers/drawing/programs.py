@@ -47,7 +47,6 @@ def source(choice: Random) -> str:
 
 
 def input_of(choice: Random, keys: Sequence[Key]) -> bytes:
-    """An input of such a program: some of these keys."""
     return b"".join(choice.choice(keys) for _ in range(KEYS))
 
 

@@ -41,8 +41,6 @@ LOWEST_KEY, HIGHEST_KEY = Key(bytes(32)), Key(b"\xff" * 32)
 
 @dataclass(frozen=True)
 class Asked:
-    """The requests of a session, and its settings."""
-
     requests: list[Request]
     settings: Settings
 
@@ -126,7 +124,6 @@ class RandomSession:
         self.requests: list[Request] = []
 
     def add(self, word: bytes, *fields: bytes, body: bytes = b"") -> None:
-        """Adds a request."""
         self.requests.append(Request(word, fields, body))
 
     def next_block(self) -> bytes:
@@ -214,7 +211,6 @@ class RandomSession:
         self.requests.append(requests.begin(height, digest, text))
 
     def fill(self) -> "RandomSession":
-        """Adds some random requests."""
         for _ in range(self.choice.randrange(1, MOST_REQUESTS + 1)):
             kinds = [self.add_frames] * 5 + [self.add_bad_frame] * 2 + [self.add_question] * 4 + [self.add_program] * 2 + [self.add_begin]
             self.choice.choice(kinds)()
@@ -253,6 +249,5 @@ def input_of(choice: Random, asked: Sequence[Request]) -> bytes:
 def session_of(
     choice: Random, blocks: Iterator[bytes], keys: Sequence[Key], folder: Path, workers: int | None = None
 ) -> Asked:
-    """A random session."""
     made = RandomSession(choice, blocks, keys, folder).fill()
     return Asked(made.requests, settings_of(choice, made.requests, made.keeps_digest, workers))

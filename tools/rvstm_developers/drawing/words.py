@@ -25,8 +25,6 @@ EDGES = (0, 1, 2, 31, 32, 2**31 - 1, 2**31, 2**32 - 1)
 
 @dataclass(frozen=True)
 class Access:
-    """What a load or a store names."""
-
     base: int
     offset: int
 
@@ -91,12 +89,10 @@ class Words:
         ]
 
     def word(self, place: int) -> int:
-        """A word for this place in its page."""
         arm = self.choice.choice(self.arms)
         return arm.make(place, *arm.numbers)
 
     def is_one_in(self, number: int) -> bool:
-        """Whether a draw of one in so many comes."""
         return self.choice.randrange(number) == 0
 
     def destination(self) -> int:
@@ -106,15 +102,12 @@ class Words:
         return self.choice.choice(FREE)
 
     def source(self) -> int:
-        """Any register."""
         return self.choice.randrange(32)
 
     def computed(self, _place: int, opcode: int, funct3: int, funct7: int) -> int:
-        """An instruction of two registers."""
         return word_of_r(funct7, self.source(), self.source(), funct3, self.destination(), opcode)
 
     def immediate(self, _place: int, funct3: int) -> int:
-        """An instruction of a register and a number."""
         return word_of_i(self.choice.randrange(4096), self.source(), funct3, self.destination(), OP_IMM)
 
     def access(self) -> Access:
@@ -125,12 +118,10 @@ class Words:
         return Access(self.choice.choice((*IN_DATA, *IN_DATA, IN_CODE[0])), self.choice.randrange(-2048, 2048, unit))
 
     def load(self, _place: int, funct3: int) -> int:
-        """A load."""
         access = self.access()
         return word_of_i(access.offset, access.base, funct3, self.destination(), LOAD)
 
     def store(self, _place: int, funct3: int) -> int:
-        """A store."""
         access = self.access()
         return word_of_s(access.offset, self.source(), access.base, funct3)
 
@@ -146,22 +137,18 @@ class Words:
         return self.choice.choice((-3, -2, 2, 2, 2, 3, 3, 4, 5, 8)) * 4
 
     def branch(self, place: int, funct3: int) -> int:
-        """A branch."""
         distance = max(-4096, min(4094, self.distance(place)))
         return word_of_b(distance, self.source(), self.source(), funct3)
 
     def jump(self, place: int) -> int:
-        """A jump to a label."""
         distance = self.choice.randrange(-(2**20), 2**20, 2) if self.is_one_in(64) else self.distance(place)
         return word_of_j(distance, self.destination())
 
     def jump_to_register(self, _place: int) -> int:
-        """A jump to a register."""
         base = self.source() if self.is_one_in(16) else self.choice.choice(IN_CODE)
         return word_of_i(self.choice.randrange(-256, 256, 1 if self.is_one_in(8) else 4), base, 0, self.destination(), JALR)
 
     def upper(self, _place: int, opcode: int) -> int:
-        """A LUI or AUIPC."""
         return self.choice.randrange(2**20) << 12 | self.destination() << 7 | opcode
 
     def fence(self, _place: int) -> int:
@@ -177,7 +164,6 @@ class Words:
         return word_of_r(functs[0], self.source(), self.source(), functs[1], self.destination(), opcode)
 
     def any_word(self, _place: int) -> int:
-        """Any word."""
         return self.choice.randrange(2**32)
 
 
@@ -189,7 +175,6 @@ def launcher() -> list[int]:
 
 
 def bytes_of(words: Sequence[int]) -> bytes:
-    """The bytes of some words."""
     return struct.pack(f"<{len(words)}I", *words)
 
 

@@ -62,12 +62,10 @@ def each(first: int, keys: int, length: int, number: int, program: int = 0) -> C
 
 
 def of_inputs(calls: int = MOST_CALLS) -> Block:
-    """Calls with the longest inputs."""
     return Block([LAST], [CallLine(0, MOST_GAS, filled(LONGEST_INPUT, number)) for number in range(calls)])
 
 
 def of_file_keys(length: int = 8, rules: int = 1, keys: int = MANY_KEYS) -> Block:
-    """A few calls over a storage of many keys."""
     store = {key(3 * number): filled(length, number) for number in range(keys)}
     return Block([COUNT], [count(0), count(3 * keys - 3), count(3 * keys), count(1)], store, rules)
 
@@ -78,7 +76,6 @@ def of_reads() -> Block:
 
 
 def of_pages() -> Block:
-    """Stores to each page, and beyond the pages that may be written."""
     first, pages, end = TEXT + PAGE, (MEMORY_END - TEXT) // PAGE - 1, MEMORY_END
     ranges = ((first, pages), (first, pages + 1), (TEXT, 1), (end, 1), (end - PAGE, 1), (TEXT - PAGE, 1))
     return Block([PAGES], [CallLine(0, MOST_GAS, word(start) + word(count)) for start, count in ranges])
@@ -101,12 +98,10 @@ def of_one_key() -> Block:
 
 
 def of_own_keys() -> Block:
-    """Calls that do not wait."""
     return Block([COUNT], [count(number) for number in range(MOST_CALLS)])
 
 
 def of_few_keys(calls: int = 300, rounds: int = 300) -> Block:
-    """Calls on seven keys."""
     return Block([COUNT], [count(number % 7, rounds) for number in range(calls)])
 
 
@@ -117,7 +112,6 @@ def of_adds() -> Block:
 
 
 def of_writes(calls: int = MOST_CALLS) -> Block:
-    """The most writes of the most bytes."""
     return Block([EACH], [each(MOST_WRITES * number, MOST_WRITES, 256, StorageCall.WRITE) for number in range(calls)], {}, 2)
 
 
@@ -138,5 +132,4 @@ MAKERS: dict[str, Callable[[], Block]] = {
 
 @functools.lru_cache(maxsize=1)
 def made(name: str) -> Block:
-    """A block by its name."""
     return MAKERS[name]()

@@ -64,23 +64,19 @@ def wrong_line(words: list[str]) -> Trial:
 
 
 def with_calls(*calls: CallLine) -> bytes:
-    """A block file of some calls."""
     return Block([COUNT], calls).text(["missing"])
 
 
 def with_value(rules: int, length: int, format_two: bool = True) -> bytes:
-    """A block file with a value of so many bytes."""
     begin = HEADS[1] if format_two and rules == 1 else head_of(rules)
     return f"{begin}store {key(1).hex()} {field_of(bytes(length))}\n".encode()
 
 
 def with_programs(number: int) -> bytes:
-    """A block file with so many programs."""
     return Block([COUNT] * number, []).text(["missing"] * number)
 
 
 def with_call(*words: str) -> bytes:
-    """A block file with a call of these words."""
     return f"rvblock 1\nprogram 0 missing\ncall {' '.join(words)}\n".encode()
 
 
@@ -103,7 +99,6 @@ BLOCKS = {
 
 
 def block_refused(command: str, name: str) -> Trial:
-    """A block that a command refuses."""
     bad = BLOCKS[name]
     return refused([command, "block", *(["--workers", "32"] if command == "run" else [])], bad.words, block=bad.make())
 
@@ -127,7 +122,6 @@ def session(
 
 
 def ended(after: bytes, fault: Fault = Fault.BAD_LINE) -> Trial:
-    """A session that ends with a fault of its input."""
     return session([], [], [answers.refused(fault)], after, b"rvstm: " + fault)
 
 
@@ -137,7 +131,6 @@ def framed(block: Block, word: Word = Word.FRAME) -> Request:
 
 
 def answered(block: Block) -> Answer:
-    """The answer to it."""
     return Done(f"{block.receipts_text()}end\n".encode())
 
 
@@ -148,17 +141,14 @@ def at_limit(words: list[str], fault: bytes) -> Trial:
 
 
 def by_frame_limit(less: int) -> Trial:
-    """A frame beside the limit of its length."""
     return at_limit(["--frame-limit", str(len(framed(ONE).body) - less)], b"frame TooLong 4" if less else b"")
 
 
 def by_frame_gas(less: int) -> Trial:
-    """A frame beside the limit of its gas."""
     return at_limit(["--frame-gas", str(MOST_GAS - less)], b"frame TooMuchGas 5" if less else b"")
 
 
 def too_high() -> Trial:
-    """The last frame that counts, and the next one."""
     empty = Request(Word.FRAME, (), b"rvblock 1\n")
     begin = requests.begin(HIGHEST - 1, None, b"rvblock 1\n")
     wanted: list[Answer] = [Done(), Done(b"end\n"), *[answers.refused(b"frame TooHigh 9")] * 2, Done(b"end\n")]
@@ -166,7 +156,6 @@ def too_high() -> Trial:
 
 
 def too_long_programs() -> Trial:
-    """Programs of more bytes than a file may have: the session goes on."""
     asked = [Request(Word.PROGRAM, (), bytes(LONGEST_PROGRAM + more)) for more in (1, 1_000_000, 0)]
     return session([], asked, [answers.refused(b"file TooLong 3"), answers.refused(b"file TooLong 3"), answers.refused(b"elf BadMagic 2")])
 
@@ -197,12 +186,10 @@ SESSIONS: dict[str, Make] = {
 
 
 def driven(schedule: bytes, told: str) -> Trial:
-    """A schedule that is refused."""
     return refused(["drive", "block", "--workers", "32", "--schedule", "schedule"], told, block=b"rvblock 1\n", schedule=schedule)
 
 
 def program_refused(file: bytes, told: str, command: str = "seq") -> Trial:
-    """A program file that is refused."""
     words = ["seq", "block"] if command == "seq" else ["dis", "0.elf"]
     return refused(words, told, **{"block": ONE.text(["0.elf"]), "0.elf": file})
 
@@ -224,12 +211,10 @@ def with_image_to(end: int) -> bytes:
 
 
 def taken(file: bytes) -> Trial:
-    """A program that is run."""
     return Trial(["seq", "block"], ONE.result(), files={"block": ONE.text(["0.elf"]), "0.elf": file})
 
 
 def assembled(source: str, told: str) -> Trial:
-    """A source that is refused."""
     return refused(["asm", "source", "--out", "made"], told, source=source.encode())
 
 

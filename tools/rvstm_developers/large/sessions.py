@@ -33,8 +33,6 @@ Parts = list[list[Request]]
 
 @dataclass(frozen=True)
 class Maker:
-    """The number of parts of a session, and what makes them."""
-
     parts: int
     make: Callable[[], Parts]
 
@@ -59,7 +57,6 @@ class Model(sessions.Model):
         return None
 
     def answer_program(self, file: bytes) -> Answer:
-        """The answer to a program that is handed in."""
         name = frames.name_of(file)
         if len(file) > LONGEST_PROGRAM:
             return answers.refused(b"file TooLong 3")
@@ -68,7 +65,6 @@ class Model(sessions.Model):
         return Done(f"{name}\n".encode())
 
     def run(self, block: bytes) -> Ran:
-        """The answer to a frame, and what it would leave."""
         fault = self.fault_of(block)
         if fault:
             return Ran(fault)
@@ -101,12 +97,10 @@ def asked(*blocks: Block) -> list[Request]:
 
 
 def keys_of(count_of_keys: int, length: int) -> Storage:
-    """A storage of so many keys."""
     return {numbered_key(number): large_blocks.filled(length, number) for number in range(count_of_keys)}
 
 
 def begun(store: Storage, rules: int) -> Request:
-    """The beginning by a dump."""
     dump = texts.head_of(rules) if rules > 1 else texts.HEADS[1]
     return requests.begin(7, bytes(32), (dump + "".join(blocks.store_lines(store))).encode())
 
@@ -120,7 +114,6 @@ def programs_of(number: int) -> list[Program]:
 
 
 def of_long_frames() -> Parts:
-    """Frames of 1 MB, and of the most calls with the longest inputs."""
     return [asked(large_blocks.of_inputs(122)), asked(large_blocks.of_inputs())]
 
 
@@ -133,13 +126,11 @@ def of_many_entries() -> Parts:
 
 
 def of_long_entries() -> Parts:
-    """A frame above the limit that holds if none is given."""
     block = Block([COUNT], [count(1)], keys_of(FRAME_KEYS * 5 // 4, 256), 2)
     return [asked(block)]
 
 
 def of_many_programs() -> Parts:
-    """The most programs in a frame, and many in a session."""
     made = programs_of(SESSION_PROGRAMS)
     calls = [CallLine(number, MOST_GAS, count(number % 5).data) for number in range(MOST_PROGRAMS)]
     asks = [framed(Block(made[first : first + MOST_PROGRAMS], calls)) for first in (0, SESSION_PROGRAMS - MOST_PROGRAMS)]
@@ -148,7 +139,6 @@ def of_many_programs() -> Parts:
 
 
 def of_many_requests() -> Parts:
-    """Frames and tries of two calls, and questions between them."""
     asks = [program(COUNT)]
     for number in range(REQUESTS // 5):
         block = Block([COUNT], [count(number % 100), count(1)])
@@ -158,18 +148,15 @@ def of_many_requests() -> Parts:
 
 
 def of_many_keys() -> Parts:
-    """A beginning with many keys."""
     listed = [Request(Word.LIST, (key_field(number), b"1024")) for number in (0, large_blocks.MANY_KEYS - 1000)]
     return [[begun(keys_of(large_blocks.MANY_KEYS, 8), 1), *listed, *asked(Block([COUNT], [count(1), count(large_blocks.MANY_KEYS)]))]]
 
 
 def of_long_dump() -> Parts:
-    """A beginning and a dump of long values."""
     return [[begun(keys_of(DUMP_KEYS, 256), 3), Request(Word.GET, (key_field(DUMP_KEYS - 1),)), Request(Word.DUMP)]]
 
 
 def of_long_program() -> Parts:
-    """The longest program, and longer ones."""
     longest = long_program(LONGEST_PROGRAM)
     block = Block([longest], [count(1), count(2)])
     return [[*asked(block), Request(Word.PROGRAM, (), longest.file + b"\0"), Request(Word.PROGRAM, (), bytes(10 * LONGEST_PROGRAM))], [framed(block)]]
@@ -181,7 +168,6 @@ def long_program(length: int) -> Program:
 
 
 def of_many_calls() -> Parts:
-    """The longest path of waits."""
     return [asked(large_blocks.of_one_key())]
 
 
@@ -208,7 +194,6 @@ LIMITS = {"a frame above the default limit": HIGHEST_LIMIT}
 
 
 def settings_of(name: str) -> Settings:
-    """The settings of a session."""
     return Settings(digest=True, frame_limit=LIMITS.get(name, LONGEST_FRAME))
 
 

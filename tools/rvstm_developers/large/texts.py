@@ -61,7 +61,6 @@ class Said(NamedTuple):
 
 
 def replayed(block: Block, number: int, rows: list[Said]) -> Trial:
-    """A replay of a call of a block."""
     wanted = texts.lines_of(row.answer for row in rows if row.answer is not None).encode()
     given = texts.lines_of(row.line for row in rows).encode()
     files = {"block": block.text(["0.elf"]), "0.elf": COUNT.file}
@@ -79,12 +78,10 @@ def text_of(row: Instruction) -> str:
 
 
 def where(call: Call) -> str:
-    """Where a call is, as `debug` prints it."""
     return f"{call.steps} {call.pc:08x} {text_of(call.program.code[(call.pc - TEXT) // 4])}"
 
 
 def registers(call: Call) -> str:
-    """Its registers."""
     return f"regs {' '.join(f'{value:08x}' for value in call.registers)}"
 
 
@@ -98,7 +95,6 @@ class Moments:
 
     @functools.lru_cache
     def at(self, moment: float = math.inf) -> Call:
-        """The call at a moment, or at its end."""
         return Call(self.program, self.rules, self.store, self.call.gas, self.call.data).until(moment)
 
 

@@ -150,7 +150,6 @@ class Call:
         return self
 
     def step(self, row: Instruction) -> None:
-        """Makes one step."""
         name, first, second, third = row
         registers = self.registers
         if name == "ecall":
@@ -190,7 +189,6 @@ class Call:
         return length == 0 or (first <= address and address + length <= MEMORY_END)
 
     def ends(self, end: End) -> None:
-        """Ends the call."""
         self.end = end
 
     def charge(self, gas: int) -> bool:
@@ -222,7 +220,6 @@ class Call:
         self.touch(number, Key(self.bytes(at, KEY_LENGTH)), second, third)
 
     def touch(self, number: int, key: Key, second: int, length: int) -> None:
-        """A storage call on a key."""
         if number == StorageCall.READ:
             if not self.read(key, second, length):
                 return
@@ -255,11 +252,9 @@ class Call:
         return Written(laid(value_after(None, change), amount))
 
     def bytes(self, address: int, length: int) -> bytes:
-        """Some bytes of memory."""
         return bytes(self.memory[address - TEXT : address - TEXT + length])
 
     def receipt(self, number: int) -> Receipt:
-        """Its receipt, once it has ended."""
         assert self.end is not None
         changes = dict(sorted(self.changes.items())) if self.end is End.RETURNED else {}
         return Receipt(number, self.end, self.limit - self.left, self.pc, self.output, tuple(self.registers), changes)
@@ -299,8 +294,6 @@ def field_of(change: Change) -> str:
 
 
 class Block:
-    """A block under some rules: programs, a storage, and calls."""
-
     def __init__(
         self, programs: Sequence[Program], calls: Iterable[CallLine], store: Storage | None = None, rules: int = 1
     ) -> None:
@@ -311,7 +304,6 @@ class Block:
         self.left: Storage = {}
 
     def text(self, paths: Iterable[str], store: Storage | None = None) -> bytes:
-        """The block file."""
         return texts.block_text(paths, self.store if store is None else store, self.calls, texts.head_of(self.rules)).encode()
 
     def ran(self) -> list[Receipt]:
@@ -328,7 +320,6 @@ class Block:
         return self.receipts
 
     def storage(self) -> Storage:
-        """The storage after the calls."""
         self.ran()
         return self.left
 

@@ -37,7 +37,6 @@ class Measure:
         self.cost = ready + both_indices
 
     def of_task(self, task: Task, state: State) -> int:
-        """What a task has left."""
         match task:
             case Running(_, answers, None):
                 return self.reads - len(answers) + 2 * self.writes + 2
@@ -50,7 +49,6 @@ class Measure:
         raise AssertionError("a task of no kind")
 
     def left(self, state: State) -> int:
-        """What all have left."""
         stages = sum(self.stages[call.status] for call in state.calls)
         tasks = sum(self.of_task(task, state) for task in state.tasks if task)
         return stages + tasks + self.check * (self.calls - state.validation) + (self.calls - state.execution)
@@ -65,7 +63,6 @@ class Measure:
 
 
 def incarnations(state: State) -> int:
-    """How many incarnations there were."""
     return sum(call.incarnation for call in state.calls)
 
 
@@ -127,7 +124,6 @@ def owes_idle_asking(state: State, worker: int) -> bool:
 
 
 def worked(block: Block, state: State, worker: int) -> Worked:
-    """The step of a worker."""
     after = model.step(block, state, worker)
     is_work = not owes_idle_asking(state, worker)
     need(is_work or after._replace(counts=state.counts, dones=state.dones) == state, "an idle asking changes the state")

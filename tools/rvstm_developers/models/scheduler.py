@@ -39,7 +39,6 @@ def put(key: str, value: int | None) -> Run:
 
 
 def get(key: str) -> Run:
-    """Reads a key."""
     yield key
     return {}
 
@@ -50,7 +49,6 @@ def copy(source: str, target: str) -> Run:
 
 
 def count(key: str) -> Run:
-    """Adds one to a key."""
     return {key: ((yield key) or 0) + 1}
 
 
@@ -75,15 +73,11 @@ def read_all(number: int) -> Run:
 
 
 class Contract:
-    """A contract with its arguments."""
-
     def __init__(self, run: Callable[..., Run], *arguments: object) -> None:
         self.run, self.arguments = run, arguments
 
 
 class Origin(NamedTuple):
-    """A version: its writer and its incarnation."""
-
     writer: int
     incarnation: int
 
@@ -96,16 +90,12 @@ class Read(NamedTuple):
 
 
 class Answer(NamedTuple):
-    """An answer to a run."""
-
     key: str
     value: Value
     origin: Origin | None
 
 
 class Write(NamedTuple):
-    """A key and its value."""
-
     key: str
     value: Value
 
@@ -139,7 +129,6 @@ class Block:
 
 
 def pause_of(run: Run, values: Sequence[Value]) -> Pause:
-    """Where a run is after these values."""
     try:
         asked = next(run)
         for value in values:
@@ -162,8 +151,6 @@ def writes_in_order(block: Block) -> Iterator[Writes]:
 
 
 class Recorded(NamedTuple):
-    """A run that was recorded."""
-
     writes: Writes
     reads: tuple[Read, ...]
 
@@ -235,8 +222,6 @@ Task = Running | Moving | Validating | Marking | None
 
 
 class Counts(NamedTuple):
-    """What a worker counts."""
-
     steps: int = 0
     asks: int = 0
     executions: int = 0
@@ -261,56 +246,47 @@ Step = Callable[[Block, State, int], State]
 
 
 def start(block: Block, workers: int) -> State:
-    """The state before the first step."""
     calls = (Call(),) * len(block.calls)
     return State(calls, (), 0, 0, (None,) * workers, (Counts(),) * workers, (0,) * workers, 0)
 
 
 def replaced(items: tuple[Item, ...], place: int, item: Item) -> tuple[Item, ...]:
-    """Some items, with another one at a place."""
     return items[:place] + (item,) + items[place + 1 :]
 
 
 def with_call(index: int, state: State, call: Call) -> State:
-    """A state with another call."""
     return state._replace(calls=replaced(state.calls, index, call))
 
 
 def with_task(worker: int, task: Task, state: State) -> State:
-    """A state with another task of a worker."""
     return state._replace(tasks=replaced(state.tasks, worker, task))
 
 
 def running(state: State, worker: int) -> Running:
-    """The run of a worker."""
     task = state.tasks[worker]
     assert isinstance(task, Running)
     return task
 
 
 def moving(state: State, worker: int) -> Moving:
-    """The keys that a worker moves."""
     task = state.tasks[worker]
     assert isinstance(task, Moving)
     return task
 
 
 def validating(state: State, worker: int) -> Validating:
-    """The validation of a worker."""
     task = state.tasks[worker]
     assert isinstance(task, Validating)
     return task
 
 
 def marking_of(state: State, worker: int) -> Marking:
-    """The keys that a worker marks."""
     task = state.tasks[worker]
     assert isinstance(task, Marking)
     return task
 
 
 def last_of(call: Call) -> Recorded:
-    """The last run of a call that was executed."""
     assert call.last is not None
     return call.last
 
@@ -340,7 +316,6 @@ def changed(versions: Versions, key: str, writer: int, entry: Entry | None) -> V
 
 
 def ask(block: Block, state: State, worker: int) -> State:
-    """A worker without a task asks for one."""
     if is_done(state):
         return state._replace(dones=replaced(state.dones, worker, state.dones[worker] + 1))
     if state.validation < state.execution:
@@ -414,7 +389,6 @@ def record(block: Block, state: State, worker: int) -> State:
 
 
 def keys_of(writes: Writes) -> tuple[str, ...]:
-    """The keys of some writes."""
     return tuple(key for key, _ in writes)
 
 

@@ -26,22 +26,17 @@ READ_BASE = 200
 
 @dataclass(frozen=True)
 class Limits:
-    """The rules of a block, and the gas limits of its calls."""
-
     rules: int
     of_calls: list[int]
 
 
 @dataclass(frozen=True)
 class Wait:
-    """A call waits for this writer of a key."""
-
     writer: int
     key: Key
 
 
 def limits_of(path: str) -> Limits:
-    """What a block file says of its calls."""
     rows = [line.split() for line in Path(path).read_text(encoding="ascii").splitlines()]
     rules = next((int(row[1]) for row in rows if row[:1] == ["gas"]), 1)
     return Limits(rules, [int(row[2]) for row in rows if row[:1] == ["call"]])
@@ -83,7 +78,6 @@ def writers_of(receipts: Sequence[Receipt], key: Key, reader: int) -> Iterator[i
 
 
 def keys_read_of(program: Program, path: str, receipts: Sequence[Receipt]) -> Iterator[set[Key]]:
-    """The keys that each call reads, as its replay shows them."""
     limits = limits_of(path)
     for receipt, limit in zip(receipts, limits.of_calls, strict=True):
         yield keys_read(Replay(CallOf(program.path, path, receipt.number), limits.rules), receipt, limit)

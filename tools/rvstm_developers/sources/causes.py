@@ -5,8 +5,6 @@ import re
 
 
 class Kind(enum.Enum):
-    """A kind of causes."""
-
     MEMORY = "memory"
     FILE = "file"
     THREAD = "thread"

@@ -13,8 +13,6 @@ CLAUSE = re.compile(r"\b(?:requires|ensures)\b(?:\s+\w+)?\s*\{|#!?\[")
 
 @dataclass(frozen=True)
 class Token:
-    """A word or sign, and its line."""
-
     text: str
     line: int
 
@@ -80,7 +78,6 @@ def code(text: str) -> str:
 
 
 def tree(text: str) -> Group:
-    """The tree of a source's code."""
     top = Group("", 1)
     stack, line, place = [top], 1, 0
     for found in TOKEN.finditer(text):

@@ -15,8 +15,6 @@ ENDLESS = re.compile(r"\bfor _\w* in 0 \.\. u64 :: MAX$")
 
 
 class How(enum.Enum):
-    """What is around a word."""
-
     PATTERN = enum.auto()
     """An arm, an `if let`, a closure of `map_err` or a function, with its pattern or parameters; perhaps with what is matched."""
     RULE = enum.auto()
@@ -40,8 +38,6 @@ class How(enum.Enum):
 
 @dataclass(frozen=True)
 class Around:
-    """One thing around a word."""
-
     how: How
     text: str
     scrutinee: str = ""
@@ -62,15 +58,12 @@ class Use:
     around: tuple[Around, ...]
 
     def before(self) -> Item | None:
-        """The item before it."""
         return self.items[self.index - 1] if self.index else None
 
     def after(self) -> Item | None:
-        """The item after it."""
         return self.items[self.index + 1] if self.index + 1 < len(self.items) else None
 
     def is_call(self) -> bool:
-        """Whether it is called."""
         after = self.after()
         return isinstance(after, Group) and after.kind == "(" or is_token(after, "::")
 
@@ -80,8 +73,6 @@ class Use:
 
 
 class Parameter(NamedTuple):
-    """A parameter of a function."""
-
     name: str
     type: str
 
@@ -102,8 +93,6 @@ class Function:
 
 
 class Uses:
-    """All words of the code below a folder."""
-
     def __init__(self, folder: Path) -> None:
         self.functions: defaultdict[str, list[Function]] = defaultdict(list)
         self.words: defaultdict[str, list[Use]] = defaultdict(list)
@@ -113,7 +102,6 @@ class Uses:
                 self.walk(tree(code(path.read_text())).items, ())
 
     def walk(self, items: Sequence[Item], around: tuple[Around, ...]) -> None:
-        """Notes the words of some items."""
         start, here = 0, around
         for index, item in enumerate(items):
             if is_token(item, "fn") and index + 1 < len(items) and not isinstance(items[index + 1], Group):
@@ -182,7 +170,6 @@ class Uses:
 
 
 def parameter_of(text: str) -> Parameter:
-    """A parameter by its text."""
     name, _, kind = text.removeprefix("mut ").partition(" : ")
     return Parameter(name, kind)
 
@@ -193,17 +180,14 @@ def text_of(around: Sequence[Around], how: How) -> str | None:
 
 
 def is_test(path: Path) -> bool:
-    """Whether a source is one of tests."""
     return any(part.endswith("_tests") or part == "tests" for part in path.parts) or path.name.endswith("tests.rt")
 
 
 def is_token(item: Item | None, text: str) -> bool:
-    """Whether an item is this word or sign."""
     return item is not None and not isinstance(item, Group) and item.text == text
 
 
 def is_group(item: Item, kind: str) -> bool:
-    """Whether an item is a group of this kind."""
     return isinstance(item, Group) and item.kind == kind
 
 
@@ -238,7 +222,6 @@ def around_of(group: Group, head: Sequence[Item], text: str) -> list[Around]:
 
 
 def let_around(head: Sequence[Item]) -> list[Around]:
-    """The variable or the constant that a statement makes."""
     found = re.match(r"(?:pub (?:\(crate\) )?)?(let|const) (?:mut )?(\w+) (?:: .* )?=(?! =)", words(head))
     return [Around(How.LET if found[1] == "let" else How.CONST, found[2])] if found else []
 
@@ -274,7 +257,6 @@ def is_import(head: Sequence[Item], around: Sequence[Around]) -> bool:
 
 
 def split(items: Sequence[Item], sign: str) -> list[list[Item]]:
-    """Items between signs."""
     parts: list[list[Item]] = [[]]
     for item in items:
         if is_token(item, sign):
@@ -309,7 +291,6 @@ class LastCall(NamedTuple):
 
 
 def last_call(call: str) -> LastCall:
-    """The last call of a text."""
     plain = re.sub(r"(?:(?<=\w )|:: )< [^()]*? > (?=\(|::)", "", top_level(call))
     names: list[tuple[str, str, str]] = re.findall(r"(\. )?(?:(\w+) :: )?(\w+) (?:! )?(?=[(\[])", plain)
     dot, owner, name = names[-1] if names else ("", "", "")

@@ -43,12 +43,10 @@ def steps_of(path: Path) -> list[Step]:
 
 
 def all_of(_: Random, __: bytes, new: bytes) -> bytes:
-    """All that was written."""
     return new
 
 
 def none_of(_: Random, old: bytes, __: bytes) -> bytes:
-    """Nothing of it."""
     return old
 
 
@@ -116,7 +114,6 @@ class Disk:
         self.changes: dict[bytes, list[Step]] = {FILE: [], LOG: []}
 
     def take(self, step: Step) -> None:
-        """Takes over what a step does."""
         if step.what == SYNCED:
             self.synced[step.whose], self.changes[step.whose] = self.of(step.whose), []
         elif step.what == UNLINKED:
@@ -129,7 +126,6 @@ class Disk:
         return left(Random(0), self.synced[whose], self.changes[whose], all_of)
 
     def both(self) -> Both:
-        """The file and its log without a cut."""
         return Both(self.of(FILE), self.of(LOG))
 
     def image(self, choice: Random, way: Way, most: int | None = None) -> Both:

@@ -44,8 +44,6 @@ class Both(NamedTuple):
 
 
 class StoredSession(NamedTuple):
-    """The row of a session: its columns in their order."""
-
     number: int
     version: int
     frame_limit: int
@@ -58,8 +56,6 @@ class StoredSession(NamedTuple):
 
 @dataclass(frozen=True)
 class Rows:
-    """The rows of the tables of a file."""
-
     storage: Storage
     programs: dict[bytes, bytes]
     session: StoredSession | None
@@ -87,17 +83,14 @@ class Written:
 
 
 def log_of(path: Path) -> Path:
-    """The path of the log of a file."""
     return Path(f"{path}{LOG}")
 
 
 def words_of(rvstm: Path, path: Path, settings: Settings = PLAIN) -> list[str | Path]:
-    """The words of the command line of a session over a file."""
     return [rvstm, *settings._replace(store=str(path)).words()]
 
 
 def text_of(asked: Iterable[Request]) -> bytes:
-    """The bytes of some requests."""
     return b"".join(request.text() for request in asked)
 
 
@@ -125,8 +118,6 @@ def answers_of(text: bytes) -> Written:
 
 
 class Asked(Session):
-    """A session that is asked what it holds."""
-
     def need(self, request: Request) -> Answer:
         """The answer of a session that does not die."""
         answer = self.ask(request)
@@ -135,7 +126,6 @@ class Asked(Session):
         return answer
 
     def asked(self) -> list[Answer]:
-        """The answers to the questions."""
         return [self.need(question) for question in QUESTIONS]
 
     def held(self) -> bytes:
@@ -151,8 +141,6 @@ class Plain(Asked):
 
 
 class OverFile(Asked):
-    """A session over a file."""
-
     def __init__(self, rvstm: Path, path: Path, settings: Settings = PLAIN, *, is_as_here: bool = False) -> None:
         super().__init__(rvstm, settings._replace(store=str(path)), is_as_here=is_as_here)
 
@@ -161,12 +149,10 @@ class OverFile(Asked):
 
 
 def contents(path: Path) -> Both:
-    """The bytes of a file and of its log."""
     return Both(*(place.read_bytes() if place.is_file() else None for place in (path, log_of(path))))
 
 
 def put(path: Path, both: Both) -> None:
-    """Makes a file and its log of these bytes."""
     for place, content in zip((path, log_of(path)), both):
         place.unlink(missing_ok=True)
         if content is not None:
@@ -205,8 +191,6 @@ def read_by_sqlite(path: Path) -> Read:
 
 
 class Statement(NamedTuple):
-    """A statement of SQL, and its values."""
-
     text: str
     values: Sequence[object] = ()
 

@@ -1,5 +1,3 @@
-"""`rvstm-tools block`: makes a block file of a list."""
-
 import argparse
 import sys
 from pathlib import Path
@@ -72,7 +70,6 @@ an ELF file is reported on standard error, if it is found from here or beside LI
 
 
 def add_options(parser: argparse.ArgumentParser) -> None:
-    """Adds the options of the command."""
     parser.add_argument("list", metavar="LIST", help="the list")
     parser.add_argument(
         "result", nargs="?", metavar="RESULT",
@@ -82,7 +79,6 @@ def add_options(parser: argparse.ArgumentParser) -> None:
 
 
 def run(given: argparse.Namespace) -> int:
-    """Prints the block file."""
     block = block_of(given.list, given.result)
     report_programs(block, given.list)
     print(block.text(), end="")
@@ -114,7 +110,6 @@ def found_file(program: str, path: str) -> Path | None:
 
 
 def is_elf(path: Path) -> bool:
-    """Whether a file begins as an ELF file does."""
     with open(path, "rb") as file:
         return file.read(len(ELF_MAGIC)) == ELF_MAGIC
 

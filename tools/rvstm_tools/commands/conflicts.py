@@ -1,5 +1,3 @@
-"""`rvstm-tools conflicts`: draws which calls of a block wait for which."""
-
 import argparse
 from pathlib import Path
 
@@ -23,13 +21,11 @@ The status is 0 if the picture is drawn, 1 if the block is refused or a file can
 
 
 def add_options(parser: argparse.ArgumentParser) -> None:
-    """Adds the options of the command."""
     parser.add_argument("file", metavar="FILE", help="a block file")
     parser.add_argument("--svg", type=Path, required=True, metavar="OUT", help="a file for the picture")
 
 
 def run(given: argparse.Namespace) -> int:
-    """Writes the picture."""
     view = options.view(given)
     program = finding.chosen(options.program_choice(given), "conflicts")
     found = conflicts.conflicts_of(running.run_file(program, "conflicts", given.file))

@@ -1,5 +1,3 @@
-"""`rvstm-tools coverage`: says which lines and branches of contracts the calls of lists ran."""
-
 import argparse
 import os
 from collections import Counter, defaultdict
@@ -43,14 +41,12 @@ refused or a file cannot be read, and 2 for a wrong command line."""
 
 
 def add_options(parser: argparse.ArgumentParser) -> None:
-    """Adds the options of the command."""
     parser.add_argument("lists", nargs="+", metavar="LIST", type=Path, help="a list, as `rvstm-tools test` takes it")
     parser.add_argument("--lcov", metavar="OUT", type=Path, help="a file for the same in the format of lcov")
     parser.add_argument("--sdk", action="store_true", help="counts the files of the SDK too")
 
 
 def run(given: argparse.Namespace) -> int:
-    """Prints what ran."""
     program = finding.chosen(options.program_choice(given), "coverage")
     programs, covered = defaultdict[str, Steps](Steps), Covered(SourceFile)
     for path in given.lists:

@@ -1,5 +1,3 @@
-"""`rvstm-tools example`: proves and builds rvstm, if that is not done yet, and runs an example."""
-
 import argparse
 
 from rvstm_tools.commands import preview
@@ -16,7 +14,6 @@ and of the program is beside the program."""
 
 
 def add_options(parser: argparse.ArgumentParser) -> None:
-    """Adds the options of the command."""
     parser.add_argument("name", metavar="NAME", help="an example, such as counter")
 
 
@@ -35,7 +32,6 @@ def build(checkout: Checkout, name: str) -> None:
 
 
 def run(given: argparse.Namespace) -> int:
-    """Builds the program, and runs the example."""
     checkout = checkouts.here("example")
     block = preview.block_of_example(checkout.top / "examples", given.name)
     build(checkout, given.name)

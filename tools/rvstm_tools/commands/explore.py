@@ -1,5 +1,3 @@
-"""`rvstm-tools explore`: looks for calls that break what a contract has to keep."""
-
 import argparse
 import sys
 from pathlib import Path
@@ -96,7 +94,6 @@ it was interrupted before anything was broken."""
 
 
 def add_options(parser: argparse.ArgumentParser) -> None:
-    """Adds the options of the command."""
     parser.add_argument("file", metavar="FILE", help="a description")
     parser.add_argument(
         "--calls", type=options.count, metavar="N",
@@ -119,13 +116,11 @@ def add_options(parser: argparse.ArgumentParser) -> None:
 
 
 def limits_of(given: argparse.Namespace) -> Limits:
-    """How long the search lasts."""
     calls = given.calls or (MOST_CALLS if given.seconds is None else options.MOST_ASKED_FOR)
     return Limits(calls, given.length, given.seconds, given.seed)
 
 
 def plan_of(given: argparse.Namespace) -> Plan:
-    """What the command line asks for."""
     program = finding.chosen(options.program_choice(given), "explore")
     description = Description(given.file)
     description.replace(given.replace)

@@ -1,5 +1,3 @@
-"""`rvstm-tools gdb`: lets gdb debug a call of a block, forward and backward."""
-
 import argparse
 from collections.abc import Callable
 
@@ -46,7 +44,6 @@ def add_options(_: argparse.ArgumentParser) -> None:
 
 
 def run(given: argparse.Namespace) -> int:
-    """Serves gdb."""
     program = finding.chosen(options.program_choice(given), "gdb")
     view = options.view(given)
 

@@ -1,5 +1,3 @@
-"""`rvstm-tools library`: proves and builds the library for C."""
-
 import argparse
 import subprocess
 import sys
@@ -32,7 +30,6 @@ class Linker:
         self.crate = products.checkout.crate(CRATE)
 
     def run(self, *words: str | Path, executable: Path | None = None) -> str:
-        """Runs a tool in the crate's folder."""
         done = subprocess.run(
             [str(word) for word in words], executable=executable, cwd=self.crate, capture_output=True, text=True, check=False
         )
@@ -42,14 +39,12 @@ class Linker:
         return done.stdout
 
     def in_kit(self, path: str) -> Path:
-        """A file of the kit."""
         found = Path(self.run("rt", "doc").splitlines()[0]).parent / path
         if not found.is_file():
             raise UserError(f"the kit has no {found}: it is not whole")
         return found
 
     def link(self) -> None:
-        """Links both."""
         llvm = self.in_kit("toolchain/bin/clang")  # all of LLVM's tools are this one file, by the name that it is called by
         archive, shared = self.products.path(Product.ARCHIVE), self.products.path(Product.SHARED)
         with tempfile.TemporaryDirectory() as place:
@@ -88,7 +83,6 @@ def add_options(_: argparse.ArgumentParser) -> None:
 
 
 def run(_: argparse.Namespace) -> int:
-    """Builds the library, and prints how to link it."""
     checkout = checkouts.here("library")
     build(checkout)
     archive, shared = (checkout.top / product.value for product in (Product.ARCHIVE, Product.SHARED))

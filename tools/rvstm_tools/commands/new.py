@@ -1,5 +1,3 @@
-"""`rvstm-tools new`: makes a folder with a contract, its test and a description of random calls."""
-
 import argparse
 import os
 import shlex
@@ -37,13 +35,11 @@ The status is 0 if the contract is built, 1 if it is not, and 2 for a wrong comm
 
 
 def add_options(parser: argparse.ArgumentParser) -> None:
-    """Adds the options of the command."""
     parser.add_argument("folder", type=Path, metavar="FOLDER", help="the folder to make")
     parser.add_argument("--rust", action="store_true", help="a contract in Rust; without it one in C")
 
 
 def run(given: argparse.Namespace) -> int:
-    """Makes the folder, and builds the contract."""
     folder: Path = given.folder
     language = Language.RUST if given.rust else Language.C
     name = finding.absolute(folder).name

@@ -1,5 +1,3 @@
-"""`rvstm-tools release`: makes the files of a release of a commit."""
-
 import argparse
 import email.utils
 import hashlib
@@ -62,8 +60,6 @@ class Package:
 
 
 class Release:
-    """A release of a commit."""
-
     def __init__(self, products: Products) -> None:
         self.products = products
         self.parts = Parts(products)
@@ -91,7 +87,6 @@ class Release:
         return {f"share/doc/{package}/changelog.gz": File(archives.gzip_of(text.encode()))}
 
     def packages(self) -> Iterator[Package]:
-        """The packages."""
         program, library = self.parts.program(), self.parts.library("/usr", f"lib/{parts.TRIPLET}")
         name, _, number = self.products.shared_name().partition(".so.")
         linked: Entries = {
@@ -109,7 +104,6 @@ class Release:
         )
 
     def deb_of(self, package: Package) -> bytes:
-        """The bytes of a package."""
         name = package.name
         entries = package.entries | self.parts.pages(name, is_packed=True) | self.notes(name) | self.changes(name)
         if name in parts.OVERRIDES:
@@ -131,7 +125,6 @@ class Release:
         return archives.gzip_of(archives.tar_of(placed, self.seconds))
 
     def files(self) -> dict[str, bytes]:
-        """All files of the release, by their names."""
         program, folder = self.products.built(Product.PROGRAM), f"rvstm-{self.version}"
         kit = checkouts.kit_of(self.products.path(Product.PROGRAM))
         noted = f"{self.products.sources(Product.PROGRAM)} {hashlib.sha256(program).hexdigest()}\n{kit}\n"
@@ -143,12 +136,10 @@ class Release:
 
 
 def add_options(parser: argparse.ArgumentParser) -> None:
-    """Adds the options of the command."""
     parser.add_argument("folder", type=Path, metavar="FOLDER", help="a folder that is made for the files")
 
 
 def run(given: argparse.Namespace) -> int:
-    """Makes the files, and prints their lengths."""
     folder, products = given.folder, Products(checkouts.here("release"))
     release = Release(products)
     made = release.files()

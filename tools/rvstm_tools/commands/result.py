@@ -1,5 +1,3 @@
-"""`rvstm-tools result`: prints a result for people, or as lines of JSON."""
-
 import argparse
 import io
 import json
@@ -21,14 +19,12 @@ With --list, keys and values are printed by the words and the lines `shape` of a
 
 
 def add_options(parser: argparse.ArgumentParser) -> None:
-    """Adds the options of the command."""
     parser.add_argument("--json", action="store_true", help="an object a line: each call with its writes, each key of the storage, and the end")
     parser.add_argument("--schema", action="store_true", help="prints the JSON schema of the objects of --json, and reads nothing")
     parser.add_argument("--registers", action="store_true", help="prints the registers of each call at its end, too")
 
 
 def run(given: argparse.Namespace) -> int:
-    """Prints the result that standard input has."""
     if given.schema:
         print(json.dumps(result_schema.SCHEMA, indent=2))
         return Status.DONE

@@ -1,5 +1,3 @@
-"""`rvstm-tools schedule`: prints a schedule file for `rvstm drive`."""
-
 import argparse
 import sys
 from collections.abc import Sequence
@@ -32,12 +30,10 @@ another reason, this command reports it."""
 
 
 def worker_count(word: str) -> int:
-    """The number of workers."""
     return number_in(word, 1, schedules.MOST_WORKERS)
 
 
 def length(word: str) -> int:
-    """The number of entries."""
     return number_in(word, 0, schedules.MOST_ENTRIES)
 
 
@@ -50,7 +46,6 @@ def number_in(word: str, least: int, most: int) -> int:
 
 
 def add_options(parser: argparse.ArgumentParser) -> None:
-    """Adds the options of the command."""
     parser.add_argument("workers", type=worker_count, metavar="WORKERS", help="how many workers there are, 1 to 32")
     parser.add_argument("length", type=length, nargs="?", metavar="LENGTH", help="how many entries are printed")
     parser.add_argument("form", nargs="*", metavar="FORM", help=f"{schedules.FORMS}; without it turns")
@@ -59,7 +54,6 @@ def add_options(parser: argparse.ArgumentParser) -> None:
 
 
 def run(given: argparse.Namespace) -> int:
-    """Prints the schedule."""
     is_continued = given.to_done is not None
     if is_continued != (given.schedule is not None) or is_continued == (given.length is not None):
         raise MisuseError("it wants a LENGTH, or --to-done BLOCK and --from SCHEDULE")

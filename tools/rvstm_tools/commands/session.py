@@ -1,5 +1,3 @@
-"""`rvstm-tools session`: runs frames in a session of `rvstm chain`, and asks it."""
-
 import argparse
 import sys
 from collections.abc import Callable, Iterator
@@ -51,13 +49,11 @@ class Asked:
 
 
 def get_of(word: str) -> Asked:
-    """What --get asks for."""
     key = key_of(word)
     return Asked(f"get {word}", lambda client: client.get(key))
 
 
 def list_of(word: str) -> Asked:
-    """What --list asks for."""
     key = key_of(word) if word else FIRST_KEY
     return Asked(f"list {word}".rstrip(), lambda client: client.list(key))
 
@@ -68,13 +64,11 @@ def frame_of(path: Path) -> Asked:
 
 
 def dump_of(word: str) -> Asked:
-    """What --dump asks for."""
     out = Path(word) if word else None
     return Asked(f"dump {word}".rstrip(), lambda client: client.dump(out))
 
 
 def key_of(word: str) -> Key:
-    """A key of the command line."""
     try:
         return words.key_of(word)
     except UserError as error:
@@ -82,7 +76,6 @@ def key_of(word: str) -> Key:
 
 
 def count(word: str) -> int:
-    """The number of a setting."""
     try:
         return numbers.number_of(word, 0, MOST_OF_A_SETTING, "a setting")
     except UserError as error:
@@ -94,7 +87,6 @@ LAST = Asked("last", lambda client: client.last())
 
 
 def add_options(parser: argparse.ArgumentParser) -> None:
-    """Adds the options of the command."""
     parser.add_argument("lists", nargs="*", type=Path, metavar="LIST", help="a list or a block file, which is run as a frame")
     parser.add_argument(
         "--get", dest="asked", action="append", default=[], type=get_of, metavar="KEY",
@@ -127,7 +119,6 @@ def settings_of(given: argparse.Namespace) -> Settings:
 
 
 def run(given: argparse.Namespace) -> int:
-    """Runs the frames and the requests."""
     if given.write and not given.replay:
         raise MisuseError("--write: it needs --replay")
     if given.replay and given.lists:
@@ -160,7 +151,6 @@ def answer_all(client: Client, given: argparse.Namespace) -> int:
 
 
 def show(client: Client, asked: Asked) -> None:
-    """Prints what was asked for, and the answer."""
     lines = asked.answer(client)
     print(asked.title)
     for line in lines:

@@ -1,5 +1,3 @@
-"""`rvstm-tools test`: runs tests of contracts."""
-
 import argparse
 import sys
 from collections.abc import Iterator, Sequence
@@ -66,8 +64,6 @@ rvstm; then no test is run."""
 
 @dataclass(frozen=True)
 class Options:
-    """The command line."""
-
     files: list[str]
     only: list[str]
     variants: list[str]
@@ -92,7 +88,6 @@ def percent(word: str) -> float:
 
 
 def add_options(parser: argparse.ArgumentParser) -> None:
-    """Adds the options of the command."""
     parser.add_argument(
         "files", nargs="+", metavar="FILE",
         help="a list, or a folder: its lists NAME.list, and those of folders in it, that have a line `expect`",

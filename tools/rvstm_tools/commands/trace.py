@@ -1,5 +1,3 @@
-"""`rvstm-tools trace`: traces a call of a block."""
-
 import argparse
 import os
 from pathlib import Path
@@ -43,13 +41,11 @@ printed, 1 if the block is refused or a file cannot be read, and 2 for a wrong c
 
 
 def add_options(parser: argparse.ArgumentParser) -> None:
-    """Adds the options of the command."""
     parser.add_argument("--lines", metavar="ELF", help="the program of the call with its symbols and lines")
     parser.add_argument("--svg", type=Path, metavar="OUT", help="a file for the flame graph")
 
 
 def run(given: argparse.Namespace) -> int:
-    """Prints the trace."""
     program = finding.chosen(options.program_choice(given), "trace")
     view = options.view(given)
     receipt = receipt_of(program, given.file, given.call)
@@ -72,7 +68,6 @@ def run(given: argparse.Namespace) -> int:
 
 
 def receipt_of(runner: Runner, file: str, number: int) -> Receipt:
-    """The receipt of a call of a block file."""
     receipts = results.result_of(running.run_file(runner, "seq", file)).receipts
     if number not in range(len(receipts)):
         raise UserError(f"{file}: there is no call {number}; its {len(receipts)} calls count from 0")

@@ -1,5 +1,3 @@
-"""`rvstm-tools verify`: says whether a program or a package has the proved program."""
-
 import argparse
 import shutil
 import sys
@@ -29,7 +27,6 @@ which sources. The status is 0 if all are equal, 1 if one is not or cannot be ma
 
 
 def add_options(parser: argparse.ArgumentParser) -> None:
-    """Adds the options of the command."""
     parser.add_argument("file", metavar="FILE", help="a program or a package")
     parser.add_argument("--sums", metavar="SHA256SUMS", help="the checksums of a release")
     parser.add_argument("--yes", action="store_true", help="proves and builds what is not there, and does not ask")
@@ -49,7 +46,6 @@ def build(products: Products, product: Product, is_asked: bool) -> None:
 
 
 def run(given: argparse.Namespace) -> int:
-    """Compares, and prints each comparison."""
     data = Path(given.file).read_bytes()
     if given.sums is not None:
         comparisons = verifying.by_sums(given.file, data, given.sums)

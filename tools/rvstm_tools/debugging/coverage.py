@@ -43,13 +43,10 @@ class Ways(NamedTuple):
     false: int
 
     def both(self) -> tuple[int, int]:
-        """Both numbers."""
         return self.true, self.false
 
 
 class AtBranch(NamedTuple):
-    """A branch of a program: its address and its mnemonic."""
-
     address: int
     mnemonic: str
 
@@ -94,8 +91,6 @@ class BranchOfSource(NamedTuple):
 
 @dataclass
 class SourceFile:
-    """What calls ran of a source file."""
-
     lines: Counter[int] = field(default_factory=Counter)
     branches: dict[BranchOfSource, Ways] = field(default_factory=dict)
 
@@ -109,7 +104,6 @@ class SourceFile:
         return ((branch.line, ways) for branch, ways in sorted(self.branches.items()))
 
     def ran(self) -> set[int]:
-        """The lines that ran."""
         return {line for line, count in self.lines.items() if count}
 
     def ways_taken(self) -> int:
@@ -177,7 +171,6 @@ def add_program(covered: Covered, path: str, steps: Steps) -> None:
 
 
 def share(part: int, whole: int) -> str:
-    """A part of a whole."""
     return f"{part} of {whole}" + (f", {100 * part / whole:.1f} %" if whole else "")
 
 
@@ -199,7 +192,6 @@ def spans_of(numbers: Sequence[int]) -> Iterator[str]:
 
 
 def source_lines(path: str, source: SourceFile) -> Iterator[str]:
-    """What is printed of a source file."""
     ran = source.ran()
     lines, branches = share(len(ran), len(source.lines)), share(source.ways_taken(), 2 * len(source.branches))
     yield f"{path}: lines {lines}; branches {branches}"

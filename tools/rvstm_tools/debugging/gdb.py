@@ -17,8 +17,6 @@ FIRST_ASKED = (1, 2, 8, PC, MOMENT)  # registers that gdb wants at each stop
 
 
 class Signal(enum.IntEnum):
-    """Signals, as gdb numbers them."""
-
     INT = 2
     ILL = 4
     TRAP = 5
@@ -127,7 +125,6 @@ class Server:
         return self.opened
 
     def close(self) -> None:
-        """Ends the sessions of the call."""
         if self.opened:
             self.opened.close()
 
@@ -145,7 +142,6 @@ class Server:
                 self.wire.send(self.answer(packet))
 
     def answer(self, packet: str) -> str:
-        """The answer to a packet."""
         answer, is_move = self.answers.get(packet[:1]), packet.startswith(MOVES)
         try:
             if is_move:
@@ -161,7 +157,6 @@ class Server:
         return REFUSAL
 
     def query(self, packet: str) -> str:
-        """The answer to a question."""
         name, _, _ = packet.partition(":")
         if packet.startswith(TARGET):
             start, length = numbers_of(f":{packet.removeprefix(TARGET)}")
@@ -202,23 +197,19 @@ class Server:
     # ---- what is there
 
     def all_registers(self, _: str) -> str:
-        """All registers."""
         return "".join(map(self.register_text, range(MOMENT + 1)))
 
     def register(self, packet: str) -> str:
-        """One register."""
         number = number_of(packet[1:])
         return self.register_text(number) if 0 <= number <= MOMENT else ERROR
 
     def register_text(self, number: int) -> str:
-        """The bytes of a register."""
         if number == MOMENT:
             return self.call.now.to_bytes(8, "little").hex()
         state = self.call.state()
         return (state.pc if number == PC else state.registers[number]).to_bytes(4, "little").hex()
 
     def memory(self, packet: str) -> str:
-        """Bytes of memory."""
         address, length = numbers_of(packet)
         return self.call.memory(address, length).hex() or (ERROR if length else "")
 
@@ -238,7 +229,6 @@ class Server:
         return "OK"
 
     def remove(self, packet: str) -> str:
-        """Takes a breakpoint or a watchpoint away."""
         address, length = numbers_of(packet[2:])
         kind = packet[1:2]
         if kind in ("0", "1"):
@@ -268,17 +258,14 @@ class Server:
         return at_edge() if found is None else self.stop(TRAPPED)
 
     def at_end(self) -> str:
-        """The stop at the end of the call."""
         self.wire.show(self.call.end_text())
         signal = SIGNALS.get(self.call.end.end)
         return self.stop(f"{TRAPPED}replaylog:end;" if signal is None else signal.packet)
 
     def at_start(self) -> str:
-        """The stop at the start of the call."""
         return self.stop(f"{TRAPPED}replaylog:begin;")
 
     def step(self, _: str) -> str:
-        """Makes a step."""
         return self.stop_for(self.call.step(list(self.watches.values())), self.at_end)
 
     def go_on(self, _: str) -> str:

@@ -63,12 +63,10 @@ class AnyMoment(Debugger):
         self.moment, self.pc, _ = place_of(answer)
 
     def go(self, moment: int) -> None:
-        """Goes to a moment."""
         if moment != self.moment:
             self.take(self.answer_bytes(f"t {moment}"))
 
     def bytes_at(self, address: int, length: int) -> bytes:
-        """Bytes of memory, which are all in it."""
         starts = range(address, address + length, MOST_BYTES)
         return b"".join(self.memory(start, min(MOST_BYTES, address + length - start)) or b"" for start in starts)
 
@@ -102,7 +100,6 @@ class Search:
             self.place.say(f"t {self.end}\n" + f"{self.line}\n" * self.count)
 
     def take(self, place: AnyMoment) -> None:
-        """Reads what was asked for."""
         here, *answers = place.answers_to_said(1 + self.count)
         place.take(here)
         if not self.is_begun and place.pc == self.address:
@@ -169,7 +166,6 @@ class Hits(Search):
         self.address = address
 
     def up_to(self, moment: int) -> list[int]:
-        """All of them up to a moment."""
         if self.first:
             self.begin(0)
         self.look(moment)
@@ -198,31 +194,23 @@ Stop = Search | Edge | None
 
 
 class Watched(NamedTuple):
-    """Some bytes of memory."""
-
     start: int
     length: int
 
 
 class State(NamedTuple):
-    """The registers and the pc at a moment."""
-
     moment: int
     registers: list[int]
     pc: int
 
 
 class Met(NamedTuple):
-    """A moment, and the search that has it."""
-
     moment: int
     search: Search | None
 
 
 @dataclass(frozen=True)
 class EndOfCall:
-    """How a call ends."""
-
     end: End
     output: bytes
     gas: int
@@ -257,7 +245,6 @@ class Call:
         self.seen: State | None = None
 
     def close(self) -> None:
-        """Ends all sessions."""
         for place in self.opened:
             place.kill()
 
@@ -279,7 +266,6 @@ class Call:
         return place
 
     def state(self) -> State:
-        """The registers and the pc."""
         if self.seen is None or self.seen.moment != self.now:
             place = self.here_at(self.now)
             self.seen = State(self.now, place.registers(), place.pc)
@@ -361,7 +347,6 @@ class Call:
     # ---- what is printed
 
     def end_text(self) -> str:
-        """How the call ends."""
         output = f" {shown.shown_bytes(self.end.output)}" if self.end.output else ""
         head = blockfiles.head_of_call(self.subject.file, self.subject.number)
         meaning = f", {text}" if (text := self.view.input(head.data)) else ""
@@ -381,7 +366,6 @@ class Call:
         return f"{self.view.key(Key(data))}: {found}\n"
 
     def ecalls(self) -> list[int]:
-        """The addresses of all ECALLs of the program."""
         path = blockfiles.head_of_call(self.subject.file, self.subject.number).program
         printed = Program(self.subject.program).run(["dis", path], self.subject.folder)
         if printed.refusal:

@@ -26,8 +26,6 @@ class Ends:
 
 
 class Wire:
-    """Packets from gdb and to it."""
-
     def __init__(self, ends: Ends = Ends(), clock: Callable[[], float] = time.monotonic) -> None:
         self.ends = ends
         self.clock = clock
@@ -81,13 +79,11 @@ class Wire:
         return None
 
     def write(self, data: bytes) -> None:
-        """Writes all of some bytes."""
         view = memoryview(data)
         while view:
             view = view[os.write(self.ends.output, view) :]
 
     def send(self, text: str) -> None:
-        """Sends a packet."""
         body = ESCAPED.sub(lambda found: b"}" + bytes([found[0][0] ^ 0x20]), text.encode())
         self.write(b"$%s#%s" % (body, checksum_of(body)))
 
@@ -97,5 +93,4 @@ class Wire:
 
 
 def checksum_of(body: bytes) -> bytes:
-    """The checksum of the bytes of a packet."""
     return b"%02x" % (sum(body) % 256)

@@ -35,7 +35,6 @@ class Turn(enum.Enum):
 
 
 def turn_of(text: str) -> Turn:
-    """What an instruction does, by its text."""
     mnemonic, _, operands = text.partition(" ")
     if mnemonic == ECALL:
         return Turn.ECALL
@@ -98,7 +97,6 @@ class StorageStep:
         return self.number < len(charges.NAMES)
 
     def name(self) -> str:
-        """The name of the storage call."""
         return charges.NAMES[self.number] if self.is_known() else f"ECALL {self.number}"
 
     def text(self, view: View) -> str:
@@ -130,7 +128,6 @@ class StorageStep:
 
 
 def shown_data(data: bytes | None) -> str:
-    """Bytes of memory for people."""
     return "outside memory" if data is None else shown.shown_bytes(data)
 
 
@@ -156,8 +153,6 @@ def take_answer(session: Debugger, call: StorageStep) -> None:
 
 
 class Progress:
-    """Reports how many steps are done and left."""
-
     def __init__(self, total: int) -> None:
         self.total = total
         self.next = time.monotonic() + SECONDS_BETWEEN_REPORTS
@@ -196,11 +191,9 @@ class Replay:
             self.last = self._walk(steps, places)
 
     def addresses(self) -> list[int]:
-        """The addresses of all instructions that ran."""
         return [fact.pc for fact in self.facts.values()]
 
     def texts(self) -> dict[int, str]:
-        """The texts of the instructions that ran, by their addresses."""
         return {fact.pc: fact.text for fact in self.facts.values()}
 
     def _walk(self, steps: Debugger, places: Debugger) -> Fact:

@@ -39,7 +39,6 @@ class Place(NamedTuple):
 
 
 def place_of(answer: bytes) -> Place:
-    """The place that an answer says."""
     fields = PLACE.fullmatch(answer)
     if fields is None:
         raise UserError(f"rvstm debug answered {answer!r} in place of a moment; please report it")
@@ -57,7 +56,6 @@ class Debugger(Pipes):
         self.give(lines.encode())
 
     def answers_to_said(self, count: int) -> Iterator[bytes]:
-        """The answers to so many lines."""
         missing = count
         for answer in self.lines(count):
             missing -= 1
@@ -73,15 +71,12 @@ class Debugger(Pipes):
             yield from self.answers_to_said(part)
 
     def answer_bytes(self, line: str) -> bytes:
-        """The answer to a line, with its LF."""
         return next(self.answers(line, 1))
 
     def answer(self, line: str) -> str:
-        """The answer to a line."""
         return self.answer_bytes(line).decode().rstrip("\n")
 
     def here(self) -> Place:
-        """Where the replay is."""
         return place_of(self.answer_bytes("w"))
 
     def run_to_end(self) -> int:
@@ -89,7 +84,6 @@ class Debugger(Pipes):
         return place_of(self.answer_bytes(f"g {NO_INSTRUCTION}")).moment
 
     def registers(self) -> list[int]:
-        """The 32 registers."""
         return [int(word, 16) for word in self.answer("r").split(" ")[1:]]
 
     def memory(self, address: int, length: int) -> bytes | None:

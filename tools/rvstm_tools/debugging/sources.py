@@ -24,8 +24,6 @@ class Inlined(NamedTuple):
 
 
 class SourceLine(NamedTuple):
-    """A line of a source file."""
-
     path: str
     number: int
 
@@ -82,7 +80,6 @@ def short_place(line: str) -> str:
 
 
 def source_line(line: str) -> SourceLine | None:
-    """The file and the line."""
     path, _, number = without_discriminator(line).rpartition(":")
     is_known = path and path != UNKNOWN and number.isdecimal() and int(number)
     return SourceLine(os.path.realpath(path), int(number)) if is_known else None
@@ -94,5 +91,4 @@ def without_discriminator(line: str) -> str:
 
 
 def names(chain: Iterable[Inlined]) -> list[str]:
-    """The functions of a chain."""
     return [inlined.function for inlined in chain]

@@ -106,7 +106,6 @@ def end_lines(replay: Replay, places: Places, receipt: Receipt) -> Iterator[str]
 
 
 def sum_lines(root: Bar) -> Iterator[str]:
-    """The gas of each function."""
     yield "gas by function"
     yield "  of its own     with calls          function"
     for own, total, name in flames.sums_of(root):

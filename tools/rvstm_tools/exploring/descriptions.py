@@ -55,7 +55,6 @@ class Kind:
         return [word.format_map(values) for word in self.words]
 
     def data(self, values: Mapping[str, Value]) -> bytes:
-        """The bytes of the input."""
         return b"".join(map(storages.bytes_of, self.words_with(values)))
 
     def check(self) -> None:
@@ -103,7 +102,6 @@ class Description:
         """The files of the programs, by their names."""
 
     def word_places(self) -> dict[str, Words]:
-        """The places for words."""
         return {name: place for name, place in self.places.items() if isinstance(place, Words)}
 
     def replace(self, given: Iterable[str]) -> None:

@@ -20,8 +20,6 @@ SECONDS_TO_SHORTEN = 60.0  # if no other number is asked for
 
 @dataclass(frozen=True)
 class Plan:
-    """What is asked for."""
-
     rvstm: Path
     description: Description
     limits: Limits
@@ -33,8 +31,6 @@ class Plan:
 
 
 class Exploration:
-    """Does what is asked for."""
-
     def __init__(self, plan: Plan) -> None:
         self.plan = plan
         self.description = plan.description
@@ -82,7 +78,6 @@ class Exploration:
         return Status.DONE
 
     def _report(self, found: Found) -> Status:
-        """Prints at once what was found."""
         made, at = self.limits.place_of(found.sequence, found.broken.at), found.broken.at
         place = f"call {made} of all, call {at} of sequence {found.sequence}" if found.calls else "the storage before any call"
         print(f"broken by {place}: {found.broken.text}", flush=True)

@@ -80,8 +80,6 @@ class Rule:
 
 @dataclass(frozen=True)
 class Raised:
-    """What an expression raised."""
-
     text: str
 
 

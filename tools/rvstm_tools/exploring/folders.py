@@ -45,7 +45,6 @@ class Folder:
 
     @property
     def found_list(self) -> Path:
-        """The file for the finding as a list."""
         return self.path / LIST
 
     def earlier(self, limits: Limits) -> State | None:
@@ -63,7 +62,6 @@ class Folder:
         return state.next if state and state.programs == self.programs else 0
 
     def keep(self, limits: Limits, following: int, found: list[SavedCall] | None) -> None:
-        """Keeps what a run has done so far."""
         state = State(self.description, self.programs, limits.seed, limits.length, following, found)
         new = self.path / f"{STATE}.new"
         new.write_text(json.dumps(asdict(state), indent=1) + "\n", encoding="utf-8")
@@ -71,7 +69,6 @@ class Folder:
 
 
 def state_of(path: Path) -> State:
-    """The state of a file."""
     try:
         fields = json.loads(path.read_bytes())
         found = fields.pop("found")

@@ -29,7 +29,6 @@ def shown_change(key: Key, change: Change, view: View) -> str:
 
 
 def expect_lines(outcome: Receipt, view: View) -> Iterator[str]:
-    """What came of a call, as lines of a test."""
     if outcome.end in ENDS_WITH_OUTPUT:
         yield f"expect {outcome.end} {words.word_of(outcome.output)}"
     else:

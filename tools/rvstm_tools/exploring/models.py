@@ -50,7 +50,6 @@ def mistakes_of(path: Path, what: str = "") -> Iterator[None]:
 
 
 def module_of(path: Path) -> ModuleType:
-    """The module of a file of Python."""
     path.read_bytes()  # so that a file that is missing is reported by its name
     spec = importlib.util.spec_from_file_location(MODULE, path)
     if spec is None or spec.loader is None:
@@ -67,8 +66,6 @@ def module_of(path: Path) -> ModuleType:
 
 
 class ModelClass:
-    """The class of a model."""
-
     def __init__(self, path: Path, name: str) -> None:
         self.path = path
         self.name = name

@@ -16,8 +16,6 @@ from rvstm_tools.texts.results import End, Receipt
 
 
 class OutputOf(NamedTuple):
-    """The output of a call, by its number."""
-
     call: int
 
 

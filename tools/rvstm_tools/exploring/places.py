@@ -33,8 +33,6 @@ Value = str | int | DrawnBytes
 
 
 class Span(NamedTuple):
-    """Numbers from the first to the last one."""
-
     first: int
     last: int
 
@@ -46,15 +44,12 @@ class Words:
     words: tuple[str, ...]
 
     def drawn(self, random: Random, _: Sequence[int]) -> Value:
-        """One of them."""
         return self.words[random.randrange(len(self.words))]
 
     def samples(self) -> list[Value]:
-        """All of them."""
         return list(self.words)
 
     def simpler(self, value: Value) -> list[Value]:
-        """Values that are simpler, the simplest first."""
         return [*self.words[: self.words.index(str(value))]]
 
 
@@ -65,7 +60,6 @@ class Numbers:
     spans: tuple[Span, ...]
 
     def has(self, number: int) -> bool:
-        """Whether a number is in one of the ranges."""
         return any(first <= number <= last for first, last in self.spans)
 
     def drawn(self, random: Random, seen: Sequence[int]) -> Value:
@@ -99,7 +93,6 @@ class AnyBytes:
     lengths: Span
 
     def drawn(self, random: Random, _: Sequence[int]) -> Value:
-        """Random bytes."""
         length = self.lengths.first + random.randrange(self.lengths.last - self.lengths.first + 1)
         return DrawnBytes(random.randrange(256) for _ in range(length))
 

@@ -27,7 +27,6 @@ class Progress:
         self.last = -EACH
 
     def of_search(self, search: Search, samples: list[Sample]) -> None:
-        """Says how far a search is."""
         if self.reached is None:
             self.reached = Reached(self.rvstm, self.description)
         self.reached.add(samples)
@@ -38,7 +37,6 @@ class Progress:
         self._say(f"{search.made():,} calls, {search.speed():,.0f} a second, {self.reached.said()}; {best}")
 
     def of_shorter(self, shorter: Shorter) -> None:
-        """Says how far a finding is shortened."""
         if not self._is_due():
             return
         count, rule = len(shorter.calls), shorter.finding.broken.rule
@@ -46,7 +44,6 @@ class Progress:
         self._say(f"{count} {verb} {rule}; {shorter.runs:,} runs in {shorter.spent():.0f} s")
 
     def end(self) -> None:
-        """Takes the line away."""
         if self.reached:
             self.reached.end()
         if self.is_shown:

@@ -62,7 +62,6 @@ class Sampler:
         return cls(None)
 
     def see(self, call: Call, outcome: Receipt) -> None:
-        """Sees a call that was made."""
         assert self.run
         way = Way(call.kind.line, outcome.end, outcome.pc, outcome.gas)
         if way in self.ways or len(self.ways) >= MOST_WAYS or len(self.run.storage.data) > MOST_KEYS:
@@ -109,7 +108,6 @@ class Reached:
         return f"{reached} of {whole} {'lines' if has_lines else 'instructions'} reached"
 
     def end(self) -> None:
-        """Replays no more."""
         self.is_ended = True
         self.samples.put(None)
 
@@ -142,15 +140,12 @@ class LinesOf:
         return {address: {line for line in lines if not line.path.startswith(sdk)} for address, lines in found.items()}
 
     def all_lines(self) -> set[SourceLine]:
-        """All of them."""
         return set[SourceLine]().union(*self.lines.values())
 
     def reached_lines(self) -> set[SourceLine]:
-        """Those that calls ran."""
         return set[SourceLine]().union(*(self.lines.get(address, set()) for address in list(self.steps.counts)))
 
     def replay(self, rvstm: Path, rules: Rules, sample: Sample) -> None:
-        """Adds what a call ran."""
         text = blocks.text([self.path], sample.storage, [CallLine(0, sample.gas, sample.data)], rules)
         with running.temporary_file(text, ".block") as made:
             self.steps.add(CallOf(rvstm, made, 0))

@@ -27,8 +27,6 @@ MOST_SEEN = 64  # numbers of the storage and of outputs that are kept to draw fr
 
 @dataclass
 class Call:
-    """A call that was drawn."""
-
     kind: Kind
     values: dict[str, Value]
 

@@ -19,7 +19,6 @@ class SavedCall:
 
 
 def saved(calls: Iterable[Call]) -> list[SavedCall]:
-    """Calls as they are kept."""
     return [SavedCall(call.kind.line, {name: f"{value}" for name, value in call.values.items()}) for call in calls]
 
 
@@ -36,7 +35,6 @@ def restored(description: Description, calls: Sequence[SavedCall]) -> list[Call]
 
 
 def value_of(place: Place, word: str) -> Value:
-    """The value of a place that a word says."""
     if isinstance(place, AnyBytes) and (not word or words.is_hex(word)):
         return DrawnBytes.fromhex(word)
     if isinstance(place, Numbers) and numbers.is_decimal(word) and place.has(int(word)):

@@ -33,8 +33,6 @@ FORK = multiprocessing.get_context("fork")
 
 @dataclass(frozen=True)
 class Limits:
-    """How long a search lasts at most, and what it draws."""
-
     calls: int
     length: int
     seconds: float | None
@@ -47,7 +45,6 @@ class Limits:
         return min(self.length, self.calls - (sequence - self.first) * self.length)
 
     def sequences(self) -> int:
-        """How many sequences there are at most."""
         return math.ceil(self.calls / self.length)
 
     def place_of(self, sequence: int, at: int) -> int:
@@ -79,8 +76,6 @@ class Made:
 
 @dataclass(frozen=True)
 class Refused:
-    """Why a worker could not go on."""
-
     text: str
 
 
@@ -106,7 +101,6 @@ class Sequence:
         return broken or self.run.end()
 
     def made(self, deadline: float, sampler: Sampler) -> Made:
-        """What came of it."""
         self.run.counts.clear()
         calls = self.run.calls
         broken = self.broken(deadline)
@@ -130,7 +124,6 @@ class Task:
     """Of the parent. A worker shuts them, so that it notices that the parent has gone."""
 
     def sequences(self) -> Iterator[int]:
-        """The numbers of its sequences."""
         return itertools.takewhile(lambda number: self.limits.length_of(number) > 0, itertools.count(self.first, self.step))
 
     def do(self, to: Connection) -> None:
@@ -157,8 +150,6 @@ class Task:
 
 
 class Worker:
-    """A process that makes sequences, and how far it is."""
-
     def __init__(self, task: Task) -> None:
         self.output, to = FORK.Pipe(duplex=False)
         self.next = task.first
@@ -185,7 +176,6 @@ class Worker:
         return made
 
     def kill(self) -> None:
-        """Ends it."""
         self.process.kill()
         self.process.join()
         self.output.close()
@@ -211,7 +201,6 @@ class Search:
         """Those above it."""
 
     def search(self, rvstm: Path, description: Description, jobs: int) -> None:
-        """Does it, by so many processes."""
         seconds = math.inf if self.limits.seconds is None else self.limits.seconds
         step = min(jobs, self.limits.sequences())
         workers: list[Worker] = []
@@ -264,9 +253,7 @@ class Search:
         self._merge(last + 1)
 
     def made(self) -> int:
-        """How many calls are made so far."""
         return self.calls + sum(made.calls for made in self._waiting.values())
 
     def speed(self) -> float:
-        """How many calls are made a second."""
         return self.made() / max(self.seconds or time.monotonic() - self.begun, LEAST_SECONDS)

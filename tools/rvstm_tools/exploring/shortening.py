@@ -36,11 +36,9 @@ class Shorter:
 
     @property
     def calls(self) -> Sequence[Call]:
-        """The calls of the best so far."""
         return self.finding.calls
 
     def spent(self) -> float:
-        """How many seconds it lasts so far."""
         return time.monotonic() - self.begun
 
     def shorten(self, random: Random) -> str:
@@ -92,7 +90,6 @@ class Shorter:
             pass
 
     def leave_out_two(self) -> bool:
-        """Whether two calls could be left out."""
         calls = self.calls
         pairs = [{one, other} for one in range(len(calls)) for other in range(one)]
         return any(self.takes([call for at, call in enumerate(calls) if at not in pair]) for pair in pairs)
@@ -192,7 +189,6 @@ class Shorter:
 
 
 def with_value(calls: Sequence[Call], at: int, name: str, value: Value) -> list[Call]:
-    """Calls, with another value in a place of one of them."""
     changed = Call(calls[at].kind, {**calls[at].values, name: value})
     return [*calls[:at], changed, *calls[at + 1 :]]
 

@@ -57,7 +57,6 @@ class StorageByReceipts:
     """The storage by the receipts, as it is and as it was before the last call."""
 
     def __init__(self, shapes: View) -> None:
-        """`shapes` has the shapes of values."""
         self.shapes = shapes
         self.data: Storage = {}
         self.changed: dict[Key, bytes | None] = {}
@@ -76,11 +75,9 @@ class StorageByReceipts:
         return key
 
     def begin(self, storage: Storage) -> None:
-        """Begins with a storage."""
         self.data, self.changed = dict(storage), {}
 
     def take(self, changes: Mapping[Key, Change]) -> None:
-        """Takes over what a call changed."""
         data, self.changed = self.data, {}
         for key, change in changes.items():
             old = self.changed[key] = data.get(key)
@@ -95,11 +92,9 @@ class StorageByReceipts:
         return sorted(self.data)
 
     def value(self, key: str | bytes) -> bytes | None:
-        """The value at a key."""
         return self.data.get(self.key_of(key))
 
     def value_before(self, key: str | bytes) -> bytes | None:
-        """The value at a key before the last call."""
         found = self.key_of(key)
         return self.changed[found] if found in self.changed else self.data.get(found)
 
@@ -161,5 +156,4 @@ def number_of(data: bytes) -> int:
 
 
 def digest_of(data: bytes) -> bytes:
-    """The SHA-256 of bytes."""
     return hashlib.sha256(data).digest()

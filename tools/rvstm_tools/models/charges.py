@@ -6,8 +6,6 @@ from rvstm_tools.texts.results import End
 
 
 class StorageCall(enum.IntEnum):
-    """The storage calls, by their numbers."""
-
     READ = 0
     WRITE = 1
     REMOVE = 2

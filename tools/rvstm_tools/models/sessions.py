@@ -143,7 +143,6 @@ class Model:
         return Ran(Done(receipts), Left(frames.rules_of(block), frames.stored_in(result)))
 
     def fault_of(self, block: bytes) -> Refusal | None:
-        """The first fault of a frame."""
         if self.height >= HIGHEST:
             return TOO_HIGH
         if len(block) > self.settings.frame_limit:
@@ -169,14 +168,12 @@ class Model:
         return answers.refused(refusal) if refusal.startswith(b"block ") else None
 
     def seq(self, block: bytes, folder: Path) -> Seq:
-        """What `seq` makes of a block file."""
         asked = Asked(block, folder == self.empty)
         if asked not in self.known:
             self.known[asked] = self.run_seq(block, folder)
         return self.known[asked]
 
     def run_seq(self, block: bytes, folder: Path) -> Seq:
-        """The same by a run."""
         path = Path(self.place.name) / "block"
         path.write_bytes(block)
         printed = self.runner.run(["seq", str(path)], folder)
@@ -187,7 +184,6 @@ class Model:
     # ---- programs
 
     def answer_program(self, file: bytes) -> Answer:
-        """The answer to a program that is handed in."""
         if len(file) > LONGEST_PROGRAM:
             return TOO_LONG_FILE
         name = frames.name_of(file)
@@ -202,7 +198,6 @@ class Model:
         return Done(f"{name}\n".encode())
 
     def answer_forget(self, name: str) -> Answer:
-        """The answer to the request that gives a program up."""
         if name not in self.programs:
             return NO_PROGRAM
         self.programs.remove(name)
@@ -212,12 +207,10 @@ class Model:
     # ---- the storage, and the state
 
     def answer_get(self, key: Key) -> Answer:
-        """The answer to the request for a value."""
         value = self.store.get(key)
         return Done(b"absent\n" if value is None else f"value {blocks.field_of(value)}\n".encode())
 
     def answer_list(self, first: Key, count: int) -> Answer:
-        """The answer to the request for some keys."""
         keys = [key for key in sorted(self.store) if key >= first][:count]
         return Done(frames.store_lines({key: self.store[key] for key in keys}))
 
@@ -237,7 +230,6 @@ class Model:
         return Done()
 
     def state(self) -> State:
-        """The state."""
         given = self.settings
         counts = len(self.store), len(self.programs)
         return State(self.rules, self.height, *counts, given.frame_limit, given.frame_gas, given.brief, self.digest)
@@ -245,7 +237,6 @@ class Model:
     # ---- a whole input
 
     def outcome(self, text: bytes) -> Outcome:
-        """What a session writes for an input."""
         asked = requests.requests_of(text)
         output = b"".join(self.answer(request).text() for request in asked.requests)
         if asked.fault is Fault.NONE:
@@ -254,5 +245,4 @@ class Model:
 
 
 def key_of(field: bytes) -> Key:
-    """The key of a request's field."""
     return Key(bytes.fromhex(field.decode()))

@@ -23,7 +23,6 @@ class Bar:
         self.total = 0
 
     def callee(self, name: str) -> "Bar":
-        """The bar of a function that this one calls."""
         if name not in self.callees:
             self.callees[name] = Bar(name)
         return self.callees[name]
@@ -56,8 +55,6 @@ class Sum(NamedTuple):
 
 
 class Drawn(NamedTuple):
-    """A bar that is drawn."""
-
     bar: Bar
     left: float
     width: float
@@ -96,7 +93,6 @@ def sums_of(root: Bar) -> list[Sum]:
 
 
 def drawn_of(root: Bar) -> Iterator[Drawn]:
-    """The bars that are drawn."""
     scale = (WIDTH - 2 * MARGIN) / max(root.total, 1)
     waiting = [Drawn(root, MARGIN, root.total * scale, 0)]
     while waiting:

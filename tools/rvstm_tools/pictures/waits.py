@@ -21,8 +21,6 @@ OTHER_LINES, BAR, BAR_EDGE, PATH, PATH_EDGE = "#9aa5b1", "#d5dee8", "#7f8c9b", "
 
 @dataclass(frozen=True)
 class Box:
-    """Where a call is drawn."""
-
     left: float
     right: float
     row: int
@@ -30,8 +28,6 @@ class Box:
 
 @dataclass(frozen=True)
 class LegendRow:
-    """A colour, and what it means."""
-
     colour: str
     text: str
 
@@ -52,7 +48,6 @@ def before(calls: Sequence[WaitingCall], call: WaitingCall) -> int | None:
 
 
 def longest_path(calls: Sequence[WaitingCall]) -> set[int]:
-    """The calls of the longest path."""
     chain = set[int]()
     if not calls:
         return chain
@@ -84,7 +79,6 @@ def boxes_of(calls: Sequence[WaitingCall], path: int) -> list[Box]:
 
 
 def counted(count: int, noun: str) -> str:
-    """A number of things."""
     return f"{count:,} {noun}" if count == 1 else f"{count:,} {noun}s"
 
 
@@ -95,8 +89,6 @@ def name_of(key: Key, view: View) -> str:
 
 
 class Picture:
-    """The picture of the conflicts of a block."""
-
     def __init__(self, title: str, conflicts: Conflicts, view: View) -> None:
         self.title = title
         self.conflicts = conflicts
@@ -109,7 +101,6 @@ class Picture:
         self.colours: Mapping[Key, str] = dict(zip((key.key for key in self.hottest), COLOURS))
 
     def middle(self, box: Box) -> float:
-        """The height at which a box is drawn."""
         return HEAD + (box.row + 0.5) * self.row
 
     def curve(self, start: Box, end: Box) -> str:
@@ -131,7 +122,6 @@ class Picture:
         return (plain + coloured + marked)[-MOST_LINES:]
 
     def line(self, place: int, wait: Wait, is_marked: bool) -> str:
-        """A wait of a call."""
         width, seen = (min(3, 1 + self.row / 8), 1.0) if is_marked else (min(1.2, 0.3 + self.row / 16), 0.6)
         title = f"call {place} waits for call {wait.writer} at {name_of(wait.key, self.view)}"
         return (
@@ -170,7 +160,6 @@ class Picture:
         ]
 
     def legend(self, drawn: int) -> list[LegendRow]:
-        """What the colours mean."""
         rows = [LegendRow(PATH, "the calls of the longest path: each waits for the one before it")]
         rows += [LegendRow(self.colours[key.key], self.of_key(key)) for key in self.hottest if key.key in self.colours]
         others, waits = len(self.hottest) - len(self.colours), self.conflicts.waits()
@@ -181,11 +170,9 @@ class Picture:
         return rows
 
     def of_key(self, key: WaitedKey) -> str:
-        """What the legend says of a key."""
         return f"{name_of(key.key, self.view)}: {counted(key.waits, 'wait')}, changed by {counted(key.writers, 'call')}"
 
     def svg(self) -> str:
-        """The picture."""
         lines, bars = self.lines(), map(self.bar, range(len(self.boxes)))
         top = HEAD + self.rows * self.row + 16
         legend = self.legend(len(lines))
@@ -206,7 +193,6 @@ class Picture:
 
 
 def legend_lines(rows: Iterable[LegendRow], top: float) -> Iterator[str]:
-    """The legend, from some height on."""
     for place, row in enumerate(rows):
         y = top + place * LEGEND_ROW
         yield (

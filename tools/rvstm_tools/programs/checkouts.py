@@ -13,13 +13,10 @@ PARTS = ("src", "specs", "proofs")
 
 
 class Checkout:
-    """The folder of a checkout."""
-
     def __init__(self, top: Path) -> None:
         self.top = top
 
     def crate(self, name: str) -> Path:
-        """The folder of a crate."""
         return self.top / "crates" / name
 
     @functools.cached_property
@@ -54,7 +51,6 @@ class Checkout:
         return total.hexdigest()
 
     def lines_of(self, crate: str) -> int:
-        """How many lines of code a crate has."""
         return sum(len(file.read_text().splitlines()) for file in (self.crate(crate) / "src").rglob("*.rt"))
 
 
@@ -75,7 +71,6 @@ def stamp_of(made: Path) -> Path:
 
 
 def stamp(made: Path, sources: str) -> str:
-    """The first line of a stamp."""
     return f"{sources} {hashlib.sha256(made.read_bytes()).hexdigest()}\n"
 
 

@@ -41,8 +41,6 @@ class Function(NamedTuple):
 
 
 class Section(NamedTuple):
-    """What is needed of a section."""
-
     kind: int
     flags: int
     offset: int
@@ -51,8 +49,6 @@ class Section(NamedTuple):
 
 
 class ElfFile:
-    """A program file."""
-
     def __init__(self, path: str) -> None:
         self.path = path
         self.data = Path(path).read_bytes()
@@ -97,7 +93,6 @@ class ElfFile:
         return self.data[place:end].decode(errors="backslashreplace")
 
     def is_code(self, address: int) -> bool:
-        """Whether an address is one of instructions."""
         return any(part.is_code and part.address <= address < part.address + part.in_memory for part in self.segments)
 
     def function_at(self, address: int) -> str:

@@ -28,8 +28,6 @@ PREFIXES = (Path(sys.prefix), Path("/usr/local"), Path("/usr"))
 
 @dataclass(frozen=True)
 class Home:
-    """Where these tools are."""
-
     top: Path
     """The folder that has the examples and the SDK: a checkout, or share/rvstm-sdk of a package or of an archive."""
     is_checkout: bool = True
@@ -51,7 +49,6 @@ def home_of(package: Path, prefixes: Sequence[Path] = PREFIXES) -> Home:
 
 
 def home() -> Home:
-    """Where the tools that run are."""
     return home_of(Path(__file__).resolve().parents[1])
 
 
@@ -69,7 +66,6 @@ def absolute(path: Path | str) -> Path:
 
 
 def is_program(path: Path) -> bool:
-    """Whether a file is there that may be run."""
     return path.is_file() and os.access(path, os.X_OK)
 
 

@@ -16,7 +16,6 @@ class Ended(NamedTuple):
     status: int
 
     def said(self) -> str:
-        """What is on standard error, as a text."""
         return self.errors.decode(errors="backslashreplace").strip()
 
 
@@ -41,12 +40,10 @@ class Pipes:
 
     @property
     def output(self) -> IO[bytes]:
-        """What the process writes."""
         assert self.process.stdout is not None
         return self.process.stdout
 
     def kill(self) -> None:
-        """Kills the process, and waits for its end."""
         self.process.kill()
         self.process.communicate()
 

@@ -29,13 +29,11 @@ def tell(text: str) -> None:
 
 
 def need_rt() -> None:
-    """Refuses to continue without rt."""
     if not shutil.which("rt"):
         raise UserError(NO_RT)
 
 
 def run_rt(words: Sequence[str], folder: Path, niceness: int = 0) -> None:
-    """Runs rt in the folder of a crate."""
     command = ["nice", "-n", str(niceness), "rt", *words]
     done = subprocess.run(command, cwd=folder, stdout=subprocess.PIPE, stderr=subprocess.STDOUT, text=True, check=False)
     if done.returncode != 0:

@@ -34,14 +34,11 @@ class Runner(Protocol):
 
 @dataclass(frozen=True)
 class Program:
-    """The program rvstm."""
-
     path: Path
     seconds: float | None = None
     """How long a run may last."""
 
     def run(self, words: Sequence[str], folder: Path) -> Printed:
-        """Runs the command of these words in a folder."""
         try:
             done = subprocess.run(
                 [self.path, *words], cwd=folder, stdin=subprocess.DEVNULL, capture_output=True, timeout=self.seconds,

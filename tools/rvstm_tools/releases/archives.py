@@ -30,8 +30,6 @@ class File:
 
 @dataclass(frozen=True)
 class Link:
-    """A link to another file."""
-
     target: str
 
 
@@ -40,8 +38,6 @@ Entries = dict[str, File | Link]
 
 
 class Member(NamedTuple):
-    """A member of an archive of ar."""
-
     name: str
     data: bytes
 
@@ -55,7 +51,6 @@ def gzip_of(data: bytes) -> bytes:
 
 
 def folders_of(paths: Iterable[str]) -> set[str]:
-    """All folders that some paths are in."""
     return {str(folder) for path in paths for folder in PurePosixPath(path).parents if str(folder) != "."}
 
 
@@ -78,7 +73,6 @@ def tar_of(entries: Mapping[str, File | Link], seconds: int) -> bytes:
 
 
 def ar_members(data: bytes) -> Iterator[Member]:
-    """The members of an archive of ar."""
     at = len(AR_HEAD)
     while at < len(data):
         head = data[at : at + AR_MEMBER_HEAD]

@@ -73,7 +73,6 @@ def help_of(text: str, name: str) -> Help:
 
 
 def said(program: Path, *words: str) -> str:
-    """What the program prints."""
     done = subprocess.run([program, *words], check=False, capture_output=True, text=True)
     if done.returncode:
         raise UserError(f"{program} {' '.join(words)} ended with status {done.returncode}")
@@ -81,7 +80,6 @@ def said(program: Path, *words: str) -> str:
 
 
 def item_lines(items: Iterable[Item]) -> Iterator[str]:
-    """The lines of some items."""
     for name, text in items:
         yield from (".TP", roman(name), escaped(text))
 
@@ -106,7 +104,6 @@ def page_lines(program: Path) -> Iterator[str]:
 
 
 def page_of(program: Path) -> str:
-    """The text of the page."""
     head = f'.\\" Made by {MAKER} of the help of rvstm: change that, and make the page again.\n'
     return head + "\n".join(page_lines(program)) + ENDING
 

@@ -22,22 +22,17 @@ STATUSES = {
 
 @dataclass(frozen=True)
 class Parsed:
-    """A command, and its parser."""
-
     command: Command
     parser: argparse.ArgumentParser
 
     def options(self) -> list[argparse.Action]:
-        """Its options."""
         return [action for action in self.parser._actions if action.option_strings]
 
     def arguments(self) -> list[argparse.Action]:
-        """Its arguments."""
         return [action for action in self.parser._actions if not action.option_strings]
 
 
 def all_parsed() -> list[Parsed]:
-    """All commands."""
     commands = [commandline.command_of(name) for name in commandline.NAMES]
     parsers = commandline.subparsers_of(commandline.parser_of(commands))
     return [Parsed(command, parsers[command.name]) for command in commands]
@@ -52,14 +47,12 @@ def shown(action: argparse.Action) -> str:
 
 
 def usage_of(parsed: Parsed) -> str:
-    """The usage of a command."""
     needed = [shown(action) for action in parsed.options() if action.required]
     words = ["rvstm-tools", parsed.command.name, "[OPTIONS]", *needed, *map(shown, parsed.arguments())]
     return " ".join(words)
 
 
 def page_lines(parsed: Sequence[Parsed], version: str) -> Iterator[str]:
-    """The lines of the man page."""
     yield f'.\\" Made by {MAKER} of the parsers of rvstm-tools: change these, and make the page again.'
     yield f'.TH RVSTM-TOOLS 1 "" "rvstm-tools {version}" "User Commands"'
     yield from (".SH NAME", rf"rvstm-tools \- {NAME}", ".SH SYNOPSIS")
@@ -80,17 +73,14 @@ def page_lines(parsed: Sequence[Parsed], version: str) -> Iterator[str]:
 
 
 def page_of(version: str) -> str:
-    """The man page."""
     return "".join(f"{line}\n" for line in page_lines(all_parsed(), version))
 
 
 def option_names(actions: Iterable[argparse.Action]) -> str:
-    """The long names of options."""
     return " ".join(name for action in actions for name in action.option_strings if name.startswith("--"))
 
 
 def completion() -> str:
-    """The completion for bash."""
     parsed = all_parsed()
     cases = "".join(f'    {one.command.name}) options="{option_names(one.options())}" ;;\n' for one in parsed)
     names = " ".join(one.command.name for one in parsed)

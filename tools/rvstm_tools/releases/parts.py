@@ -56,11 +56,9 @@ class Parts:
         return found
 
     def file(self, path: str) -> File:
-        """A file of the checkout."""
         return File((self.top / path).read_bytes())
 
     def packed(self, path: str) -> File:
-        """A file of the checkout, compressed."""
         return File(archives.gzip_of(self.file(path).data))
 
     def pages(self, package: str, *, is_packed: bool) -> Entries:
@@ -109,7 +107,6 @@ class Parts:
 
 
 def pkg_config(prefix: str, folder: str, version: str) -> str:
-    """The file for pkg-config."""
     return f"""prefix={prefix}
 libdir=${{prefix}}/{folder}
 includedir=${{prefix}}/include

@@ -27,7 +27,6 @@ class Product(enum.Enum):
 
     @property
     def crate(self) -> str:
-        """The crate that it is of."""
         return "rvstm" if self is Product.PROGRAM else "rvstm_c"
 
     @property
@@ -37,7 +36,6 @@ class Product(enum.Enum):
 
     @property
     def file(self) -> str:
-        """The name of the file."""
         return self.value.rpartition("/")[2]
 
 
@@ -50,8 +48,6 @@ def version_of(text: str) -> str:
 
 
 class Products:
-    """What a checkout builds."""
-
     def __init__(self, checkout: Checkout) -> None:
         self.checkout = checkout
 
@@ -69,7 +65,6 @@ class Products:
         return f"librvstm.so.{'.'.join(self.version().split('.')[:2])}"
 
     def git(self, *words: str) -> str:
-        """What git prints in the checkout."""
         command = ["git", "-C", str(self.checkout.top), *words]
         done = subprocess.run(command, check=False, capture_output=True, text=True)
         if done.returncode:
@@ -86,7 +81,6 @@ class Products:
         return commit
 
     def path(self, product: Product) -> Path:
-        """The path of a product."""
         return self.checkout.top / product.value
 
     def sources(self, product: Product) -> str:

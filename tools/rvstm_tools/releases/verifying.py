@@ -29,8 +29,6 @@ RVSTM = "rvstm"  # the name of the program in a list of checksums
 
 
 class Span(NamedTuple):
-    """Some bytes of a file."""
-
     start: int
     end: int
 
@@ -63,12 +61,10 @@ class Comparison:
 
 
 def digest(data: bytes) -> str:
-    """The SHA-256 of bytes."""
     return hashlib.sha256(data).hexdigest()
 
 
 def segments_of(data: bytes) -> Iterator[Loaded]:
-    """The segments of a program."""
     table, (size, count) = struct.unpack_from("<Q", data, 32)[0], struct.unpack_from("<HH", data, 54)
     for at in range(table, table + size * count, max(size, 1)):
         kind, _, start, _, _, length, _, _ = struct.unpack_from(PROGRAM_HEAD, data, at)
@@ -152,7 +148,6 @@ def by_building(path: str, data: bytes, built: Products, build: Callable[[Produc
 
 
 def sums_of(path: str) -> dict[str, str]:
-    """The checksums of a release, by the names of its files."""
     rows = [line.split() for line in Path(path).read_text(encoding="ascii", errors="replace").splitlines()]
     if not all(len(row) == 2 and CHECKSUM.fullmatch(row[0]) for row in rows):
         raise UserError(f"{path}: not a file of checksums and names")

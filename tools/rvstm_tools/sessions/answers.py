@@ -22,7 +22,6 @@ class Kind(Bytes):
 
 
 def said(line: bytes) -> str:
-    """A line as a text, without its LF."""
     return line.decode().strip()
 
 
@@ -44,11 +43,9 @@ class Done:
 
     @property
     def said(self) -> str:
-        """The line, as a text."""
         return said(self.line)
 
     def text(self) -> bytes:
-        """The whole answer."""
         return self.line + self.body
 
 
@@ -75,11 +72,9 @@ class Refusal:
 
     @property
     def said(self) -> str:
-        """The line, as a text."""
         return said(self.line)
 
     def text(self) -> bytes:
-        """The whole answer."""
         return self.line
 
 
@@ -111,7 +106,6 @@ def next_answer(lines: Lines) -> Answer | None:
 
 
 def refusal_by(form: re.Match[bytes]) -> Refusal:
-    """The refusal of a line."""
     _, _, kind, area, line, name, number = form.groups()
     return Refusal(Kind(kind), area.decode(), name.decode(), int(number), None if line is None else int(line))
 
@@ -145,7 +139,6 @@ STATE = re.compile(
 
 
 def state_of(body: bytes) -> State:
-    """The state that the bytes of an answer say."""
     form = STATE.fullmatch(body)
     if form is None:
         raise UserError(f"not the lines of a state: {body[:SHOWN_OF_WRONG_LINE]!r}")
@@ -157,7 +150,6 @@ def state_of(body: bytes) -> State:
 
 
 def state_text(state: State) -> bytes:
-    """The bytes that say a state."""
     gas = "none" if state.frame_gas is None else f"{state.frame_gas}"
     digest = "" if state.digest is None else f"digest {state.digest.hex()}\n"
     return (

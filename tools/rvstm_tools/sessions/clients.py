@@ -30,7 +30,6 @@ class FrameFile:
 
     @property
     def is_list(self) -> bool:
-        """Whether it is a list."""
         return self.path.suffix == LISTS
 
     def read(self) -> Named:
@@ -68,7 +67,6 @@ class Client:
         return answer.body
 
     def state(self) -> State:
-        """The state."""
         return answers.state_of(self.body(Request(Word.STATE)))
 
     # ---- requests, each with the lines of its answer
@@ -84,7 +82,6 @@ class Client:
         return self.receipts(self.body(Request(word, (), named.block)))
 
     def receipts(self, body: bytes) -> Iterator[str]:
-        """The table of an answer to a frame."""
         items = list(results.items_of(body.decode("ascii", "backslashreplace").splitlines(keepends=True)))
         for item in items:
             if isinstance(item, results.Receipt):
@@ -92,11 +89,9 @@ class Client:
         return tables.table_lines(items, self.view, has_registers=False)
 
     def last(self) -> Iterator[str]:
-        """What the last frame was answered."""
         return self.receipts(self.body(Request(Word.LAST)))
 
     def get(self, key: Key) -> Iterator[str]:
-        """The value at a key."""
         text = self.body(Request(Word.GET, (key.hex().encode(),))).decode()
         self.keys.add(key)
         if text == "absent\n":
@@ -130,11 +125,9 @@ class Client:
         return iter([f"      {line}" for line in self.body(Request(word)).decode().splitlines()] or [NONE])
 
     def program(self, path: Path) -> Iterator[str]:
-        """Hands in a program."""
         return iter([f"      {self.body(Request(Word.PROGRAM, (), path.read_bytes())).decode().strip()}"])
 
     def forget(self, name: str) -> Iterator[str]:
-        """Gives back a program by its name."""
         self.body(Request(Word.FORGET, (name.encode(),)))
         return iter([f"      {name}"])
 

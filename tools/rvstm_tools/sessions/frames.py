@@ -21,7 +21,6 @@ def lines_of(text: bytes) -> list[bytes]:
 
 
 def store_lines(storage: Storage) -> bytes:
-    """The `store` lines of a storage."""
     return "".join(blocks.store_lines(storage)).encode()
 
 
@@ -31,7 +30,6 @@ def stored_in(text: bytes) -> Storage:
 
 
 def stored_rows(text: bytes) -> Iterator[tuple[Key, bytes]]:
-    """The keys and the values of the `store` lines."""
     for line in lines_of(text):
         if line.startswith(b"store "):
             _, key, value = line.decode().split()
@@ -47,7 +45,6 @@ def put_over(block: bytes, storage: Storage) -> bytes:
 
 
 def rules_of(block: bytes) -> Rules:
-    """The rules that a sound block file names."""
     return Rules(int(lines_of(block)[1].split()[1])) if block.startswith(b"rvblock 2") else Rules.ONE
 
 
@@ -75,11 +72,9 @@ class Named:
     files: dict[str, bytes]
 
     def programs(self) -> list[Request]:
-        """The requests that hand in the programs."""
         return [Request(Word.PROGRAM, (), file) for file in self.files.values()]
 
     def frame(self) -> Request:
-        """The request that runs the block."""
         return Request(Word.FRAME, (), self.block)
 
 

@@ -12,8 +12,6 @@ LONGEST_FRAME = 1 << 26  # bytes, if no other limit is given
 
 
 class Settings(NamedTuple):
-    """The settings of a session."""
-
     frame_limit: int = LONGEST_FRAME
     frame_gas: int | None = None
     digest: bool = False
@@ -23,7 +21,6 @@ class Settings(NamedTuple):
     """The file that it is kept in."""
 
     def words(self) -> list[str]:
-        """The words of the command line."""
         words = ["chain"]
         if self.workers:
             words += ["--workers", str(self.workers)]
@@ -47,9 +44,7 @@ class Session(Pipes):
         return self.ask_bytes(request.text())
 
     def ask_bytes(self, text: bytes) -> Answer | None:
-        """The answer to the bytes of one request."""
         return answers.next_answer(self.output) if self.give(text) else None
 
     def end(self, data: bytes = b"q\n") -> Ended:
-        """Gives the last bytes of the input, and waits for the end."""
         return super().end(data)

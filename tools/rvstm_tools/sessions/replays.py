@@ -51,12 +51,10 @@ class Replay:
 
 
 def digest_file_of(path: Path) -> Path:
-    """The file of the digest after a frame."""
     return path.with_name(f"{path.name}{OF_DIGESTS}")
 
 
 def digest_in(path: Path) -> str:
-    """The digest that a file has, in hex."""
     try:
         text = path.read_text(encoding="ascii", errors="backslashreplace").strip()
     except FileNotFoundError:
@@ -67,6 +65,5 @@ def digest_in(path: Path) -> str:
 
 
 def digest_of(state: State) -> str:
-    """The digest of a session that keeps one, in hex."""
     assert state.digest is not None
     return state.digest.hex()

@@ -21,8 +21,6 @@ class Bytes(bytes, enum.Enum):
 
 
 class Word(Bytes):
-    """The first word of a request."""
-
     PROGRAM = b"program"
     FRAME = b"frame"
     TRY = b"try"
@@ -103,7 +101,6 @@ class Input:
 
 
 def requests_of(text: bytes) -> Input:
-    """What an input asks for."""
     requests: list[Request] = []
     found = next_request(text)
     while isinstance(found, Found):

@@ -98,14 +98,12 @@ BY_WORD = {form.word: form for form in FORMS}
 
 
 def help_lines() -> Iterator[str]:
-    """What `help` prints."""
     width = max(len(form.text) for form in FORMS)
     for text, help_ in (*((form.text, form.help) for form in FORMS), (HELP, "these lines"), (QUIT, "ends the session")):
         yield f"{text:<{width}}  {help_}"
 
 
 def answer_lines(client: Client, line: str) -> Iterator[str]:
-    """The lines that answer what was typed."""
     word, *given = words.words_of(line) or ["#"]
     if word == "#":
         return iter(())

@@ -15,8 +15,6 @@ PLACE = re.compile("@(name|sdk|tools)@")
 
 
 class Language(enum.Enum):
-    """What the contract is written in."""
-
     C = "c"
     RUST = "rust"
 
@@ -53,7 +51,6 @@ def check_name(name: str, language: Language) -> None:
 
 
 def files_of(language: Language, places: Places) -> dict[str, str]:
-    """The files of a folder by their paths in it."""
     if NOT_IN_A_MAKEFILE.search(places.sdk + places.tools):
         raise UserError(f"{places.sdk}: a path with one of \" $ # \\ cannot be in a Makefile; move the SDK")
     texts = {FOLDER / name: path for name, path in OF_ALL.items()}

@@ -33,7 +33,6 @@ class GasDifference:
     gas: int | None
 
     def said(self) -> str:
-        """The difference, for people."""
         name = f"{self.of.list}, call {self.of.call}"
         if self.was is None:
             return f"{name}: {self.gas}, and not in the table"
@@ -63,13 +62,11 @@ class GasTable:
         return gas
 
     def write(self, tried: Sequence[Tried]) -> None:
-        """Makes the file of what came."""
         rows = [f"{gas:>8} {of.call:>5}  {of.list}" for of, gas in self.gas_of(tried).items()]
         lines = [HEAD.format(name=self.path.name), *rows]
         self.path.write_text("".join(f"{line}\n" for line in lines), encoding="utf-8", errors="surrogateescape")
 
     def gas_of(self, tried: Sequence[Tried]) -> Gas:
-        """What each call cost."""
         return {OfCall(self.name_of(run), call): gas for run in tried for call, gas in enumerate(run.gas)}
 
     def differences(self, table: Gas, tried: Sequence[Tried], within: float) -> Iterator[GasDifference]:

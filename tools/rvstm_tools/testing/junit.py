@@ -41,7 +41,6 @@ def write(path: Path, tried: Sequence[Tried], differences: Sequence[GasDifferenc
 
 
 def add_case(suite: Element, run: Tried) -> None:
-    """Adds a run."""
     names = {"classname": plain(f"{run.test.path.parent}"), "name": plain(run.planned.name()), "time": f"{run.seconds:.3f}"}
     case = SubElement(suite, "testcase", names)
     if run.missed:

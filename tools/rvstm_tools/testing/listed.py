@@ -21,7 +21,6 @@ class CallPart:
     expectations: dict[int, CallExpectation] = field(default_factory=dict)
 
     def keys(self) -> frozenset[Key]:
-        """The keys that the lines name."""
         return frozenset(line.key for line in self.expectations.values() if isinstance(line, Changes))
 
     def gas_lines(self) -> list[int]:
@@ -36,7 +35,6 @@ class StoragePart:
     expectations: dict[int, StorageExpectation] = field(default_factory=dict)
 
     def keys(self) -> frozenset[Key]:
-        """The keys that the lines name."""
         return frozenset(line.key for line in self.expectations.values() if isinstance(line, Holds))
 
 
@@ -59,7 +57,6 @@ class ListedTest:
         return after_calls + (len(self.storage.expectations) if self.storage else 0)
 
     def shown_line(self, number: int) -> str:
-        """A line for people."""
         return differences.cut(self.lines[number - 1].strip())
 
     def programs_by(self, variant: str) -> list[ProgramFile]:
@@ -81,7 +78,6 @@ class ListedTestReader:
         self.storage: StoragePart | None = None
 
     def take(self, line: Line) -> None:
-        """Takes the next line."""
         if line.kind == "storage" and not lists.is_dump(line):
             self._take_storage()
         elif line.kind == "expect":
@@ -111,7 +107,6 @@ class ListedTestReader:
 
 
 def read_test(path: Path) -> ListedTest:
-    """The test of a list."""
     reader = ListedTestReader()
     for line in lists.lines_of(str(path)):
         with lists.placed(str(path), line.number):

@@ -23,7 +23,6 @@ class Sums:
     not_met: int = 0
 
     def add(self, run: Tried) -> None:
-        """Counts a run."""
         self.tests += 1
         self.failed += run.missed > 0
         self.calls += len(run.test.block.calls)
@@ -38,7 +37,6 @@ class Sums:
 
 
 def sums_of(tried: Iterable[Tried]) -> Sums:
-    """The sums of some runs."""
     sums = Sums()
     for run in tried:
         sums.add(run)
@@ -60,7 +58,6 @@ def lines_of_run(run: Tried) -> Iterator[str]:
 
 
 def lines_of_failure(run: Tried) -> Iterator[str]:
-    """Why a run failed."""
     if run.refusal:
         yield f"        {run.refusal}"
     yield from lines_of_misses(run.test, run.misses)
@@ -90,7 +87,6 @@ def lines_of_miss(test: ListedTest, miss: Miss) -> Iterator[str]:
 
 
 def lines_of_gas(differences: Sequence[GasDifference], table: str, within: float) -> Iterator[str]:
-    """The lines of differences of gas."""
     if differences:
         verb = "differs" if len(differences) == 1 else "differ"
         yield f"{counted(len(differences), 'call')} of {table} {verb} by more than {within:g} percent"
@@ -101,7 +97,6 @@ def lines_of_gas(differences: Sequence[GasDifference], table: str, within: float
 
 
 def json_of_run(run: Tried) -> str:
-    """A run as an object of JSON."""
     row: Object = {"kind": "test", "list": f"{run.test.path}", "variant": run.planned.variant, "passed": not run.missed}
     row |= {"calls": len(run.test.block.calls), "expectations": run.test.count(), "seconds": round(run.seconds, 3)}
     row |= {"refusal": run.refusal, "gas": list(run.gas), "misses": [object_of_miss(run.test, miss) for miss in run.misses]}
@@ -125,6 +120,5 @@ def json_of_gas(difference: GasDifference) -> str:
 
 
 def json_of_sums(sums: Sums) -> str:
-    """The sums as an object of JSON."""
     row: Object = {"kind": "sums", **asdict(sums)}
     return json.dumps(row)

@@ -21,14 +21,11 @@ class Planned:
     variant: str = ""
 
     def name(self) -> str:
-        """What it is called in reports."""
         return f"{self.test.path}, {self.variant}" if self.variant else f"{self.test.path}"
 
 
 @dataclass(frozen=True)
 class Tried:
-    """A run of a test, and what came of it."""
-
     planned: Planned
     refusal: str
     """Why the block did not run; empty if it ran."""
@@ -42,7 +39,6 @@ class Tried:
 
     @property
     def test(self) -> ListedTest:
-        """The test."""
         return self.planned.test
 
     @property
@@ -52,8 +48,6 @@ class Tried:
 
 
 class Tester:
-    """Runs tests."""
-
     def __init__(self, runner: Runner, *, is_update: bool = False, jobs: int = 1) -> None:
         self.runner = runner
         self.is_update = is_update
@@ -71,7 +65,6 @@ class Tester:
                 pool.shutdown(cancel_futures=True)
 
     def try_one(self, plan: Planned) -> Tried:
-        """Runs a test once."""
         begun = time.monotonic()
         run = Run(self.runner, plan.test, plan.test.programs_by(plan.variant))
         if run.refusal:
@@ -83,7 +76,6 @@ class Tester:
 
 
 def plans_of(test: ListedTest, variants: Sequence[str]) -> list[Planned]:
-    """The runs of a test."""
     with_others = [variant for variant in variants if test.programs_by(variant) != test.programs_by("")]
     return [Planned(test, variant) for variant in ["", *with_others]]
 

@@ -14,15 +14,12 @@ MOST_CALLS = 1024
 
 
 class Rules(enum.IntEnum):
-    """The rules that all calls of a block are under."""
-
     ONE = 1
     TWO = 2
     THREE = 3
 
     @property
     def longest_value(self) -> int:
-        """How many bytes a value of the storage may have."""
         return 64 if self is Rules.ONE else 256
 
     @property
@@ -95,7 +92,6 @@ def store_lines(storage: Storage) -> list[str]:
 def text(
     paths: Iterable[str], storage: Storage | None = None, calls: Iterable[CallLine] = (), rules: Rules = Rules.ONE
 ) -> str:
-    """The text of a block file."""
     lines = [f"program {number} {path}\n" for number, path in enumerate(paths)]
     lines += store_lines(storage or {})
     lines += [f"call {call.program} {call.gas} {field_of(call.data)}\n" for call in calls]

@@ -56,12 +56,10 @@ class Conflicts:
     path: int = 0
 
     def waits(self) -> int:
-        """How many waits there are."""
         return sum(len(call.waits) for call in self.calls)
 
 
 def conflicts_of(text: str) -> Conflicts:
-    """The conflicts that a whole text has."""
     found, waits, writers = Conflicts(), list[Wait](), dict[str, list[int]]()
     for number, line in enumerate(text.splitlines(), 1):
         fields = next((match for form in FORMS if (match := form.fullmatch(line))), None)

@@ -65,7 +65,6 @@ def short_bytes(data: bytes) -> str:
 
 
 def of_bytes(wanted: bytes, came: bytes) -> Difference:
-    """The difference of two rows of bytes that differ."""
     if max(len(wanted), len(came)) <= LONGEST_BYTES:
         return Difference(shown.shown_bytes(wanted), shown.shown_bytes(came))
     place = place_of(wanted, came)
@@ -73,7 +72,6 @@ def of_bytes(wanted: bytes, came: bytes) -> Difference:
 
 
 def of_lines(wanted: str, came: str) -> Difference:
-    """The difference of two lines that differ."""
     if max(len(wanted), len(came)) <= LONGEST_TEXT:
         return Difference(wanted, came)
     place = place_of(wanted, came)

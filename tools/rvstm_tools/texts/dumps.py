@@ -49,5 +49,4 @@ def rules_of(path: str, head: str, number: int, text: str) -> Rules:
 
 
 def wrong(path: str, number: int, text: str) -> UserError:
-    """What is reported of a line that no dump has."""
     return UserError(f"{path}: line {number} is not one of a dump: {text.strip()[:SHOWN_OF_WRONG_LINE]}")

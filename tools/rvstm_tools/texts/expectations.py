@@ -225,7 +225,6 @@ def check_forms(given: list[str]) -> None:
 
 
 def end_of(given: list[str]) -> EndsBy:
-    """The end that is wanted of a call."""
     kind, *rest = given
     if kind in ENDS_WITH_OUTPUT:
         return EndsBy(End(kind), words.joined(rest, LONGEST_OUTPUT, "an output") if rest else None)

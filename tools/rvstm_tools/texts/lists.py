@@ -87,7 +87,6 @@ class BlockReader:
         }
 
     def take(self, line: Line) -> None:
-        """Takes the next line."""
         if is_dump(line):
             self._take_dump(line)
         elif line.kind == "storage":
@@ -174,7 +173,6 @@ def gas_of(word: str) -> int:
 
 
 def read_block(path: str, storage: Storage) -> Block:
-    """The block of a list, over a storage."""
     reader = BlockReader(storage)
     for line in lines_of(path):
         with placed(path, line.number):

@@ -24,7 +24,6 @@ def json_lines(items: Iterable[Receipt | Stored], *, has_registers: bool) -> Ite
 
 
 def object_of_call(receipt: Receipt, *, has_registers: bool) -> Object:
-    """The object of a call."""
     call: Object = {"kind": "call", "call": receipt.number, "end": receipt.end.value, "gas": receipt.gas}
     call |= {"pc": f"{receipt.pc:08x}", "output": receipt.output.hex()}
     if has_registers:
@@ -33,7 +32,6 @@ def object_of_call(receipt: Receipt, *, has_registers: bool) -> Object:
 
 
 def object_of_write(key: Key, change: Change) -> Object:
-    """The object of what a call did to a key."""
     if isinstance(change, Removed):
         return {"key": key.hex(), "gone": True}
     if isinstance(change, Added):

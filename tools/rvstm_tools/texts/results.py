@@ -23,8 +23,6 @@ SHOWN_OF_WRONG_LINE = 60  # letters
 
 
 class End(enum.StrEnum):
-    """How a call ends."""
-
     RETURNED = "returned"
     REVERTED = "reverted"
     OUT_OF_GAS = "out-of-gas"
@@ -66,8 +64,6 @@ Change = Written | Removed | Added
 
 @dataclass
 class Receipt:
-    """How a call ended, and what it changed."""
-
     number: int
     end: End
     gas: int
@@ -86,8 +82,6 @@ class Stored(NamedTuple):
 
 @dataclass
 class Result:
-    """A whole result."""
-
     receipts: list[Receipt] = field(default_factory=list)
     storage: Storage = field(default_factory=dict)
 
@@ -101,12 +95,10 @@ class ResultLine(NamedTuple):
 
 
 def bytes_of(text: str) -> bytes:
-    """The bytes of a field."""
     return b"" if text == "-" else bytes.fromhex(text)
 
 
 def key_of(text: str) -> Key:
-    """The key of a field."""
     return Key(bytes.fromhex(text))
 
 
@@ -116,7 +108,6 @@ def wrong(number: int, text: str) -> UserError:
 
 
 def line_of(number: int, text: str) -> ResultLine:
-    """A line of a result by its text."""
     kind = text.split(None, 1)[0] if text.strip() else ""
     fields = LINES[kind].fullmatch(text) if kind in LINES else None
     if fields is None:
@@ -138,7 +129,6 @@ def lines_of(texts: Iterable[str]) -> Iterator[ResultLine]:
 
 
 def receipt_of(line: ResultLine) -> Receipt:
-    """The receipt that a line `call` begins."""
     number, end, gas, pc, output = line.fields.groups()
     try:
         return Receipt(int(number), End(end), int(gas), int(pc, 16), bytes_of(output))
@@ -147,7 +137,6 @@ def receipt_of(line: ResultLine) -> Receipt:
 
 
 def change_of(line: ResultLine) -> Change:
-    """What a line `write` says of its key."""
     _, _, gone, amount, value = line.fields.groups()
     if gone:
         return Removed()
@@ -181,7 +170,6 @@ def take_more(receipt: Receipt, line: ResultLine) -> None:
 
 
 def result_of(text: str) -> Result:
-    """The result of a text."""
     result = Result()
     for item in items_of(text.splitlines(keepends=True)):
         if isinstance(item, Receipt):

@@ -32,7 +32,6 @@ class Row:
 
     @property
     def key(self) -> Key:
-        """Its key."""
         end = b"" if self.is_long else bytes(LONGEST_SHORT_ROW - len(self.data)) + bytes([len(self.data)])
         return Key(self.table.encode().ljust(NAME_LENGTH, b"\0") + self.data + end)
 

@@ -39,7 +39,6 @@ def seed_of(word: str) -> int:
 
 
 def text_of(lines: Iterable[int]) -> str:
-    """The text of a schedule."""
     return "".join(f"{line}\n" for line in lines)
 
 

@@ -77,12 +77,10 @@ class Shape:
 
     @property
     def least(self) -> int:
-        """How many bytes there are at least."""
         return length_of(self.fields)
 
     @property
     def is_open(self) -> bool:
-        """Whether there may be more bytes."""
         return bool(self.repeated) or any(field.length is None for field in self.fields)
 
     def parts(self, data: bytes) -> list[Part] | Misfit:
@@ -161,7 +159,6 @@ def field_of(word: str) -> Field:
 
 
 def typed_field(name: str, found: re.Match[str], word: str) -> Field:
-    """The field of a type."""
     sign, bits, of_key, of_bytes, digits = found.groups()
     if sign:
         return Field(name, Kind.UNSIGNED if sign == "u" else Kind.SIGNED, int(bits) // 8, word)

@@ -33,7 +33,6 @@ def table_lines(items: Iterable[Receipt | Stored], view: View, *, has_registers:
 
 
 def receipt_lines(receipt: Receipt, view: View, *, has_registers: bool) -> Iterator[str]:
-    """The lines of a call."""
     output = shown.shown_bytes(receipt.output)
     yield f"{receipt.number:>4}  {receipt.end:<15}  {receipt.gas:>8}  {receipt.pc:08x}  {output}"
     if has_registers:

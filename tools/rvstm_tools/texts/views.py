@@ -108,7 +108,6 @@ class View:
         return self.names.get(key) or self._row_word(key) or shown.shown_key(key)
 
     def word_of_key(self, key: Key) -> str:
-        """A word that says a key."""
         return self.names.get(key) or self._row_word(key) or key.hex()
 
     def _row_word(self, key: Key) -> str:
@@ -216,7 +215,6 @@ class View:
         return ", ".join(texts) or "-"
 
     def field(self, part: Part) -> str:
-        """The bytes of a field for people."""
         data = part.data
         match part.field.kind:
             case Kind.UNSIGNED | Kind.SIGNED:
@@ -279,7 +277,6 @@ def with_reason(text: str, misfit: Misfit) -> str:
 
 
 def number_of(part: Part) -> int:
-    """The number of a field."""
     return int.from_bytes(part.data, "little", signed=part.field.kind is Kind.SIGNED)
 
 

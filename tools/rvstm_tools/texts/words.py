@@ -40,12 +40,10 @@ def is_text(word: str) -> bool:
 
 
 def is_hex(word: str) -> bool:
-    """Whether a word is bytes in hex."""
     return HEX.fullmatch(word) is not None
 
 
 def bytes_of(word: str) -> bytes:
-    """The bytes that a word says."""
     if is_text(word):
         return word[1:-1].encode()
     if number := NUMBER.fullmatch(word):
