@@ -30,7 +30,7 @@ class Enumeration:
     name: str
     file: str
     before: str
-    """The area, with `N` if a line's number follows; where the source has the area beside each name, the word before it."""
+    """The area, with `N` if a line's number follows. If the source has the area beside each name, the word before it."""
 
 
 @dataclass(frozen=True)

@@ -1,5 +1,5 @@
-"""A book for auditors: the definitions that clauses rest on, whole, in reading order, with the types of the code and what the kit
-gives them. docs/auditing.md says how to read it."""
+"""A book for auditors: the definitions that clauses rest on, whole, in reading order, with the types of the code and the names of
+the kit. docs/auditing.md says how to read it."""
 
 import textwrap
 from collections.abc import Iterator, Sequence
@@ -38,7 +38,7 @@ class Names:
 
 @dataclass(frozen=True)
 class Book:
-    """What is to be read to believe some clauses."""
+    """What a reader of some clauses must read."""
 
     reading: Reading
 
@@ -56,7 +56,7 @@ class Book:
 
     @property
     def kit(self) -> list[Names]:
-        """What is named of the kit."""
+        """The names of the kit that the book has."""
         found = dict[Module, set[str]]()
         for cited in self.reading.cited:
             if cited.kind is Place.KIT:

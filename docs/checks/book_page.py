@@ -1,4 +1,4 @@
-"""A book for auditors as one HTML page: each name in a definition is a link to what it stands for."""
+"""A book for auditors as one HTML page: each name in a definition is a link to what it refers to."""
 
 import re
 from collections import defaultdict
@@ -75,7 +75,7 @@ class Page:
     # ---- links
 
     def link(self, cited: Cited, text: str) -> str:
-        """A text that is a link, if the book has what it stands for."""
+        """A text, as a link if the book has what it refers to."""
         if cited not in self.held.reading.cited:
             return escape(text)
         kind = {Place.KIT: "kit", Place.TYPE: "type", Place.DEFINITION: "definition"}[cited.kind]
@@ -223,7 +223,7 @@ class Page:
 
 
 def by_word(names: Mapping[str, Iterable[Cited]]) -> dict[str, Cited]:
-    """What the words of a text stand for. A name with arguments in its middle, such as `◌∷◌`, is the words between them."""
+    """What the words of a text refer to. A name with arguments in its middle, such as `◌∷◌`, is the words between them."""
     found = dict[str, Cited]()
     for name, entries in names.items():
         for cited in entries:

@@ -33,7 +33,7 @@ class Place(enum.Enum):
 
 @dataclass(frozen=True)
 class Cited:
-    """What a name stands for: a definition of a file below crates/, a type of a crate's code, or a name of a module of the kit."""
+    """What a name refers to: a definition of a file below crates/, a type of a crate's code, or a name of a module of the kit."""
 
     kind: Place
     place: str
@@ -46,11 +46,11 @@ class Cited:
 
 
 Names = Mapping[str, frozenset[Cited]]
-"""By each word of a text that is a name, what it stands for."""
+"""What each name in a text refers to."""
 
 
 def target(taken: sources.Taken) -> Cited | None:
-    """What a name of a module stands for; None for what the prover makes and nobody reads."""
+    """What a name of a module refers to; None for what the prover makes and nobody reads."""
     parts = taken.module.split(".")
     if parts[0] != "Rattle" or not sources.is_crate(parts[1]):
         return None if "proofs" in parts else Cited(Place.KIT, taken.module, taken.name)
@@ -82,7 +82,7 @@ def is_in(name: str, words: set[str]) -> bool:
 
 
 def names_in(path: Path, text: str) -> dict[str, set[Cited]]:
-    """What the names of a text stand for, by the `use` lines of its file."""
+    """What the names in a text refer to, by the `use` lines of its file."""
     imports, words = sources.imports(path), words_of(text)
     found = dict[str, set[Cited]]()
     for local, entries in imports.names.items():
@@ -135,7 +135,7 @@ def citations(cited: Cited) -> frozenset[Cited]:
 
 
 def closure(begin: Iterable[Cited]) -> set[Cited]:
-    """What some citations lead to, with themselves."""
+    """Some citations, and all that they cite in turn."""
     found = set(begin)
     left = list(found)
     while left:

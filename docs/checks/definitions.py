@@ -33,7 +33,7 @@ class Definition:
 class Definitions:
     by_name: dict[str, Definition]
     owner: dict[str, str]
-    """By each name that a definition gives, such as a constructor of its data, the name of that definition."""
+    """The definition of each name that a definition gives, such as a constructor of its data."""
 
 
 class Kind(enum.Enum):
@@ -65,7 +65,7 @@ class Type:
 
     @functools.cached_property
     def model(self) -> dict[str, str]:
-        """What is declared of a type whose fields are private: `Value` is what a clause sees of it, `view` how the fields make this
+        """What is declared of a type whose fields are private: `Value` is what a clause sees of it, `view` how the fields make that
         up, and `invariant` what its values keep. Empty if clauses see the fields."""
         block = re.search(rf"^impl(?:<[^{{]*?>)? Model for {self.name}\b.*?^\}}", sources.text_of(self.path), re.M | re.S)
         found = dict(GHOST.findall(block[0])) if block else {}

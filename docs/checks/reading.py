@@ -41,7 +41,7 @@ class Row:
 
     file: str
     read: int
-    """How many of its lines are to be read: those of definitions that are not cited are left out."""
+    """How many of its lines to read: those of definitions that are not cited are left out."""
     lines: int
     """How many lines it has."""
     cited: tuple[str, ...]
@@ -85,7 +85,7 @@ def cited_by(asked: Iterable[Asked]) -> set[Cited]:
 
 @dataclass(frozen=True)
 class Reading:
-    """What is to be read to believe some clauses."""
+    """What a reader of some clauses must read."""
 
     asked: list[Asked]
     cited: set[Cited]
@@ -112,7 +112,7 @@ class Reading:
 
     @property
     def lines(self) -> int:
-        """How many lines of definitions are to be read."""
+        """How many lines of definitions to read."""
         return sum(row.read for row in self.rows)
 
 

@@ -77,7 +77,7 @@ def counted(number: int, name: str) -> str:
 
 @dataclass(frozen=True)
 class Taken:
-    """A name as a `use` line takes it, with the module that it is from."""
+    """A name as a `use` line imports it, with its module."""
 
     module: str
     name: str
@@ -85,8 +85,7 @@ class Taken:
 
 @dataclass
 class Imports:
-    """What the `use` lines of a file take: by each name in the file what it may stand for, and by each `as` of a whole module that
-    module."""
+    """What the `use` lines of a file import: what each name in the file may refer to, and the module of each `as`."""
 
     names: dict[str, list[Taken]] = field(default_factory=dict)
     modules: dict[str, list[str]] = field(default_factory=dict)
@@ -94,7 +93,7 @@ class Imports:
 
 @dataclass(frozen=True)
 class Entry:
-    """A name of a `use` line: the one that it has in the file, and the one that it has where it is from."""
+    """A name of a `use` line: its name in the file, and its name in its own module."""
 
     local: str
     name: str
@@ -122,7 +121,7 @@ def imports(path: Path) -> Imports:
 
 @functools.cache
 def code_imports(path: Path) -> dict[str, str]:
-    """By each name that the code of a file imports, the crate that it is from."""
+    """The crate of each name that the code of a file imports."""
     found, own = dict[str, str](), crate_of(path)
     for module, braces, name in RUST_USE.findall(text_of(path)):
         first = module.split("::")[0]

@@ -1,4 +1,4 @@
-"""That the library, its header, the man pages, the tools and the newest entry of CHANGELOG.md have the version of the program."""
+"""Whether the library, its header, the man pages, the tools and the newest entry of CHANGELOG.md have the version of the program."""
 
 import re
 from collections.abc import Iterator
@@ -41,5 +41,5 @@ def wrong() -> Iterator[str]:
 
 
 def line_of_sources() -> str:
-    """The line that says of which sources the program is."""
+    """The line with the checksum of the sources of the program."""
     return f"sources of rvstm {PRODUCTS.version()}: SHA-256 {PRODUCTS.sources(Product.PROGRAM)}"

@@ -84,7 +84,7 @@ class Session:
             raise Differs(f"{shown(request)}: came {shown(came)}; wanted {shown(answer)}")
 
     def end(self, data: bytes = b"q\n") -> tuple[bytes, str, int]:
-        """Gives the last bytes of the input. Returns what is written after them, what stands on standard error, and the status."""
+        """Gives the last bytes of the input. Returns what is written after them, what is on standard error, and the status."""
         out, errors = self.process.communicate(data)
         return out, errors.decode(errors="backslashreplace"), self.process.returncode
 

@@ -1,5 +1,5 @@
-"""Each command of the program and each tool, once by its documented form. What is printed stands in the pages, or follows from
-the block by hand."""
+"""Each command of the program and each tool, once by its documented form. The expected text is in the pages, or was worked
+out from the block by hand."""
 
 import json
 import re
@@ -125,7 +125,7 @@ def migrate(run: Run) -> None:
 
 def chain(run: Run) -> None:
     """A session without a frame."""
-    asks = f"state\nget {KEY}\nlast\nq\nwhat stands behind q is not read"
+    asks = f"state\nget {KEY}\nlast\nq\nwhat comes after q is not read"
     wanted = f"ok {len(NEW_STATE)}\n{NEW_STATE}ok 7\nabsent\nrefused frame NoFrame 7\n"
     same(rvstm(run, "chain", data=asks).done(), wanted)
 

@@ -62,7 +62,7 @@ def make_preview() -> None:
         raise SystemExit(f"tests/run: {' '.join(words)} ended with status {status}")
 
 
-def told(outcome: Outcome, with_times: bool) -> list[str]:
+def lines_of(outcome: Outcome, with_times: bool) -> list[str]:
     """The lines that a run prints of a case."""
     lines = [f"{outcome.case.name}: {note}" for note in outcome.notes]
     if outcome.why:
@@ -95,7 +95,7 @@ def main(words: Sequence[str] | None = None) -> int:
         slowness = SLOWNESS if setting.is_preview else 1
         for outcome in scheduling.outcomes(cases, setting, processors, lambda case: case.seconds * slowness):
             outcomes.append(outcome)
-            for line in told(outcome, given.times):
+            for line in lines_of(outcome, given.times):
                 print(line, flush=True)
         more_failed += not cases
     except KeyboardInterrupt:

@@ -1,8 +1,8 @@
 """The blocks of the pages that have a command and its output: each is run, and what it prints is compared.
 
-In a block the lines that begin with `$ ` are commands, and those after a command are what it prints. `..` stands for what is cut:
-some text of a line, or, if it is the whole line, any number of lines. A block that begins with `cd` begins in the folder that has
-the examples; any other one goes on where the block before it ended. A comment before a block, `<!-- not run: WHY -->`, excepts it.
+In a block the lines that begin with `$ ` are commands, and those after a command are what it prints. `..` matches what is cut: some
+text of a line, or, if it is the whole line, any number of lines. A block that begins with `cd` begins in the folder that has the
+examples; any other one continues in the folder of the block before it. A block after a comment `<!-- not run: WHY -->` is not run.
 """
 
 import dataclasses
@@ -25,7 +25,7 @@ MOST_MARKED = 5
 """One block of so many may be marked."""
 SECONDS_A_BLOCK = 20
 COPIED = ("examples",)
-"""What commands of pages write into; all else is the checkout's."""
+"""What commands of pages write into; the rest is the checkout's."""
 CUT = ".."
 
 
@@ -85,7 +85,7 @@ def code_blocks(lines: Sequence[str]) -> Iterator[tuple[int, list[str]]]:
 
 
 def steps_of(lines: Sequence[str]) -> tuple[Step, ...]:
-    """The commands of a block with what they print. A line that ends with `\\`, or a text after `<<'END'`, goes on with its command."""
+    """The commands of a block with what they print. A line that ends with `\\`, or a text after `<<'END'`, belongs to its command."""
     steps: list[tuple[list[str], list[str]]] = []
     ending, goes_on = "", False
     for line in lines:
@@ -112,7 +112,7 @@ def marker_before(lines: Sequence[str], number: int) -> tuple[str, str]:
 
 
 def blocks_of(page: str, text: str) -> list[Block]:
-    """The blocks of a page that have a command and its output, and those with a command alone that such blocks go on from."""
+    """The blocks of a page that have a command and its output, and those with a command alone that such blocks continue."""
     lines, found = text.splitlines(), []
     for number, block in code_blocks(lines):
         if any(line.startswith(PROMPT) for line in block):
@@ -134,7 +134,7 @@ def line_pattern(line: str) -> str:
 def first_difference(wanted: Sequence[str], came: Sequence[str]) -> str:
     """How lines that came differ from those of a page; empty if they do not."""
     wanted, came = trimmed(wanted), trimmed(came)
-    reached = {0}  # how many lines of `came` the lines of the page so far can stand for
+    reached = {0}  # how many lines of `came` the lines of the page so far can match
     for number, line in enumerate(wanted):
         if line.strip() == CUT:
             after = set(range(min(reached), len(came) + 1))

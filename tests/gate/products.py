@@ -26,8 +26,8 @@ void contract(const u8 *input, u32 length) {
         return_output(key, sizeof key);
     }
     u64 one = take_u64(&cursor), other = take_u64(&cursor), divisor = take_u64(&cursor);
-    u64 told = kind ? mul_div_up(one, other, divisor) : mul_div_down(one, other, divisor);
-    return_output(&told, sizeof told);
+    u64 divided = kind ? mul_div_up(one, other, divisor) : mul_div_down(one, other, divisor);
+    return_output(&divided, sizeof divided);
 }
 """
 
@@ -41,8 +41,8 @@ def quotient(one: int, other: int, divisor: int, rounds_up: int) -> tuple[str, b
     """How a call ends, by Python's numbers, and its output."""
     if divisor == 0:
         return "reverted", b"division by zero"
-    told = -(-one * other // divisor) if rounds_up else one * other // divisor
-    return ("returned", struct.pack("<Q", told)) if told < 2**64 else ("reverted", b"the quotient is too large")
+    divided = -(-one * other // divisor) if rounds_up else one * other // divisor
+    return ("returned", struct.pack("<Q", divided)) if divided < 2**64 else ("reverted", b"the quotient is too large")
 
 
 def outputs(run: Run, compiler: str, inputs: list[bytes]) -> list[tuple[str, bytes]]:

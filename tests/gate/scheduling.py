@@ -81,9 +81,9 @@ def begin(case: Case, setting: Setting, place: Path, seconds: float) -> Running:
         try:
             os.setsid()
             os.chdir(place)
-            told = os.open(place.with_suffix(".told"), os.O_WRONLY | os.O_CREAT | os.O_TRUNC)
-            os.dup2(told, 1)
-            os.dup2(told, 2)
+            log = os.open(place.with_suffix(".log"), os.O_WRONLY | os.O_CREAT | os.O_TRUNC)
+            os.dup2(log, 1)
+            os.dup2(log, 2)
             os.dup2(os.open(os.devnull, os.O_RDONLY), 0)
             place.with_suffix(".outcome").write_bytes(pickle.dumps(outcome_of(case, Run(setting, place))))
             sys.stdout.flush()

@@ -84,13 +84,13 @@ class DifferenceTest(unittest.TestCase):
         self.differs("a", "a|b", "came b after the last line")
 
     def test_cut_within(self) -> None:
-        """`..` within a line stands for any text, and nothing else does."""
+        """`..` within a line matches any text, and nothing else does."""
         self.same("write 0 00..01 ..", "write 0 000001 02")
         self.differs("regs 0 ..", "regs 1 0", "came regs 1 0")
         self.differs("a.c", "abc", "came abc")
 
     def test_cut_lines(self) -> None:
-        """A line `..` stands for any lines, also for none; what follows it may come late."""
+        """A line `..` matches any lines, or none; what follows it may come late."""
         self.same("a|..|z", "a|z")
         self.same("a|..|y|z", "a|b|y|x|y|z")
         self.same("..", "a|b")
