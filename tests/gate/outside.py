@@ -7,7 +7,8 @@ from functools import partial
 from pathlib import Path
 from typing import Any
 
-from gate.calls import command, rvstm, tool, tool_words
+from gate import waits
+from gate.calls import command, rvstm, tool_words
 from gate.cases import TOP, Case, Run, holds, same
 from gate.texts import Call, block, ends, field, mixed, receipts, storage, written
 
@@ -78,8 +79,7 @@ def block_by_workers(run: Run, name: str) -> None:
 def block_waits(run: Run, names: Sequence[str]) -> None:
     """What `conflicts` prints of blocks, beside a model in Python."""
     for name in names:
-        path = FOLDER / name
-        command([*tool_words("conflicts-model"), path.name], path.parent, more={"RVSTM": str(run.program)}).done()
+        waits.check(run.program, FOLDER / name)
 
 
 def whole_results(run: Run, names: Sequence[str]) -> None:
