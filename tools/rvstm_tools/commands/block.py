@@ -17,9 +17,9 @@ LIST has a line for each program, key and call; # at the beginning of a word beg
     call counter 1000 key:votes
 
     rules N                   the rules of the block, 1, 2 or 3; the line may be left out, and comes before all others
-    program NAME PATH         a program, and the path of its file from where rvstm is run
-    storage DUMP              the storage before the block is that of a file, which `rvstm chain` answers to `dump`, or of a
-                              result; its path is taken from the folder of LIST, and lines `store` are put over it
+    program NAME PATH         a program, and the path of its file from the folder in which rvstm runs
+    storage DUMP              the storage before the block: a file that `rvstm chain` answered to `dump`, or a result. Its path
+                              starts from the folder of LIST, and lines `store` are put over it
     store KEY BYTES..         a key of the storage before the block, and its value
     call NAME GAS BYTES..     a call of a program with at most this gas, and its input
     shape .. FIELDS..         what values and inputs have, for tools that show them; see below
@@ -35,8 +35,8 @@ Each of BYTES is one of these, and all of them are put one after the other:
     account:name              the first 20 bytes of key:name
     row:TABLE:PART,PART..     the key of a row of a table without a hash. TABLE has 1 to 4 letters. A PART is a text, such as lamp,
                               or a word of this list, such as u64:7; key:name is account:name there. The row has at most 28
-                              bytes. If it has 28, all rows of the table have
-    table:TAG:text            the key that table_key of sdk/sha256.h derives of TAG and key:text; so with a number N
+                              bytes; if one row of a table has 28, all have
+    table:TAG:text            the key that table_key of sdk/sha256.h makes of TAG and key:text, or of TAG and key:N
 
 A KEY is one of them, followed by zeros up to 32 bytes. A NAME has one program line, and a KEY one store line.
 
@@ -49,9 +49,9 @@ Lines `shape` change nothing of the block. `test`, `explore`, `result`, `trace` 
     shape input open u32:0 lot:account seller:account u64
 
     shape KEY FIELDS..        the value at a key
-    shape row:TABLE FIELDS..  the values of all rows of a table, but of those that have their own line; so shape table:TAG
+    shape row:TABLE FIELDS..  the values of all rows of a table, except those with a line of their own; also shape table:TAG
     shape row:TABLE[TYPE,TYPE..] FIELDS..    the same; the types are those of the parts of a row, and its key is shown by them
-    shape input NAME FIELDS.. an input. The first of these lines that an input fits is the one that it is shown by
+    shape input NAME FIELDS.. an input, which is shown by the first of these lines that it fits
 
 A field is TYPE or NAME:TYPE, or a word with bytes that are always the same, such as u32:0; this is not shown. The types:
 
@@ -63,7 +63,7 @@ A field is TYPE or NAME:TYPE, or a word with bytes that are always the same, suc
 
 A value that does not fit its shape is shown in hex, with the reason.
 
-The lines of a test, which begin with `expect` or are `storage` alone (`rvstm-tools test --help`), are passed over.
+It skips the lines of a test, which begin with `expect` or are `storage` alone (`rvstm-tools test --help`).
 
 The first wrong line is reported, with the word that is wrong, and nothing is printed. A program that is not
 an ELF file is reported on standard error, if it is found from here or beside LIST."""

@@ -14,8 +14,8 @@ DETAILS = """\
 A call is a bar, as wide as its gas. It is right of all calls that it waits for, and a line leads to it from each of them.
 The lines of the keys with the most waits have colours, which are explained below them. The calls of the longest path are
 orange: each of them waits for the one before it. If each call began when those that it waits for have ended, `rvstm run`
-would be as many times as fast as one call after another as all gas is of the gas of this path. That is no promise, and no
-limit: a call that computes first and reads late runs beside those that it waits for, up to that read.
+would be faster than one call after another by all gas divided by the gas of this path. That is no promise, and no limit: a call
+that computes first and reads late runs beside those that it waits for, up to that read.
 
 The status is 0 if the picture is drawn, 1 if the block is refused or a file cannot be read, and 2 for a wrong command line."""
 

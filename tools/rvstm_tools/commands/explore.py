@@ -86,8 +86,8 @@ alone or while numbers of other calls change with them, numbers, words and bytes
 three calls are tried, as long as the same line is broken. Ctrl-C ends that, and what is shortest so far is printed as a list, or
 written to --out. Its lines `expect` say what came, so `rvstm-tools test` accepts it: put there what should come, and it is a test.
 
-With --folder a later run goes on after the sequences that were made. It first tries what was found before, and begins again if a
-program has changed.
+With --folder a later run continues after the sequences that were made. It first tries what was found before, and begins again if
+a program has changed.
 
 The status is 0 if nothing is broken, 1 if something is, 2 if the description, the model or the command line is wrong, and 130 if
 it was interrupted before anything was broken."""
@@ -107,7 +107,7 @@ def add_options(parser: argparse.ArgumentParser) -> None:
     parser.add_argument("--out", type=options.new_file, metavar="LIST", help="a file for the list")
     parser.add_argument(
         "--folder", type=Path, metavar="FOLDER",
-        help="a folder that keeps what was made and found, with the list as found.list; a run goes on from it",
+        help="a folder that keeps what was made and found, with the list as found.list; a run continues from it",
     )
     parser.add_argument(
         "--replace", action="append", default=[], metavar="NAME=PATH",

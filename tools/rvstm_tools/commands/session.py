@@ -19,7 +19,7 @@ from rvstm_tools.texts.views import View
 
 MOST_OF_A_SETTING = 9_999_999_999
 DETAILS = f"""\
-It starts `rvstm chain`, and hands in the programs of each LIST (`rvstm-tools block --help`). Then it runs a frame for each LIST,
+It starts `rvstm chain`, and sends the programs of each LIST (`rvstm-tools block --help`). Then it runs a frame for each LIST,
 over the storage that the ones before it left, and prints the result as a table. A line `store` of a LIST sets its key again each
 time; lines `expect` are for `rvstm-tools test`. After the lists it does what the options ask for, in their order. Put the lists
 first. Keys and values are printed by the words and shapes of all lists.
@@ -34,7 +34,7 @@ On a terminal the tab key completes requests, files and keys, and the arrow keys
 --replay sends the frames of FOLDER again: its files {', '.join('NAME' + ending for ending in ('.frame', '.block', '.list'))}, in the order of their names, after
 its programs NAME.elf. The digest after each is compared with that in NAME.frame.digest. The first one that differs ends the run.
 
-With --store the session is kept in a file, and goes on from it: `rvstm-tools session --store FILE --state` reads it.
+With --store the session is kept in a file, and continues from it: `rvstm-tools session --store FILE --state` reads it.
 Without it the session is in memory, and ends with this command. A FILE belongs to the settings that it was made with.
 
 The status is 0 if all is done, 1 if a request is refused or a digest differs, and 2 for a wrong command line."""

@@ -27,9 +27,9 @@ A test is a list of a block (`rvstm-tools block --help`), with what is expected 
     storage
     expect key:bob u64:8
 
-All calls of a list run in one block by `rvstm seq`, in the folder of the list, from where paths are taken. As many lists run at
-once as --jobs says. A line `storage DUMP` before the calls begins with the storage of a file: what `rvstm chain` answers to `dump`,
-or a result.
+`rvstm seq` runs all calls of a list in one block, in the folder of the list, from which paths start. As many lists run at once as
+--jobs says. A line `storage DUMP` before the calls begins with the storage of a file: what `rvstm chain` answered to `dump`, or a
+result.
 
     expect returned BYTES..     the call returns, with this output; without BYTES with any, and with "" with an empty one
     expect reverted BYTES..     the call reverts, in the same three ways
@@ -50,13 +50,13 @@ or a result.
 After a call, the last one too, KEY is compared with what this call writes, which is nothing unless it returns. After
 `storage` it is compared with what the storage has then. A call with no lines after it may end in any way.
 
-A line is printed for each test, below it each line that is not met, and at the end the sums. Of bytes that are too long
-for a line a piece is printed, around the place where the two part. A key of a table is printed by the words of the list, and a
-value with a `shape` by its fields, with the name of the first one that differs.
+A line is printed for each test, below it each line that is not met, and at the end the sums. If bytes are too long for a line, the
+piece around the first byte that differs is printed. A key of a table is printed by the words of the list, and a value with a
+`shape` by its fields, with the name of the first one that differs.
 With --json an object of JSON is printed in place of each such line, with the gas of all calls, and one for the sums.
 
---gas FILE compares the gas of each call with its row in FILE: the gas, the number of the call, and the list. Calls that differ by
-more than --within percent, and those that only one of both has, are printed. --write makes FILE again, if all tests pass.
+--gas FILE compares the gas of each call with its row in FILE: the gas, the number of the call, and the list. It prints calls that
+differ by more than --within percent, and those that only FILE or only the lists have. --write makes FILE again, if all tests pass.
 
 The status is 0 if all tests pass, 1 if one fails or gas differs, and 2 if a list, FILE or the command line is wrong or there is no
 rvstm; then no test is run."""

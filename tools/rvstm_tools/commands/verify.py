@@ -19,8 +19,8 @@ symbols and build id, by llvm-objcopy, with those that this checkout builds, who
 not there, they are proved and built first: that needs Rattle's kit, and lasts up to an hour. On a terminal the command asks before
 it does so; --yes answers.
 
-With --sums no kit is needed, and nothing is built: SHA256SUMS is the file of a release, from where its makers keep it. The program
-is compared with the checksum that the file has for `rvstm`, and a package with the one that it has for the package.
+With --sums no kit is needed, and nothing is built: SHA256SUMS is the file of a release, which you get from its makers. The program is
+compared with the checksum of `rvstm` in this file, and a package with its own.
 
 A line is printed for each comparison. Without --sums another line says what was proved of what is the same, with which logic and of
 which sources. The status is 0 if all are equal, 1 if one is not or cannot be made, and 2 for a wrong command line."""

@@ -76,7 +76,7 @@ def run_forget(client: Client, given: Sequence[str]) -> Iterator[str]:
 
 
 FORMS = (
-    Form("frame", "FILE", "runs a list (NAME.list) or a block file over the storage, after its programs are handed in",
+    Form("frame", "FILE", "runs a list (NAME.list) or a block file over the storage, after it sends its programs",
          lambda client, given: client.run(Word.FRAME, path_of(given[0])), "file"),
     Form("try", "FILE", "the same, and keeps nothing of it but the programs",
          lambda client, given: client.run(Word.TRY, path_of(given[0])), "file"),
@@ -89,9 +89,9 @@ FORMS = (
     Form("begin", "FILE [HEIGHT] [DIGEST]", "puts the storage of a dump in place of this one, with the height and digest of its session",
          run_begin, "file"),
     Form("state", "", "rules, height, keys, programs, settings and digest", lambda client, given: client.lines(Word.STATE)),
-    Form("program", "FILE", "hands in a program, and prints its name", lambda client, given: client.program(path_of(given[0])), "file"),
+    Form("program", "FILE", "sends a program, and prints its name", lambda client, given: client.program(path_of(given[0])), "file"),
     Form("programs", "", "the names of all programs", lambda client, given: client.lines(Word.PROGRAMS)),
-    Form("forget", "PROGRAM", "gives a program back, by its name or its file", run_forget, "file"),
+    Form("forget", "PROGRAM", "frees a program, by its name or its file", run_forget, "file"),
 )
 """The requests, in the order of the help. `help` and `q` are beside them."""
 BY_WORD = {form.word: form for form in FORMS}
