@@ -24,11 +24,11 @@ Lines come from NAME.lines.elf beside the program NAME.elf, which the SDK makes:
 
 llvm-addr2line (package llvm) or riscv64-unknown-elf-addr2line finds them.
 
-Of each source file it prints how many of its lines and branches ran, the lines that did not run, and those that have a branch
-which did not go both ways. A line counts if the program has instructions of it. It ran if one of them did, or one of what is
-inlined there. A branch is a conditional branch of the program, and has two ways. Copies of a function that is inlined in several
-places count as one. So lines and branches are those that the compiler left: with MORE=-O0 for both programs they are most like
-the source. Files of the SDK are left out without --sdk.
+For each source file it prints how many lines and branches ran, the lines that did not run, and those with a branch that did not go
+both ways. A line counts if the program has instructions of it. It ran if one of them ran, or one that is inlined there. A branch is
+a conditional branch of the program, and has two ways; an `if` may have several. Copies of a function that is inlined in several
+places count as one. Lines and branches are those that the compiler left: with MORE=-O0 for both programs they are closest to the
+source. Files of the SDK count only with --sdk.
 
 If a list has lines `shape input NAME`, it prints how many calls have each of these inputs.
 

@@ -26,7 +26,7 @@ A description is a list (`rvstm-tools block --help`) whose calls have places, wi
     returned total == before.total
     may-end out-of-gas
 
-    rules, program, store,    as in a list; paths are taken from the folder of the description
+    rules, program, store,    as in a list; paths start from the folder of the description
     shape
     storage DUMP              as in a list: the storage that each sequence begins with, under the lines store
     draw NAME VALUES..        what may be in a place {NAME}: some words, or numbers and ranges FIRST..LAST of them, or
@@ -35,9 +35,9 @@ A description is a list (`rvstm-tools block --help`) whose calls have places, wi
     call NAME GAS BYTES..     a call. {OTHER=NAME} is drawn from NAME too, and is called OTHER
     returned EXPRESSION       holds after this call if it returns; reverted EXPRESSION if it reverts, holds EXPRESSION
                               however it ends
-    may-end ENDS..            how else this call may end, such as out-of-gas; without the line it returns or reverts
+    may-end ENDS..            how this call may also end, such as out-of-gas; without the line it returns or reverts
     always EXPRESSION         holds before the first call, and after each
-    let NAME = EXPRESSION     a name for something of the storage, in the lines below it
+    let NAME = EXPRESSION     a name for a value of the storage, in the lines below it
     storage                   only lines holds EXPRESSION follow it; they hold of the storage at the end of a sequence
     model FILE CLASS          a class in a file of Python that says what calls should answer; it comes before all calls
     method NAME               the method of the model that answers this call

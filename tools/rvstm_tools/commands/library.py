@@ -18,8 +18,8 @@ crates/rvstm_c/out/embedded/librvstm.a and librvstm.so, and prints where they ar
 first run proves the crates that the library is built on. It prints each one as it is proved, and how many are left. A later run
 builds again what has changed.
 
-The archive is one object, of which only the calls of include/rvstm.h can be seen from outside: two such archives, or this one and
-another library of Rattle, link into one program. The kit's own tools link both, so no bytes depend on a machine's compiler."""
+The archive is one object, which exports only the calls of include/rvstm.h. So two such archives, or this one and another library of
+Rattle, link into one program. The kit's own tools link both, so no bytes depend on a machine's compiler."""
 
 
 class Linker:

@@ -16,17 +16,16 @@ DETAILS = """\
 
 A schedule has one worker number a line:
 
-    turns         each worker in turn, from 0 on; it is so without a word too
+    turns         each worker in turn, from 0 on; the default
     worker N      worker N alone
     random SEED   each entry at random; one seed always gives the same list
 
-A list that is longer than needed does no harm: further entries ask for work that is not there. formats.md says how long a
-list must be.
+A list that is longer than needed does no harm: further entries ask for work and get none. formats.md says how long a list must be.
 
 With --to-done it prints what must follow the list SCHEDULE of the block file BLOCK until the workers are done. If they are
-done already, it prints nothing. It runs `rvstm drive` for that. It adds entries of each worker alone, the last worker first,
-and twice as many each time, until `drive` prints a result; then it cuts what is not needed. If `drive` refuses the list for
-another reason, this command reports it."""
+done already, it prints nothing. It runs `rvstm drive` with more and more entries: of each worker alone, the last worker first, and
+twice as many each time. When `drive` prints a result, it cuts what is not needed. If `drive` refuses the list for another reason,
+this command reports it."""
 
 
 def worker_count(word: str) -> int:

@@ -19,12 +19,11 @@ from rvstm_tools.texts.results import Receipt
 DETAILS = """\
 It prints the storage calls of the call, and its gas by function. `rvstm debug` replays the call, step by step.
 
-Of each storage call it prints the step at which it is, the gas before it, its own gas, its address, what it is given and what
-it answers. In the line below are the functions that it is in, the innermost last, each with the line of its source. Then it
-prints the gas of each function: of its own instructions, most first, and with all that it calls. A storage call counts as a
-function that is called, by its name. With --list, keys, values and the input of the call are shown by the words and the lines
-`shape` of the list. With --svg the gas is drawn as a flame graph: a bar is as wide as the gas of the function with all that it
-calls, and is on the bar of its caller.
+For each storage call it prints its step, the gas before it, its own gas, its address, what it is given and what it answers. The
+line below has the functions that it is in, the innermost last, each with its line of the source. Then it prints the gas of each
+function: of its own instructions, most first, and with all that it calls. A storage call counts as a function. With --list, keys,
+values and the input of the call are shown by the words and the lines `shape` of the list. --svg draws the gas as a flame graph: a
+bar is as wide as the gas of the function with all that it calls, and is on the bar of its caller.
 
 Functions and lines come from ELF, the program with its symbols and the lines of its source, which the SDK makes:
 

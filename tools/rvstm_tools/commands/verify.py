@@ -22,7 +22,7 @@ it does so; --yes answers.
 With --sums no kit is needed, and nothing is built: SHA256SUMS is the file of a release, which you get from its makers. The program is
 compared with the checksum of `rvstm` in this file, and a package with its own.
 
-A line is printed for each comparison. Without --sums another line says what was proved of what is the same, with which logic and of
+A line is printed for each comparison. Without --sums another line says which proofs the equal files have, with which logic and of
 which sources. The status is 0 if all are equal, 1 if one is not or cannot be made, and 2 for a wrong command line."""
 
 
