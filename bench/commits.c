@@ -79,8 +79,8 @@ static void keep_rows(const uint8_t *bytes, uint32_t length, const uint8_t *dige
 }
 
 static void sync_once_more(int log) {
-    struct stat told;
-    check(fstat(log, &told) == 0 && pwrite(log, "\1", 1, told.st_size) == 1 && fdatasync(log) == 0, "the log");
+    struct stat found;
+    check(fstat(log, &found) == 0 && pwrite(log, "\1", 1, found.st_size) == 1 && fdatasync(log) == 0, "the log");
 }
 
 static uint64_t commit_time(int has_rows, int log) {

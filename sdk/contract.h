@@ -38,11 +38,11 @@ enum {
 #endif
 
 /* What a call runs; each contract defines it. Where it comes back, the call returns with an empty
-   output. The input stands at a multiple of 4. */
+   output. The input is at a multiple of 4. */
 void contract(const u8 *input, u32 length);
 
-/* Copies the key's value into the buffer and answers its length; ABSENT where there is none, LONGER
-   where it is longer than the capacity, and then nothing is copied. The capacity is at most
+/* Copies the key's value into the buffer and returns its length; ABSENT if there is none, LONGER
+   if it is longer than the capacity, and then nothing is copied. The capacity is at most
    VALUE_LIMIT under rules one, where a read costs 200. Under rules two and three it is at most
    LONG_VALUE_LIMIT, and a read costs one more for each byte that it copies. */
 STORAGE_CALL u32 storage_read(const void *key, void *buffer, u32 capacity);
@@ -56,7 +56,7 @@ STORAGE_CALL void storage_remove(const void *key);
 
 /* Adds an amount to the number at the key, without reading it: calls that only add to a key do not
    conflict. The number is a value of 8 bytes, the lowest first; an absent key, and a value of another
-   length, count as 0. The sum wraps at 2^64. Under rules three alone; else the call ends `unknown-call`. */
+   length, count as 0. The sum wraps at 2^64. Under rules three alone; otherwise the call ends as `unknown-call`. */
 STORAGE_CALL void storage_add(const void *key, u64 amount);
 
 /* Ends the call: its writes are kept, its output is these bytes, at most OUTPUT_LIMIT. */

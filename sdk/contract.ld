@@ -1,5 +1,5 @@
-/* Where a contract stands in memory, for GNU ld and lld: text and read-only data from 0x00010000 on,
-   data and bss on pages of their own behind, and a page without rights below the input and the stack.
+/* The places of a contract in memory, for GNU ld and lld: text and read-only data from 0x00010000 on,
+   data and bss on pages of their own after that, and a page without rights below the input and the stack.
    A page has the rights of one segment. */
 ENTRY(start)
 PHDRS {
@@ -8,7 +8,7 @@ PHDRS {
     guard PT_LOAD FLAGS(0);
 }
 SECTIONS {
-    /* It stands first, so that a section without a place here follows the data and not this page. */
+    /* It comes first, so that a section without a place here follows the data and not this page. */
     .guard 0x000ff000 (NOLOAD) : {
         . += 4096;
     } :guard
@@ -30,7 +30,7 @@ SECTIONS {
         *(.sbss .sbss.*)
         *(.bss .bss.* COMMON)
     } :data
-    /* What is free for a heap, behind the sections above: zeros, readable, writable. */
+    /* What is free for a heap, after the sections above: zeros, readable, writable. */
     heap_start = ALIGN(16);
     heap_end = 0x000ff000;
     ASSERT(. <= heap_end, "the contract is too large: its data reaches the page without rights at 0x000ff000")

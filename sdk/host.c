@@ -29,23 +29,23 @@ static struct result result_of_call;
 static u32 passed_count;
 static u32 failed_count;
 
-/* What was wanted of a call and what came, where they differed since the last check. */
+/* What was wanted of a call and what came, if they differed since the last check. */
 static struct result wanted;
 static struct result came;
 static int differs;
 
 /* As rvstm-tools test prints outputs: the most bytes that are shown in full, the bytes of a piece, and those of them
-   before the place where two outputs part. */
+   before the first byte in which two outputs differ. */
 enum { LONGEST_BYTES = 40, PIECE_BYTES = 20, BYTES_BEFORE = 4 };
 
-/* A sanitizer sees where fewer bytes may be written. */
+/* A sanitizer sees if fewer bytes may be written. */
 static void touch(volatile u8 *bytes, u32 length) {
     for (u32 at = 0; at < length; at++) {
         bytes[at] = bytes[at];
     }
 }
 
-/* A range of length 0 may stand anywhere. */
+/* A range of length 0 may be anywhere. */
 static void copy_bytes(void *to, const void *from, u32 length) {
     if (length > 0) {
         memmove(to, from, length);
@@ -216,7 +216,7 @@ int has_reverted(struct result result, const char *text) {
     return has_ended(result, REVERTED, text, (u32)strlen(text));
 }
 
-/* The place where two outputs part. */
+/* The first byte in which two outputs differ. */
 static u32 place_of_difference(const struct result *one, const struct result *other) {
     u32 place = 0;
     while (place < one->length && place < other->length && place < OUTPUT_LIMIT &&
@@ -243,22 +243,22 @@ static void print_number(const u8 *bytes, u32 length) {
     printf("  %llu", (unsigned long long)number);
 }
 
-/* In hex, and as a text or a number where it may be one; of a long output a piece around a place. */
+/* In hex, and as a text or a number if it may be one; of a long output a piece around a place. */
 static void print_output(const struct result *result, u32 place, int is_piece) {
     u32 held = result->length < OUTPUT_LIMIT ? result->length : OUTPUT_LIMIT;
     u32 start = is_piece && place > BYTES_BEFORE ? place - BYTES_BEFORE : 0;
     u32 end = is_piece && start + PIECE_BYTES < held ? start + PIECE_BYTES : held;
-    const char *before = start > 0 ? ".." : "", *behind = end < result->length ? ".." : "";
+    const char *before = start > 0 ? ".." : "", *after = end < result->length ? ".." : "";
     printf("%s", before);
     for (u32 at = start; at < end; at++) {
         printf("%02x", result->output[at]);
     }
-    printf("%s%s", result->length == 0 ? "-" : "", behind);
+    printf("%s%s", result->length == 0 ? "-" : "", after);
     if (!is_piece && (held == 1 || held == 2 || held == 4 || held == 8)) {
         print_number(result->output, held);
     }
     if (is_printable(result->output + start, end - start)) {
-        printf("  \"%s%.*s%s\"", before, (int)(end - start), (const char *)result->output + start, behind);
+        printf("  \"%s%.*s%s\"", before, (int)(end - start), (const char *)result->output + start, after);
     }
     if (is_piece) {
         printf("  (%u bytes)", result->length);

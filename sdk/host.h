@@ -2,7 +2,7 @@
 
    A test calls the contract by call_contract. Before and after a call it may itself read and write the storage
    by the calls of contract.h. Gas is not counted, memory has no rights, and a static variable keeps between
-   calls what it has, where on the ledger's machine each call starts anew. */
+   calls what it has. On the ledger's machine each call starts from the program's file. */
 
 #ifndef HOST_H
 #define HOST_H
@@ -28,8 +28,8 @@ void set_rules(u32 rules);
 /* Makes the storage empty. */
 void clear_storage(void);
 
-/* Calls the contract with a copy of the input, behind which a sanitizer sees each read. What the call writes
-   stays where it returned. */
+/* Calls the contract with a copy of the input; a sanitizer sees each read past it. What the call writes
+   is kept if it returned. */
 struct result call_contract(const void *input, u32 length);
 
 /* Whether the call ended so, with this output. */
@@ -42,7 +42,7 @@ int has_reverted(struct result result, const char *text);
 #define check(name, holds) check_at(__FILE__, __LINE__, name, holds)
 void check_at(const char *file, int line, const char *name, int holds);
 
-/* Prints 'N passed, M failed', and answers 1 where one failed, else 0. */
+/* Prints 'N passed, M failed', and returns 1 if one failed, otherwise 0. */
 int report_checks(void);
 
 #ifdef __cplusplus

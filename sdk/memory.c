@@ -1,5 +1,5 @@
 /* The four functions that compilers call of their own for copies, fills and comparisons. Compile them
-   with -ffreestanding: else GCC makes of the loop in memset a call of memset. */
+   with -ffreestanding: otherwise GCC turns the loop in memset into a call of memset. */
 
 #include "contract.h"
 

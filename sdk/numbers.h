@@ -1,5 +1,5 @@
-/* Numbers in inputs, values and outputs. In bytes the lowest stands first, at any address. The compiler makes
-   loads and stores of __builtin_memcpy, where a call of memcpy would cost some 80 gas. */
+/* Numbers in inputs, values and outputs. The lowest byte comes first, at any address. The compiler turns
+   __builtin_memcpy into loads and stores; a call of memcpy would cost about 80 gas. */
 
 #ifndef NUMBERS_H
 #define NUMBERS_H
@@ -26,8 +26,8 @@ static inline void write_u64(void *bytes, u64 number) {
     __builtin_memcpy(bytes, &number, sizeof number);
 }
 
-/* A place in an input, and how many bytes stand from there on. Each call below takes what stands there and
-   goes on behind it; where too few are left, the contract reverts. */
+/* A place in an input, and how many bytes follow from there on. Each call below takes what is there and
+   moves past it; if too few are left, the contract reverts. */
 struct cursor {
     const u8 *at;
     u32 left;
@@ -64,7 +64,7 @@ static inline const u8 *take_key(struct cursor *cursor) {
     return take_bytes(cursor, KEY_LENGTH);
 }
 
-/* Reverts where bytes are left. */
+/* Reverts if bytes are left. */
 static inline void take_end(const struct cursor *cursor) {
     if (cursor->left != 0) {
         REVERT("the input is too long");

@@ -6,8 +6,8 @@
                                  bidder
        2 LOT                     close: the bid goes to the seller, and the auction is removed
 
-   The output of a bid is what its bidder has left, that of a close is the bid. A call has no sender: whoever
-   writes the block may open, bid and close.
+   The output of a bid is what its bidder has left, that of a close is the bid. A call has no sender: the
+   author of the block may open, bid and close.
 
    auction.elf is made by clang, auction-gnu.elf by GCC. */
 
@@ -113,19 +113,19 @@ static u64 close(struct cursor *input) {
 
 void contract(const u8 *input, u32 length) {
     struct cursor cursor = cursor_over(input, length);
-    u64 told;
+    u64 answer;
     switch (take_u32(&cursor)) {
     case OPEN:
         open(&cursor);
         return;
     case BID:
-        told = bid(&cursor);
+        answer = bid(&cursor);
         break;
     case CLOSE:
-        told = close(&cursor);
+        answer = close(&cursor);
         break;
     default:
         REVERT("unknown request");
     }
-    return_output(&told, sizeof told);
+    return_output(&answer, sizeof answer);
 }

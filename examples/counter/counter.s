@@ -3,7 +3,7 @@
   addi a2,x0,64
   mv s0,a0            # the key
   ecall               # READ
-  lw t0,-64(sp)       # 0 where the key is absent, since the buffer is zero
+  lw t0,-64(sp)       # 0 if the key is absent, since the buffer is zero
   addi t0,t0,1
   sw t0,-64(sp)
   mv a0,s0

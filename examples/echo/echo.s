@@ -1,3 +1,3 @@
-# Returns its input: a0 and a1 tell where it stands and how long it is.
+# Returns its input: a0 has its address, a1 its length.
   addi a7,x0,3    # RETURN
   ecall

@@ -13,7 +13,7 @@
 
 #include "rvstm.h"
 
-/* Bytes, a zero behind them, and their number without it. */
+/* Bytes, a zero after them, and their number without it. */
 typedef struct {
     uint8_t *bytes;
     size_t length;
@@ -56,7 +56,7 @@ static text read_file(const char *path)
     return all;
 }
 
-/* The answer to the last request. It is an error where that is not done. */
+/* The answer to the last request. It is an error if that is not done. */
 static text answer(rvstm_session *session, uint32_t status)
 {
     if (status != RVSTM_DONE) stop("a request is not done");
@@ -65,7 +65,7 @@ static text answer(rvstm_session *session, uint32_t status)
     return copy;
 }
 
-/* Prints why the last request is refused. It is an error where it is not. */
+/* Prints why the last request is refused. It is an error if it is not. */
 static void print_refusal(rvstm_session *session, uint32_t status)
 {
     rvstm_refusal_parts parts;
@@ -83,16 +83,16 @@ static text named(text block, const char *path, text name)
 {
     char *place = strstr((char *)block.bytes, path);
     if (!place) stop("the block has no such program");
-    size_t before = (size_t)(place - (char *)block.bytes), behind = block.length - before - strlen(path);
-    text whole = text_of(before + name.length + behind);
+    size_t before = (size_t)(place - (char *)block.bytes), after = block.length - before - strlen(path);
+    text whole = text_of(before + name.length + after);
     memcpy(whole.bytes, block.bytes, before);
     memcpy(whole.bytes + before, name.bytes, name.length);
-    memcpy(whole.bytes + before + name.length, place + strlen(path), behind);
+    memcpy(whole.bytes + before + name.length, place + strlen(path), after);
     return whole;
 }
 
-/* What stands behind the first two lines. */
-static text behind_head(text dump)
+/* What follows the first two lines. */
+static text after_head(text dump)
 {
     char *first = strchr((char *)dump.bytes, '\n'), *second = first ? strchr(first + 1, '\n') : NULL;
     if (!second) stop("a dump without its head");
@@ -126,7 +126,7 @@ int main(int count, char **words)
     name.length -= strlen("\n");
     text frame = named(block, path, name);
     frame = answer(&session, rvstm_frame(&session, frame.bytes, frame.length));
-    compare(words[1], frame, behind_head(answer(&session, rvstm_dump(&session))));
+    compare(words[1], frame, after_head(answer(&session, rvstm_dump(&session))));
 
     /* This block has a path, and no name, and a session opens no file. */
     print_refusal(&session, rvstm_frame(&session, block.bytes, block.length));

@@ -1,6 +1,6 @@
 /*
- * Two copies of the library in one program, as where two parts of it have one each: what one copy is given the other doesn't have.
- * The names of the second copy begin with second_, where those of the first begin with rvstm_.
+ * Two copies of the library in one program, such as for two parts that have one each. The sessions of one copy are not in the other.
+ * The names of the first copy begin with rvstm_, the names of the second with second_.
  *
  * usage: two PROGRAM, the file of a program
  */

@@ -6,7 +6,7 @@
        2 WHO ASSET AMOUNT LEAST    swap: AMOUNT of ASSET for the other one, LEAST at least; 3 of 1,000 stay in the pool
 
    The output is the shares that were made, what is paid of asset 0 and 1, or what is paid. Each result is rounded in favour of the
-   pool. A call has no sender: whoever writes the block may do all of this. */
+   pool. A call has no sender: the author of the block may do all of this. */
 
 #include "rows.h"
 

@@ -5,12 +5,12 @@
        1 ACCOUNT             balance
        2                     what the pot has
 
-   The pot is a row of its own, and no account. Each transfer adds to it, and none reads it; nor is TO read. So transfers from
-   different accounts do not conflict, unless one pays from an account that an earlier one paid to. Sums wrap at 2^64: whoever
-   writes the block sees that all accounts together have less.
+   The pot is a row of its own, and no account. Each transfer adds to it and to TO, and reads neither. So transfers from
+   different accounts do not conflict, unless one pays from an account that an earlier one paid to. Sums wrap at 2^64: the
+   author of the block sees that all accounts together have less.
 
-   The output is the balance of the account, after a transfer that of FROM. A call has no sender: whoever
-   writes the block may transfer. It needs rules three.
+   The output is the balance of the account, after a transfer that of FROM. A call has no sender: the
+   author of the block may transfer. It needs rules three.
 
    fees.elf is made by clang, fees-gnu.elf by GCC. */
 
@@ -65,19 +65,19 @@ static u64 tell_pot(struct cursor *input) {
 
 void contract(const u8 *input, u32 length) {
     struct cursor cursor = cursor_over(input, length);
-    u64 told;
+    u64 answer;
     switch (take_u32(&cursor)) {
     case TRANSFER:
-        told = transfer(&cursor);
+        answer = transfer(&cursor);
         break;
     case BALANCE:
-        told = tell_balance(&cursor);
+        answer = tell_balance(&cursor);
         break;
     case POT:
-        told = tell_pot(&cursor);
+        answer = tell_pot(&cursor);
         break;
     default:
         REVERT("unknown request");
     }
-    return_output(&told, sizeof told);
+    return_output(&answer, sizeof answer);
 }

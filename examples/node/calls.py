@@ -69,7 +69,7 @@ def call_of(body: bytes) -> SignedCall:
         key, number, gas, data, signature = values
         call = SignedCall(bytes.fromhex(key), number, gas, bytes.fromhex(data), bytes.fromhex(signature))
     except (ValueError, LookupError, TypeError, RecursionError):
-        raise RefusedError(400, f"a call is an object with {', '.join(FIELDS)}: two numbers, and else texts in hex") from None
+        raise RefusedError(400, f"a call is an object with {', '.join(FIELDS)}: two numbers, and texts in hex") from None
     if not 0 < call.gas <= MOST_GAS or not 0 <= call.number < 1 << 64 or len(call.input) > LONGEST:
         raise RefusedError(400, f"gas is 1 to {MOST_GAS}, a number has 64 bits, and an input has at most {LONGEST} bytes")
     return call

@@ -49,7 +49,7 @@ SHOWN_BLOCKS = 8
 
 @dataclass(frozen=True)
 class Waiting:
-    """A call that waits for its block, and where its receipt goes."""
+    """A call that waits for its block, and the place of its receipt."""
 
     call: SignedCall
     receipt: Future[Object]
@@ -175,7 +175,7 @@ def main() -> int:
     """Runs the node until it is interrupted."""
     parser = argparse.ArgumentParser(description="A node that takes signed calls.", parents=[options.program_parser()])
     parser.add_argument("--store", required=True, metavar="FILE", help="the file that the ledger is kept in")
-    parser.add_argument("--port", type=int, default=8545, metavar="N", help="where it listens on 127.0.0.1 (8545); 0 is a free port")
+    parser.add_argument("--port", type=int, default=8545, metavar="N", help="the port of 127.0.0.1 on which it listens (8545); 0 is a free port")
     given = parser.parse_args()
     node = Node(finding.chosen(options.program_choice(given), "node"), given.store)
     Handler.node = node

@@ -160,7 +160,7 @@ class SignedCalls(WithNode):
         self.assertRegex(answer.decode(), r"^HTTP/1\.0 413 .*\r\n(.*\r\n)+\r\n.*a call has at most 10000 bytes")
 
     def test_wrong_requests(self) -> None:
-        object_ = "a call is an object with key, number, gas, input, signature: two numbers, and else texts in hex"
+        object_ = "a call is an object with key, number, gas, input, signature: two numbers, and texts in hex"
         bounds = "gas is 1 to 1000000, a number has 64 bits, and an input has at most 4076 bytes"
         right = payment(0)
         for given, message in (

@@ -1,4 +1,4 @@
-/* Writes to a number and returns it. With an empty input the number is const; else it is not. */
+/* Writes to a number and returns it. With an empty input the number is const; otherwise it is not. */
 
 #include "contract.h"
 

@@ -1,5 +1,5 @@
 /* A number that a constructor sets; it is volatile, so that clang does not set it when it compiles.
-   With an empty input it is returned as it is; else the contract calls the function first. */
+   With an empty input it is returned as it is; otherwise the contract calls the function first. */
 
 #include "contract.h"
 

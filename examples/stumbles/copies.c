@@ -1,4 +1,4 @@
-/* Calls memcpy, memmove, memset and memcmp at small distances and lengths, and returns 01 where each
+/* Calls memcpy, memmove, memset and memcmp at small distances and lengths, and returns 01 if each
    did what loops of bytes do. */
 
 #include "contract.h"

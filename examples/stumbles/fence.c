@@ -1,4 +1,4 @@
-/* Asks that changed instructions be fetched anew; a call's never change. With an input it does not
+/* Asks that changed instructions be fetched again; a call's never change. With an input it does not
    ask, and returns the input. */
 
 #include "contract.h"

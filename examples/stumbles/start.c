@@ -1,5 +1,5 @@
 /* A contract without the start-up file: gp is 0 for it, and it has nowhere to come back to. With an
-   empty input it uses data and returns; else it comes back. */
+   empty input it uses data and returns; otherwise it comes back. */
 
 #include "contract.h"
 

@@ -1,4 +1,4 @@
-/* A variable of a thread's own stands at tp, which is 0. */
+/* A variable of a thread's own is at tp, which is 0. */
 
 #include "contract.h"
 

@@ -6,7 +6,7 @@
        2 ACCOUNT             balance
 
    The output is the balance of the account, after a transfer that of FROM. A call has no sender:
-   whoever writes the block may mint and transfer.
+   the author of the block may mint and transfer.
 
    token.elf is made by clang, token-gnu.elf by GCC. */
 
@@ -78,19 +78,19 @@ static u64 tell_balance(struct cursor *input) {
 
 void contract(const u8 *input, u32 length) {
     struct cursor cursor = cursor_over(input, length);
-    u64 told;
+    u64 answer;
     switch (take_u32(&cursor)) {
     case MINT:
-        told = mint(&cursor);
+        answer = mint(&cursor);
         break;
     case TRANSFER:
-        told = transfer(&cursor);
+        answer = transfer(&cursor);
         break;
     case BALANCE:
-        told = tell_balance(&cursor);
+        answer = tell_balance(&cursor);
         break;
     default:
         REVERT("unknown request");
     }
-    return_output(&told, sizeof told);
+    return_output(&answer, sizeof answer);
 }

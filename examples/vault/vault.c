@@ -5,7 +5,7 @@
        1 TO NUMBER                          claim: TO gets what is due and was not paid yet
 
    What is due grows from 0 at START to the amount at END. The output of a claim is what it pays; the last one removes the payment.
-   A call has no sender: whoever writes the block may open and claim. */
+   A call has no sender: the author of the block may open and claim. */
 
 #include "rows.h"
 
@@ -80,18 +80,18 @@ static void claim(struct cursor *input) {
     if (storage_read(&key, &payment, sizeof payment) != sizeof payment) {
         REVERT("there is no such payment");
     }
-    u64 told = due(&payment, now()) - payment.paid;
-    if (__builtin_add_overflow(balance_at(&payee), told, &balance)) {
+    u64 paid = due(&payment, now()) - payment.paid;
+    if (__builtin_add_overflow(balance_at(&payee), paid, &balance)) {
         REVERT("the balance is too large");
     }
-    payment.paid += told;
+    payment.paid += paid;
     storage_write(&payee, &balance, sizeof balance);
     if (payment.paid == payment.amount) {
         storage_remove(&key);
     } else {
         storage_write(&key, &payment, sizeof payment);
     }
-    return_output(&told, sizeof told);
+    return_output(&paid, sizeof paid);
 }
 
 void contract(const u8 *input, u32 length) {

@@ -1,4 +1,4 @@
-//! Tells the linker where contract.ld is, and stops a build of a contract without optimization, which is too large for rvstm.
+//! Gives the linker the path of contract.ld, and stops a build of a contract without optimization, which is too large for rvstm.
 
 use std::{env, path::Path, process::exit};
 

@@ -191,33 +191,33 @@ def on_this_machine(run: Run, name: str) -> None:
 
 def failing_on_this_machine(run: Run) -> None:
     """Checks that do not hold, and what they print."""
-    folder = EXAMPLES / "told"
+    folder = EXAMPLES / "outputs"
     shutil.copy(folder / "failing.c", run.place)
     made(run, folder / "failing-test.c", "failing-test", more=["CC=cc"])
-    same(command([run.place / "failing-test"]).out, (folder / "host.told").read_text())
+    same(command([run.place / "failing-test"]).out, (folder / "host.out").read_text())
 
 
 def failing(run: Run, name: str) -> None:
     """Lists that are refused or not met, and what is said of them."""
-    folder = EXAMPLES / "told"
-    same(tool(run, "test", f"{name}.failing", folder=folder).out, (folder / f"{name}.told").read_text())
+    folder = EXAMPLES / "outputs"
+    same(tool(run, "test", f"{name}.failing", folder=folder).out, (folder / f"{name}.out").read_text())
 
 
 def keys_of_tables(run: Run) -> None:
     """Keys of tables by the words of their list."""
-    folder, told = EXAMPLES / "lock", EXAMPLES / "told"
+    folder, outputs = EXAMPLES / "lock", EXAMPLES / "outputs"
     result = rvstm(run, "seq", "lock.block", folder=folder).done()
     table = tool(run, "result", "--list", "lock.list", folder=folder, data=result).done()
     keys = sorted({found for found in re.findall(r"^ *(?:wrote )*([^ ]*): .*", table, re.M)})
-    same("\n".join(keys) + "\n", (told / "keys.told").read_text())
+    same("\n".join(keys) + "\n", (outputs / "keys.out").read_text())
     svg = run.place / "picture"
     tool(run, "conflicts", "lock.block", "--svg", svg, "--list", "lock.list", folder=folder).done()
-    same("\n".join(re.findall(r">(table:[^<]*)", svg.read_text())) + "\n", (told / "waits.told").read_text())
+    same("\n".join(re.findall(r">(table:[^<]*)", svg.read_text())) + "\n", (outputs / "waits.out").read_text())
 
 
 def refused_by_tools(run: Run) -> None:
     """The last line of tools whose list or block is refused: it names the line and the program."""
-    folder, file = EXAMPLES / "told", "../tally/tally.list"
+    folder, file = EXAMPLES / "outputs", "../tally/tally.list"
     made = run.place / "files.block"
     done = tool(run, "block", "files.failing", folder=folder)
     written(made, done.out)
@@ -254,7 +254,7 @@ def debugged(run: Run, name: str, contract: str, make: Sequence[str]) -> None:
     # In a shell, since the order of what gdb says on its two outputs counts.
     done = command(["sh", "-c", 'exec "$@" 2>&1', "sh", *words], folder, more={"RVSTM": str(run.program), "DEBUGINFOD_URLS": ""})
     came = re.sub(r"^\+[a-z]* \n", "", done.out, flags=re.M)
-    same(came, (EXAMPLES / f"debugged/{name}.told").read_text())
+    same(came, (EXAMPLES / f"debugged/{name}.out").read_text())
 
 
 def cases() -> list[Case]:

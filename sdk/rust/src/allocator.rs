@@ -1,4 +1,4 @@
-//! A bump allocator: blocks stand one behind the other. Only the last one can be given back or grow in place,
+//! A bump allocator: each block follows the one before. Only the last one can be freed or grow in place,
 //! since a call is short and starts with memory of its own.
 
 use core::{
@@ -37,7 +37,7 @@ impl Bump {
         self.0.get().max(free_memory().start)
     }
 
-    /// Reverts where the free memory is too short.
+    /// Reverts if the free memory is too short.
     fn take(&self, start: usize, size: usize) -> *mut u8 {
         match start.checked_add(size) {
             Some(end) if end <= free_memory().end => self.0.set(end),
@@ -51,7 +51,7 @@ impl Bump {
     }
 }
 
-// SAFETY: blocks do not overlap, since each begins where the one before ends.
+// SAFETY: blocks do not overlap, since each begins at the end of the one before.
 unsafe impl GlobalAlloc for Bump {
     unsafe fn alloc(&self, layout: Layout) -> *mut u8 {
         let next = self.next();

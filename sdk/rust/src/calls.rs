@@ -15,7 +15,7 @@ pub(crate) const LONGER: u32 = 0xffff_fffe;
 #[derive(Clone, Copy, Debug, PartialEq, Eq)]
 pub struct WrongLength;
 
-/// Copies the key's value into the buffer and lends these bytes; `None` where the key has no value. Refuses a
+/// Copies the key's value into the buffer and lends these bytes; `None` if the key has no value. Refuses a
 /// value that is longer than the buffer, and then nothing is copied.
 ///
 /// The buffer has at most [`VALUE_LIMIT`](crate::VALUE_LIMIT) bytes under rules one, where a read costs 200.
@@ -29,7 +29,7 @@ pub fn read<'a>(key: &Key, buffer: &'a mut [u8]) -> Result<Option<&'a [u8]>, Wro
     }
 }
 
-/// The key's value of `N` bytes; `None` where the key has no value. Refuses a value of another length.
+/// The key's value of `N` bytes; `None` if the key has no value. Refuses a value of another length.
 pub fn read_array<const N: usize>(key: &Key) -> Result<Option<[u8; N]>, WrongLength> {
     let mut value = [0; N];
     match read(key, &mut value)?.map(<[u8]>::len) {
@@ -53,7 +53,7 @@ pub fn remove(key: &Key) {
 /// Adds an amount to the number at the key, without reading it: calls that only add to a key do not conflict.
 ///
 /// The number is a value of 8 bytes, the lowest first; an absent key, and a value of another length, count as 0.
-/// The sum wraps at 2^64. Under rules three alone; else the call ends `unknown-call`.
+/// The sum wraps at 2^64. Under rules three alone; otherwise the call ends as `unknown-call`.
 pub fn add(key: &Key, amount: u64) {
     machine::add(key, amount);
 }

@@ -15,7 +15,7 @@ macro_rules! entry {
         #[cfg(target_arch = "riscv32")]
         #[no_mangle]
         extern "C" fn contract(input: *const u8, length: usize) -> ! {
-            // SAFETY: the machine lays the input there, and nothing else writes it.
+            // SAFETY: the machine puts the input there, and nothing else writes it.
             $crate::run($body, unsafe { core::slice::from_raw_parts(input, length) })
         }
 

@@ -1,7 +1,7 @@
 //! Runs a contract on the machine that compiles it: in tests by `cargo test`, under a debugger too.
 //!
-//! Gas is not counted, memory has no rights, and a static variable keeps between calls what it has, where on the ledger's
-//! machine each call starts anew.
+//! Gas is not counted, memory has no rights, and a static variable keeps its value between calls. On the ledger's machine
+//! each call starts from the program's file.
 
 use std::{
     any::Any,
@@ -76,7 +76,7 @@ impl Ledger {
         self.storage.remove(key);
     }
 
-    /// Calls the function that [`entry!`](crate::entry) names with a copy of the input. What it writes stays where it returned.
+    /// Calls the function that [`entry!`](crate::entry) names with a copy of the input. What it writes is kept if it returned.
     pub fn call<O, E>(&mut self, body: fn(&'static [u8]) -> Result<O, E>, input: &[u8]) -> Ending
     where
         O: ToOutput,

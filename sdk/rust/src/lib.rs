@@ -48,7 +48,7 @@ pub const KEYS_LIMIT: usize = 256;
 pub struct Key(pub [u8; KEY_LENGTH]);
 
 impl Key {
-    /// The bytes of a text, and zeros up to 32 bytes. Panics where the text is longer.
+    /// The bytes of a text, and zeros up to 32 bytes. Panics if the text is longer.
     pub const fn named(text: &str) -> Key {
         let text = text.as_bytes();
         let mut bytes = [0; KEY_LENGTH];

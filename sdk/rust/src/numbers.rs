@@ -1,11 +1,11 @@
-//! What stands in an input one behind the other, and numbers in decimal.
+//! The parts of an input, one after another, and numbers in decimal.
 
 use core::fmt;
 
 use crate::{revert, Account, Key, ACCOUNT_LENGTH};
 
-/// A place in an input. Each call below takes what stands there and goes on behind it; where too few bytes are left, the
-/// contract reverts. Of numbers the lowest byte stands first.
+/// A place in an input. Each call below takes what is there and moves past it; if too few bytes are left, the contract
+/// reverts. The lowest byte of a number comes first.
 #[derive(Clone, Debug)]
 pub struct Cursor<'a> {
     left: &'a [u8],
@@ -17,7 +17,7 @@ impl<'a> Cursor<'a> {
         Cursor { left: input }
     }
 
-    /// The bytes behind the place.
+    /// The bytes from the place on.
     pub const fn left(&self) -> &'a [u8] {
         self.left
     }
@@ -65,7 +65,7 @@ impl<'a> Cursor<'a> {
         Account::new(unsafe { *bytes.cast::<[u8; ACCOUNT_LENGTH]>() })
     }
 
-    /// Reverts where bytes are left.
+    /// Reverts if bytes are left.
     pub fn take_end(&self) {
         if !self.left.is_empty() {
             revert(b"the input is too long");

@@ -1,5 +1,5 @@
 //! SHA-256 (FIPS 180-4), and the keys of tables that are made by it. The numbers in brackets are its sections.
-//! A block of 64 bytes costs about 8,000 gas, and nothing where the compiler works it out.
+//! A block of 64 bytes costs about 8,000 gas, and nothing if the compiler works it out.
 
 use crate::Key;
 
@@ -10,7 +10,7 @@ pub const DIGEST_LENGTH: usize = 32;
 const BLOCK: usize = 64;
 /// The bytes that say how long the message is, at the end of the last block [5.1.1].
 const LENGTH_BYTES: usize = 8;
-/// The byte behind a message: a bit 1 and zeros [5.1.1].
+/// The byte after a message: a bit 1 and zeros [5.1.1].
 const END_OF_MESSAGE: u8 = 0x80;
 
 /// [4.2.2]

@@ -10,10 +10,10 @@ const SECOND: Key = Key::named("second");
 
 type Told = Result<Vec<u8>, &'static str>;
 
-/// A byte, a word, a number and a key, and nothing behind them.
+/// A byte, a word, a number and a key, and nothing after them.
 fn take_all(input: &[u8]) -> Told {
     let mut cursor = Cursor::over(input);
-    let told = (
+    let answer = (
         cursor.take_u8(),
         cursor.take_u32(),
         cursor.take_u64(),
@@ -21,7 +21,7 @@ fn take_all(input: &[u8]) -> Told {
     );
     cursor.take_end();
     let wanted = (1, 0x0504_0302, 0x0d0c_0b0a_0908_0706, FIRST);
-    if told == wanted {
+    if answer == wanted {
         Ok(vec![])
     } else {
         Err("other numbers")

@@ -87,16 +87,16 @@ fn claim(input: &mut Cursor) -> Told<u64> {
     let payee = ACCOUNTS.key(to);
     input.take_end();
     let mut payment = Payment::at(&key)?;
-    let told = payment.due(now()?) - payment.paid;
-    let balance = balance_at(&payee)?.checked_add(told).ok_or("the balance is too large")?;
-    payment.paid += told;
+    let paid = payment.due(now()?) - payment.paid;
+    let balance = balance_at(&payee)?.checked_add(paid).ok_or("the balance is too large")?;
+    payment.paid += paid;
     write(&payee, &balance.to_le_bytes());
     if payment.paid == payment.amount {
         remove(&key);
     } else {
         payment.write(&key);
     }
-    Ok(told)
+    Ok(paid)
 }
 
 entry!(run);

@@ -1,4 +1,4 @@
-/* Checks that do not hold: what they print stands in host.told. */
+/* Checks that do not hold: what they print is in host.out. */
 
 #include "host.h"
 

@@ -1,4 +1,4 @@
-/* Returns its input, or reverts with it where it begins with 0xff. */
+/* Returns its input, or reverts with it if it begins with 0xff. */
 
 #include "contract.h"
 
