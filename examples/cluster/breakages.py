@@ -1,4 +1,4 @@
-"""What can happen to a ledger of several nodes. Each fault is a function, whose first line says what it does, and answers what came."""
+"""What can happen to a ledger of several nodes. Each fault is a function that does it and returns a text of what happened."""
 
 import os
 import re
@@ -24,12 +24,12 @@ from networks import Network
 
 CALLS, PAUSE = 20, 0.3
 SECONDS_PARTED = 6
-KILLS = 3  # of a node with a file, one behind the other
+KILLS = 3  # of a node with a file, one after the other
 SECONDS_ALIVE = 3  # at most, before it is killed again
-SMALL_DISK = 'mount -t tmpfs -o size=64k none "$0" && exec "$@"'  # a dump has more
+SMALL_DISK = 'mount -t tmpfs -o size=64k none "$0" && exec "$@"'  # smaller than a dump
 SECONDS_A_STRANGER = 120
 TRIES_FOR_A_FILE = 50
-FROM_A_FILE = "goes on from its file"
+FROM_A_FILE = "continues from its file"
 FAKETIME = Path("/usr/lib/x86_64-linux-gnu/faketime/libfaketime.so.1")  # of Debian's package libfaketime
 
 
@@ -55,13 +55,13 @@ class Trial:
         say(("" if is_so else "WRONG: ") + text)
 
     def inject(self, fault: "Fault") -> None:
-        """Does what a fault is, appends a block behind it, and waits until all nodes have run that."""
+        """Injects a fault, appends a block after it, and waits until all nodes have run that block."""
         self.faults += 1
         try:
-            told = fault(self)
+            happened = fault(self)
             self.cluster.append(transfers.transfers(self.random, CALLS))
             seconds = self.cluster.settle(self.names)
-            self.expect(True, f"{fault.__name__.replace('_', ' ')}: {told}; all nodes at height {self.cluster.heights()} {seconds:.1f} s later")
+            self.expect(True, f"{fault.__name__.replace('_', ' ')}: {happened}; all nodes at height {self.cluster.heights()} {seconds:.1f} s later")
         except (OSError, ValueError) as error:
             self.expect(False, f"{fault.__name__.replace('_', ' ')}: {error}")
         for name in [*self.names, *self.proposers]:
@@ -73,19 +73,19 @@ class Trial:
         return self.random.choice(self.names)
 
     def engine(self, name: str) -> int | None:
-        """The process of a node's engine, if it is one that the node has told already."""
-        told = re.findall(r"engine (\d+|in this process)", self.cluster.log(name))
-        return int(told[-1]) if told and told[-1].isdigit() else None
+        """The process of a node's engine, if the node has printed one."""
+        found = re.findall(r"engine (\d+|in this process)", self.cluster.log(name))
+        return int(found[-1]) if found and found[-1].isdigit() else None
 
     def engine_of(self, name: str) -> int:
-        """The process of an engine that is one."""
+        """The process of a node's engine, which must be one."""
         pid = self.engine(name)
         if pid is None:
-            raise ValueError(f"the engine of {name} is no process")
+            raise ValueError(f"the engine of {name} is not a process")
         return pid
 
     def again(self, name: str) -> None:
-        """Starts a node, and waits until it has run a block that is new."""
+        """Starts a node, and waits until it has run a new block."""
         self.cluster.node(name)
         self.cluster.append(transfers.transfers(self.random, CALLS))
         self.cluster.settle([name])
@@ -97,7 +97,7 @@ class Trial:
     def count_of(self, name: str, text: str) -> int:
         return self.cluster.log(name).count(text)
 
-    def told_last(self, name: str, text: str) -> str:
+    def last_line(self, name: str, text: str) -> str:
         return [line for line in self.cluster.log(name).splitlines() if text in line][-1].split(" ", 2)[2]
 
     def stop(self, name: str, seconds: float) -> None:
@@ -107,7 +107,7 @@ class Trial:
         self.cluster.all[name].send_signal(signal.SIGCONT)
 
     def part(self, name: str) -> None:
-        """Parts a process from all others for a while, or stops it where there are no networks."""
+        """Cuts a process off from all others for a while, or stops it if there are no networks."""
         network = self.cluster.network
         if not isinstance(network, Network):
             return self.stop(name, SECONDS_PARTED)
@@ -118,7 +118,7 @@ class Trial:
     def stranger(
         self, name: str, *words: object, script: str = "node", under: Sequence[str | Path] = (), env: Mapping[str, str] | None = None
     ) -> str:
-        """A node beside the others, which is ended when it has come to the last height. Answers what it said."""
+        """Runs a node beside the others until it has reached the last height. Returns what it printed."""
         shutil.rmtree(self.cluster.folder / name, ignore_errors=True)
         self.cluster.logs.pop(name, None)
         (self.cluster.folder / f"{name}.log").unlink(missing_ok=True)
@@ -126,10 +126,10 @@ class Trial:
         height, until = self.cluster.heights(), time.monotonic() + SECONDS_A_STRANGER
         while not self.cluster.is_at(name, height) and self.cluster.all[name].poll() is None and time.monotonic() < until:
             time.sleep(0.1)
-        told = self.cluster.log(name)
+        printed = self.cluster.log(name)
         self.cluster.all[name].kill()
         self.cluster.all.pop(name).wait()
-        return told
+        return printed
 
     def end(self) -> int:
         """The last audit, and the controls."""
@@ -154,7 +154,7 @@ def node_killed(trial: Trial) -> str:
 
 
 def node_with_a_file_killed(trial: Trial) -> str:
-    """Its folder with the dumps goes too: the file has to do."""
+    """Its folder with the dumps is removed too: the node must continue from its file."""
     name, cluster = trial.random.choice(WITH_FILES), trial.cluster
     before = trial.count_of(name, FROM_A_FILE)
     for _ in range(KILLS):
@@ -167,7 +167,7 @@ def node_with_a_file_killed(trial: Trial) -> str:
     came = trial.count_of(name, FROM_A_FILE) - before
     if not came or "takes the dump" in cluster.log(name):
         raise ValueError(f"{name} did not go by its file")
-    return f"{name} {KILLS + 1} times by kill -9, and started again without its folder; it went on from its file {came} times"
+    return f"{name} {KILLS + 1} times by kill -9, and started again without its folder; it continued from its file {came} times"
 
 
 def engine_with_a_file_killed(trial: Trial) -> str:
@@ -179,7 +179,7 @@ def engine_with_a_file_killed(trial: Trial) -> str:
     trial.cluster.settle([name])
     if trial.count_of(name, FROM_A_FILE) == before:
         raise ValueError(f"{name} did not go by its file")
-    return f"that of {name} by kill -9, and it {trial.told_last(name, FROM_A_FILE)}"
+    return f"the one of {name} by kill -9, and the node {trial.last_line(name, FROM_A_FILE)}"
 
 
 def all_nodes_killed(trial: Trial) -> str:
@@ -194,7 +194,7 @@ def engine_killed(trial: Trial) -> str:
     name = trial.random.choice([name for name in trial.names if trial.engine(name)])
     os.kill(trial.engine_of(name), signal.SIGKILL)
     trial.cluster.kills.append("engine")
-    return f"that of {name} by kill -9"
+    return f"the one of {name} by kill -9"
 
 
 def engine_stopped(trial: Trial) -> str:
@@ -203,7 +203,7 @@ def engine_stopped(trial: Trial) -> str:
     os.kill(pid, signal.SIGSTOP)
     time.sleep(3)
     os.kill(pid, signal.SIGCONT)
-    return f"that of {name} for 3 s by SIGSTOP"
+    return f"the one of {name} for 3 s by SIGSTOP"
 
 
 def leader_killed(trial: Trial) -> str:
@@ -212,7 +212,7 @@ def leader_killed(trial: Trial) -> str:
     new = trial.cluster.leader()
     time.sleep(2)
     trial.cluster.member(leader)
-    return f"m{leader} by kill -9; m{new} led then"
+    return f"m{leader} by kill -9; then m{new} was the leader"
 
 
 def leader_stopped(trial: Trial) -> str:
@@ -272,27 +272,27 @@ def strange_blocks(trial: Trial) -> str:
 
 def compaction(trial: Trial) -> str:
     name, cluster = trial.node(), trial.cluster
-    before = trial.count_of(name, "reads the log anew")
+    before = trial.count_of(name, "reads the log again")
     cluster.kill(name)
     cluster.client.ask("kv/compaction", {"revision": cluster.client.range(etcd.keys(ledger.PRUNED))[0], "physical": True})
     trial.again(name)
-    said = "read the log anew" if trial.count_of(name, "reads the log anew") > before else "began behind that revision"
-    return f"{name} was killed before, and {said}"
+    how = "read the log again" if trial.count_of(name, "reads the log again") > before else "began after that revision"
+    return f"{name} was killed before, and {how}"
 
 
 def pruning(trial: Trial) -> str:
-    trial.wrong += trial.cluster.audit()  # of what is there now: nodes that are behind have less
-    told = ledger.by_height(audits.all_below(trial.cluster.client, ledger.DIGESTS))
+    trial.wrong += trial.cluster.audit()  # of what is there now: slow nodes have less
+    published = ledger.by_height(audits.all_below(trial.cluster.client, ledger.DIGESTS))
     height, gone = ledger.prune(trial.cluster.client, 2, 2)
-    trial.digests_pruned += sum(len(values) for at, values in told.items() if at < height)
-    said = trial.stranger("alone", "--alike", "9")
-    if gone and "STOPS" not in said:
-        raise ValueError("a node from nothing did not stop")
-    return f"{gone} blocks are gone, the log begins behind height {height}; a node from nothing said: {said.splitlines()[-1].split(' ', 1)[1]}"
+    trial.digests_pruned += sum(len(values) for at, values in published.items() if at < height)
+    printed = trial.stranger("alone", "--agreeing", "9")
+    if gone and "STOPS" not in printed:
+        raise ValueError("a new node did not stop")
+    return f"{gone} blocks are gone, the log begins after height {height}; a new node printed: {printed.splitlines()[-1].split(' ', 1)[1]}"
 
 
 def late_node(trial: Trial) -> str:
-    return "one from nothing: " + trial.stranger("late").splitlines()[1].split(" ", 1)[1]
+    return "a new one: " + trial.stranger("late").splitlines()[1].split(" ", 1)[1]
 
 
 def damaged_dump(trial: Trial) -> str:
@@ -308,8 +308,8 @@ def damaged_dump(trial: Trial) -> str:
     trial.again(name)
     if trial.count_of(name, "refuses the dump") == before:
         return f"{name} has made a newer one meanwhile"
-    told = trial.cluster.log(name).rpartition("refuses the dump")[2].splitlines()
-    return f"{name} refused its own, and {next((line.split(' ', 2)[2] for line in told if 'takes the dump' in line or 'begins' in line), 'went on')}"
+    lines = trial.cluster.log(name).rpartition("refuses the dump")[2].splitlines()
+    return f"{name} refused its own, and {next((line.split(' ', 2)[2] for line in lines if 'takes the dump' in line or 'begins' in line), 'continued')}"
 
 
 def full_disk(trial: Trial) -> str:
@@ -323,47 +323,47 @@ def full_disk(trial: Trial) -> str:
         if trial.count_of(name, "keeps no dump") > before:
             break
         time.sleep(0.1)
-    told = trial.cluster.wait_for(name, "keeps no dump")
+    line = trial.cluster.wait_for(name, "keeps no dump")
     trial.cluster.kill(name)
     trial.cluster.node(name)
-    return f"64 KiB for {told.split(' ', 1)[1]}, and it went on; it is started again on the other disk"
+    return f"64 KiB for {line.split(' ', 1)[1]}, and it continued; it is started again on the other disk"
 
 
 def full_disk_of_a_file(trial: Trial) -> str:
-    """The node has to stop by name."""
+    """The node must stop and say why."""
     place = trial.cluster.folder / "small-file"
     place.mkdir(exist_ok=True)
-    told = trial.stranger("full", "--store", place / "file", under=["unshare", "-m", "sh", "-c", SMALL_DISK, place])
-    if "failed store Full 8" not in told.splitlines()[-1]:
-        raise ValueError(f"the node said: {told.splitlines()[-1]}")
-    return f"64 KiB; a node from nothing said: {told.splitlines()[-1].split(' ', 1)[1]}"
+    last = trial.stranger("full", "--store", place / "file", under=["unshare", "-m", "sh", "-c", SMALL_DISK, place]).splitlines()[-1]
+    if "failed store Full 8" not in last:
+        raise ValueError(f"the node printed: {last}")
+    return f"64 KiB; a new node printed: {last.split(' ', 1)[1]}"
 
 
 def two_nodes_on_one_file(trial: Trial) -> str:
-    """The second one has to stop by name."""
-    told = trial.stranger("twin", "--store", trial.cluster.folder / f"{trial.random.choice(WITH_FILES)}.store")
-    if "store Busy 1" not in told.splitlines()[-1]:
-        raise ValueError(f"the node said: {told.splitlines()[-1]}")
-    return told.splitlines()[-1].split(" ", 1)[1]
+    """The second one must stop and say why."""
+    last = trial.stranger("twin", "--store", trial.cluster.folder / f"{trial.random.choice(WITH_FILES)}.store").splitlines()[-1]
+    if "store Busy 1" not in last:
+        raise ValueError(f"the node printed: {last}")
+    return last.split(" ", 1)[1]
 
 
 def damaged_file(trial: Trial) -> str:
-    """One bit of a program in a file. The node has to stop by name, and to begin with a dump where it is told to."""
+    """Changes one bit of a program in a file. The node must stop and say why; with --reset it must begin with a dump."""
     file = trial.cluster.folder / f"spoilt-{trial.faults}.store"
     trial.stranger("spoilt", "--store", file)
     flip_in_a_program(file)
-    told = trial.stranger("refused", "--store", file)  # by a name that has published nothing yet
-    if "is refused: rvstm: store Damaged 7; started with --anew" not in told.splitlines()[-1]:
-        raise ValueError(f"the node said: {told.splitlines()[-1]}")
-    told = trial.stranger("anew", "--store", file, "--anew")
-    if "keeps the refused file" not in told or "STOPS" in told:
-        raise ValueError(f"the node said: {told.splitlines()[-1]}")
-    begun = [line for line in told.splitlines() if "begins at" in line][-1]
-    return f"a node stopped by name; with --anew it {begun.split(' ', 2)[2]}"
+    last = trial.stranger("refused", "--store", file).splitlines()[-1]  # a name that has published nothing yet
+    if "is refused: rvstm: store Damaged 7; with --reset" not in last:
+        raise ValueError(f"the node printed: {last}")
+    lines = trial.stranger("reset", "--store", file, "--reset").splitlines()
+    if not any("keeps the refused file" in line for line in lines) or any("STOPS" in line for line in lines):
+        raise ValueError(f"the node printed: {lines[-1]}")
+    begun = [line for line in lines if "begins at" in line][-1]
+    return f"a node stopped and said why; with --reset it {begun.split(' ', 2)[2]}"
 
 
 def flip_in_a_program(path: Path) -> None:
-    """Changes one bit of a program in a file, when a session has brought all that was kept into it."""
+    """Changes one bit of a program in a file, after a session has copied its log into it."""
     of_session = {word: transfers.SETTINGS[word] for word in ("frame_limit", "frame_gas", "brief")}
     for _ in range(TRIES_FOR_A_FILE):  # the engine of a killed node may have it for a moment
         if Session(engines.rvstm(), Settings(digest=True, store=str(path), **of_session)).end().status == 0:
@@ -376,8 +376,8 @@ def flip_in_a_program(path: Path) -> None:
 
 def clock_wrong(trial: Trial) -> str:
     if not FAKETIME.exists():
-        return "there is no faketime here"
-    name, plain = trial.node(), trial.cluster.folder / "rvstm-in-time"  # an engine reads no clock, and a preview takes no faketime
+        return "libfaketime is not installed"
+    name, plain = trial.node(), trial.cluster.folder / "rvstm-in-time"  # an engine reads no clock, and a preview does not run with faketime
     plain.write_text(f'#!/bin/sh\nunset LD_PRELOAD\nexec {engines.rvstm()} "$@"\n')
     plain.chmod(0o755)
     trial.cluster.kill(name)
@@ -387,17 +387,17 @@ def clock_wrong(trial: Trial) -> str:
     time.sleep(SECONDS_PARTED)
     trial.cluster.kill(name)
     trial.cluster.node(name)
-    return f"that of {name} by {clock['FAKETIME']} for {SECONDS_PARTED} s; it is started again"
+    return f"the clock of {name} by {clock['FAKETIME']} for {SECONDS_PARTED} s; it is started again"
 
 
 def two_nodes_in_one_folder(trial: Trial) -> str:
-    """The second one has to stop by name."""
+    """The second one must stop and say why."""
     name, cluster = trial.node(), trial.cluster
     cluster.start("twin", sys.executable, HERE / "node", "--etcd", cluster.urls, "--name", "twin", "--folder", cluster.folder / name)
-    told = cluster.wait_for("twin", "STOPS")
+    line = cluster.wait_for("twin", "STOPS")
     cluster.all.pop("twin").wait()
     cluster.logs.pop("twin").unlink()
-    return told.split(" ", 1)[1]
+    return line.split(" ", 1)[1]
 
 
 def two_nodes_of_one_name(trial: Trial) -> str:
@@ -413,7 +413,7 @@ def two_nodes_of_one_name(trial: Trial) -> str:
 
 
 def member_replaced(trial: Trial) -> str:
-    """Ends a member for good, and puts a new one, with nothing, in its place."""
+    """Removes a member, and adds a new one with an empty folder."""
     number = trial.random.randrange(MEMBERS)
     cluster = trial.cluster
     members = {member["name"]: member for member in cluster.client.ask("cluster/member/list", {})["members"]}
@@ -422,11 +422,11 @@ def member_replaced(trial: Trial) -> str:
     once(cluster, "cluster/member/remove", {"ID": members[f"m{number}"]["ID"]})
     once(cluster, "cluster/member/add", {"peerURLs": [cluster.peers[number]]})
     cluster.member(number, "existing")
-    return f"m{number} by a new one, from nothing"
+    return f"m{number} by a new one with an empty folder"
 
 
 def once(cluster: Cluster, path: str, body: Object) -> None:
-    """Asks for what etcd refuses where it was done by an earlier request, whose answer was lost."""
+    """Makes a request that etcd refuses if an earlier one, whose answer was lost, has done it."""
     try:
         cluster.client.ask(path, body)
     except etcd.Refused as error:
@@ -434,7 +434,7 @@ def once(cluster: Cluster, path: str, body: Object) -> None:
 
 
 def controls(trial: Trial) -> None:
-    """A node that lies once and one that runs a changed program: both have to be named."""
+    """Runs a node that lies once, and one with a changed program. Nodes and audit must name both."""
     cluster, height = trial.cluster, trial.cluster.heights() + 3
     cluster.node("liar", script="liar", env={**os.environ, "LIE_AT": str(height)})
     cluster.wait_for("liar", "begins at")

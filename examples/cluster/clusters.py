@@ -26,7 +26,7 @@ from etcd import Object
 HERE = Path(__file__).resolve().parent
 MEMBERS = 3
 WITH_FILES = ("n2", "n3")  # nodes that keep their session in a file
-SECONDS_FOR_ETCD = 300  # a machine with much else to do takes its time
+SECONDS_FOR_ETCD = 300  # a busy machine is slow
 STARTED = time.monotonic()
 HEIGHT = re.compile(r"height (\d+)")
 
@@ -39,7 +39,7 @@ def say(text: str) -> None:
 
 
 def free_ports(count: int) -> list[int]:
-    """Ports that nobody has now."""
+    """Ports that are free now."""
     lines = [socket.create_server(("127.0.0.1", 0)) for _ in range(count)]
     ports = [line.getsockname()[1] for line in lines]
     for line in lines:
@@ -52,7 +52,7 @@ def end_with_parent() -> None:
 
 
 def changed_program(path: Path) -> Path:
-    """Makes a program that differs from rvstm in one letter of what it answers."""
+    """Makes a program whose answers differ from those of rvstm in one letter."""
     data = Path(engines.rvstm()).read_bytes()
     if b"returned" not in data:
         raise ValueError("the program has no word to change")
@@ -62,7 +62,7 @@ def changed_program(path: Path) -> Path:
 
 
 def engines_known(folder: Path = Path()) -> dict[str, list[Word]]:
-    """How the four nodes run blocks: two have a file, and the last one goes by the library for C, where it is built."""
+    """The options of the four nodes: two have a file, and the last one uses the library for C, if it is built."""
     library = os.environ.get("RVSTM_LIBRARY") or (str(BUILT) if BUILT.is_file() else "")
     files: dict[str, list[Word]] = {name: ["--store", folder / f"{name}.store"] for name in WITH_FILES}
     known: dict[str, list[Word]] = {"n1": [], "n2": ["--workers", "2", *files["n2"]], "n3": ["--workers", "4", *files["n3"]]}
@@ -72,7 +72,7 @@ def engines_known(folder: Path = Path()) -> dict[str, list[Word]]:
 class Cluster:
     def __init__(self, folder: str | Path, network: AnyNetwork | None = None) -> None:
         if not shutil.which("etcd"):
-            raise ValueError("there is no etcd: Debian's package etcd-server has it")
+            raise ValueError("etcd is missing: install Debian's package etcd-server")
         self.folder, self.random = Path(folder), random.Random(1)
         self.network: AnyNetwork = network or networks.Loopback()
         self.folder.mkdir(parents=True)
@@ -138,7 +138,7 @@ class Cluster:
         return etcd.Etcd([self.clients[number]], 0).ask("maintenance/status", {})
 
     def leader(self) -> int:
-        """The number of the leader, which a new election may take a while to find."""
+        """The number of the leader. A new election may last a while."""
         for _ in range(100):
             for number in range(MEMBERS):
                 try:
@@ -153,7 +153,7 @@ class Cluster:
     # ---- nodes and proposers
 
     def begin(self, block: bytes | None = None, **settings: object) -> None:
-        """Starts the members, and puts a genesis, that of the demonstration unless told, with settings beside its own."""
+        """Starts the members, and puts a genesis, by default the one of the demonstration, and the settings."""
         for number in range(MEMBERS):
             self.member(number)
         self.trial = ledger.Proposer("trial", self.client)
@@ -178,7 +178,7 @@ class Cluster:
         return self.client.need(ledger.NODES + name).value.decode()
 
     def heights(self) -> int:
-        """How many blocks the log has had."""
+        """How many blocks the log has had, pruned ones included."""
         gone = ledger.pruned(self.client)[0]
         return self.client.count(ledger.BLOCKS) + (gone or 1)
 
@@ -187,34 +187,34 @@ class Cluster:
         return ledger.digests(self.client, height, height).get(height, {})
 
     def reach(self, name: str, height: int, seconds: float = SECONDS_FOR_ETCD) -> None:
-        """Waits until a node published the digest of a height."""
+        """Waits until a node has published the digest of a height."""
         self.settle([name], seconds, height)
 
     def settle(self, names: Sequence[str], seconds: float = SECONDS_FOR_ETCD, height: int | None = None) -> float:
-        """Waits until nodes published a digest of a height or above, or of the last one, and answers how long that took."""
+        """Waits until nodes have published a digest of a height or above, by default of the last one. Returns how long that lasted."""
         began, wanted = time.monotonic(), height or self.heights()
         while away := [name for name in names if not self.is_at(name, wanted)]:
             if time.monotonic() - began > seconds:
-                raise ValueError(f"{', '.join(away)} did not come to height {wanted}")
+                raise ValueError(f"{', '.join(away)} did not reach height {wanted}")
             time.sleep(0.1)
         return time.monotonic() - began
 
     def is_at(self, name: str, height: int) -> bool:
-        """Whether a node published a digest of a height or above; one that began with a dump passed over those before."""
+        """Whether a node has published a digest of a height or above. A node that began with a dump skipped those before."""
         prefix = f"{ledger.DIGESTS}{name}/"
-        return bool(self.client.range(etcd.keys(ledger.at(ledger.DIGESTS, name, height), etcd.behind(prefix), limit=1))[1])
+        return bool(self.client.range(etcd.keys(ledger.at(ledger.DIGESTS, name, height), etcd.after(prefix), limit=1))[1])
 
     def wait_for(self, name: str, text: str, seconds: int = SECONDS_FOR_ETCD) -> str:
-        """Waits until a process says something, and answers the line."""
+        """Waits until a process prints a text, and returns the line."""
         for _ in range(10 * seconds):
             lines = [line for line in self.log(name).splitlines() if text in line]
             if lines:
                 return lines[-1]
             time.sleep(0.1)
-        raise ValueError(f"{name} did not say '{text}'")
+        raise ValueError(f"{name} did not print '{text}'")
 
     def audit(self, names: Sequence[str] = ()) -> int:
-        """Says what an audit finds, and answers how many things are wrong."""
+        """Prints what an audit finds, and returns how many things are wrong."""
         wrong, seen = audits.audit(self.client, names)
         for line in wrong:
             say(f"WRONG: {line}")

@@ -1,4 +1,4 @@
-"""The sessions that run a node's blocks: a process of `rvstm chain`, or the library for C. Both answer the same requests alike."""
+"""The sessions that run a node's blocks: a process of `rvstm chain`, or the library for C. Both give the same answers."""
 
 import ctypes
 import os
@@ -23,14 +23,14 @@ from rvstm_tools.sessions.requests import WITH_BODY, Request
 BUILT = TOP / "crates/rvstm_c/out/embedded/librvstm.so"
 C_LIBRARY = ctypes.CDLL(None)
 PR_SET_PDEATHSIG = 1
-# Ten times what the gas takes in order, and some seconds for what is read and written.
+# Ten times what the gas needs in order, and some seconds for reading and writing.
 GAS_A_SECOND, SECONDS_BESIDE = 20_000_000, 20
 DONE, REFUSED, FAILED = 0, 1, 4
 NO_LIMIT = 2**64 - 1
 
 
 class Ended(Exception):
-    """The engine died, or failed, which says nothing of the block: another engine runs it again."""
+    """The engine died or failed. That says nothing about the block: another engine runs it again."""
 
 
 def rvstm() -> str:
@@ -39,14 +39,14 @@ def rvstm() -> str:
 
 
 def end_with_node(node: int) -> None:
-    """Ends the process where the thread of the node that started it ends."""
+    """Lets the process end with the thread of the node that started it."""
     C_LIBRARY.prctl(PR_SET_PDEATHSIG, signal.SIGKILL)
     if os.getppid() != node:
         os._exit(1)
 
 
 class Process(Session):
-    """A process that ends with its node, and is killed where it does not answer in time."""
+    """A process that ends with its node, and is killed if it does not answer in time."""
 
     def __init__(self, settings: Settings) -> None:
         pipe, node = subprocess.PIPE, os.getpid()
@@ -68,15 +68,15 @@ class Process(Session):
         try:
             answer = super().ask(request)
             if answer is None:
-                raise Ended(self.told_at_its_end() or "the process died")
+                raise Ended(self.error_text() or "the process died")
         except (OSError, UserError) as error:
             raise Ended(str(error)) from error
         finally:
             self.until = None
         return answer
 
-    def told_at_its_end(self) -> str:
-        """What stands on standard error, as why its file is refused."""
+    def error_text(self) -> str:
+        """What it wrote on standard error, such as why its file is refused."""
         self.process.wait()
         assert self.process.stderr is not None
         return self.process.stderr.read().decode(errors="backslashreplace").strip()
@@ -89,7 +89,7 @@ class Process(Session):
         self.process.stderr.close()
         try:
             self.process.stdin.close()
-        except BrokenPipeError:  # bytes of a request that the process did not take
+        except BrokenPipeError:  # the process did not read all bytes of a request
             pass
 
 
@@ -118,7 +118,7 @@ class Parts(ctypes.Structure):
 
 
 class Library:
-    """A session of the library, in the node's own process. Nothing bounds its time but the gas."""
+    """A session of the library, in the node's own process. Only the gas bounds its time."""
 
     pid: int | None = None
 
@@ -132,7 +132,7 @@ class Library:
             raise Ended(f"rvstm_open_with answers {status}")
 
     def ask(self, request: Request) -> Answer:
-        """The answer to a request, as a process gives it."""
+        """The answer to a request, in the form of a process."""
         words: list[object] = []
         for field in request.fields:
             is_number = len(field) <= 10 and field.isdigit()
@@ -162,7 +162,7 @@ class Library:
 
 
 class Engine(Protocol):
-    """What answers requests: a process, the library, or in tests something in their place."""
+    """What answers requests: a process, the library, or a stub in tests."""
 
     pid: int | None
 

@@ -1,4 +1,4 @@
-"""What all parts of the ledger agree on: its keys in etcd, its log, which blocks a node refuses, and who differs from whom.
+"""What all parts of the ledger agree on: its keys in etcd, its log, which blocks a node refuses, and which nodes differ.
 
     /log/genesis              the first block, which alone may have `store` lines
     /log/programs/SHA256      a program
@@ -6,11 +6,11 @@
     /parts/NAME/NUMBER/PART   a part of a longer block
     /settings                 of all sessions, in JSON; put with the genesis
     /digests/NODE/HEIGHT      the digest of a node's session at a height, and the revision of the block there
-    /dumps/NODE/HEIGHT        the SHA-256 of a node's dump at a height, the digest and the revision
+    /dumps/NODE/HEIGHT        the SHA-256 of a node's dump at a height, the digest, and the revision
     /nodes/NODE               where a node answers by HTTP
     /pruned                   the last height whose block may be gone from the log, and its revision
 
-The order of the log is that of the revisions at which its keys were made. The genesis is the first entry; blocks before it are none.
+The log has the order of the revisions at which its keys were made. The genesis is its first entry; blocks before it do not count.
 """
 
 import hashlib
@@ -24,7 +24,7 @@ from typing import NamedTuple
 
 import etcd
 from etcd import Etcd, Object, Pair
-from etcd import behind, below, delete, is_absent, is_there, keep, keys, put, read
+from etcd import below, delete, is_absent, is_there, keep, keys, put, read
 
 LOG, PARTS, DIGESTS, DUMPS, NODES = "/log/", "/parts/", "/digests/", "/dumps/", "/nodes/"
 PRUNED, SETTINGS = "/pruned", "/settings"
@@ -54,7 +54,7 @@ class Mark(NamedTuple):
 
 
 class AgreedDump(NamedTuple):
-    """A dump that enough nodes made alike: where, its SHA-256, and the names of the nodes."""
+    """A dump on which enough nodes agree: its mark, its SHA-256, and the names of these nodes."""
 
     mark: Mark
     content: str
@@ -74,7 +74,7 @@ def at(prefix: str, name: str, height: int) -> str:
 
 
 def by_height(pairs: Iterable[Pair]) -> Values:
-    """Of digests or dumps the values by height and name."""
+    """The values of digests or dumps, by height and name."""
     found: Values = {}
     for pair in pairs:
         place = PLACE.fullmatch(pair.key)
@@ -85,17 +85,17 @@ def by_height(pairs: Iterable[Pair]) -> Values:
 
 
 def digests(client: Etcd, first: int, last: int) -> Values:
-    """What all nodes published from a height on to another, by height and name."""
+    """What all nodes published from one height to another, by height and name."""
     names = [pair.key.removeprefix(NODES) for pair in client.range(below(NODES, keys_only=True))[1]]
     wanted = [read(keys(at(DIGESTS, name, first), at(DIGESTS, name, last + 1))) for name in names]
-    _, told = client.transact([], wanted)
-    return by_height(pair for pairs in etcd.pairs_read(told) for pair in pairs)
+    _, reply = client.transact([], wanted)
+    return by_height(pair for pairs in etcd.pairs_read(reply) for pair in pairs)
 
 
-def different_from(name: str, told: Mapping[str, str]) -> tuple[list[str], bool]:
-    """The names that say otherwise at a height than one does, and whether they are most of all."""
-    others = sorted(other for other, value in told.items() if value != told[name])
-    return others, 2 * len(others) > len(told)
+def different_from(name: str, values: Mapping[str, str]) -> tuple[list[str], bool]:
+    """The nodes that published another value at a height than this one, and whether they are more than half of all."""
+    others = sorted(other for other, value in values.items() if value != values[name])
+    return others, 2 * len(others) > len(values)
 
 
 # ---- entries of the log
@@ -118,7 +118,7 @@ def pruned(client: Etcd) -> tuple[int, int]:
 
 
 def block_of(client: Etcd, pair: Pair, limit: int) -> bytes | None:
-    """The bytes of a block, or None where an entry stands for none, which all nodes see alike. A limit of 0 is none."""
+    """The bytes of a block, or None if the entry has none: all nodes find the same. A limit of 0 is no limit."""
     head = HEAD.match(pair.value)
     if not head:
         return None
@@ -134,7 +134,7 @@ def block_of(client: Etcd, pair: Pair, limit: int) -> bytes | None:
 
 
 def whole(client: Etcd, pair: Pair, digests: Sequence[str]) -> bytes | None:
-    """The bytes of a block in parts, or None. A part counts that was made before the entry, and was kept by it."""
+    """The bytes of a block in parts, or None. A part counts if it was made before the entry, and the entry kept it."""
     parts = []
     for number, digest in enumerate(digests):
         part = client.get(f"{parts_of_key(pair.key)}{number:03d}")
@@ -147,16 +147,16 @@ def whole(client: Etcd, pair: Pair, digests: Sequence[str]) -> bytes | None:
 
 
 def is_refused(block: bytes, is_genesis: bool) -> bool:
-    """Whether a node refuses a block before its session sees it, which all nodes do alike: `store` lines mint."""
+    """Whether a node refuses a block before its session sees it. All nodes must find the same. `store` lines mint."""
     return not is_genesis and re.search(rb"^store ", block, re.M) is not None
 
 
-# ---- who writes
+# ---- writers
 
 
 class Proposer:
-    """Appends entries. Each block has a key of its own, so that one whose answer was lost is not appended twice, and no proposer
-    waits for another: the order is that of etcd's revisions."""
+    """Appends entries. Each block has its own key, so a block whose answer was lost is not appended twice, and no proposer waits for
+    another. The order is that of etcd's revisions."""
 
     def __init__(self, name: str, client: Etcd) -> None:
         self.name, self.client, self.number = f"{name}.{secrets.token_hex(4)}", client, 0
@@ -166,23 +166,23 @@ class Proposer:
         self.client.transact([is_absent(key)], [put(key, file)])
 
     def begin(self, block: bytes, settings: Mapping[str, object]) -> bool:
-        """Puts the genesis and the settings, and answers whether none was there before."""
+        """Puts the genesis and the settings. Returns whether none was there before."""
         return self.put_block(GENESIS, block, [is_absent(SETTINGS)], [put(SETTINGS, json.dumps(settings))])[0]
 
     def append(self, block: bytes, between: Callable[[], None] = lambda: None) -> int:
-        """Appends a block, and answers its revision."""
+        """Appends a block, and returns its revision."""
         self.number += 1
         key = f"{BLOCKS}{self.name}/{self.number:010d}"
         while True:
-            done, told = self.put_block(key, block, [is_there(GENESIS)], [], between)
+            done, reply = self.put_block(key, block, [is_there(GENESIS)], [], between)
             if done:
-                return int(told["header"]["revision"])
+                return int(reply["header"]["revision"])
             pair = self.client.get(key)
             if pair:  # an answer was lost
                 return pair.made
             if not self.client.get(GENESIS):
-                raise ValueError("there is no genesis: propose --genesis puts it")
-            # else the parts are gone, since their time ran out: they are put anew
+                raise ValueError("the log has no genesis: put one with propose --genesis")
+            # otherwise the time of the parts ran out: they are put again
 
     def put_block(
         self, key: str, block: bytes, compare: Sequence[Object], beside: Sequence[Object], between: Callable[[], None] = lambda: None
@@ -202,48 +202,48 @@ class Proposer:
         return self.client.transact([is_absent(key), *compare, *map(is_there, names)], success)
 
 
-# ---- who reads
+# ---- readers
 
 
 class Log:
-    """The entries behind a revision, in their order, as they come."""
+    """The entries after a revision, in their order, as they come."""
 
     def __init__(self, urls: str | Iterable[str], revision: int) -> None:
         self.client, self.revision = etcd.Etcd(urls, math.inf), revision
         self.say: Callable[[str], None] = print
 
     def batches(self) -> Iterator[list[Pair]]:
-        """Lists of entries; an empty one where none came for a second."""
+        """Lists of entries; an empty one if none came for a second."""
         while True:
             try:
                 for pairs in self.client.watch(LOG, self.revision + 1, SECONDS_OF_QUIET):
                     changed = [pair.key for pair in pairs if pair.made != pair.changed]
                     if changed:
-                        self.say(f"goes by what {', '.join(changed)} was before: it was changed")
+                        self.say(f"uses the old value of {', '.join(changed)}, which was changed")
                     yield self.checked([pair for pair in pairs if pair.made == pair.changed])
                 yield []
             except etcd.Compacted as error:
-                self.say(f"watches from revision {self.revision + 1}, and etcd was compacted to {error}: reads the log anew")
+                self.say(f"watches from revision {self.revision + 1}, and etcd was compacted to {error}: reads the log again")
                 yield from self.read()
 
     def read(self) -> Iterator[list[Pair]]:
         """The entries that are there now."""
         wanted = below(LOG, keys_only=True, min_create_revision=self.revision + 1, sort_target="CREATE", sort_order="ASCEND")
-        _, told = self.client.transact([], [read(wanted), read(keys(PRUNED))])
-        now, (entries, marks) = int(told["header"]["revision"]), etcd.pairs_read(told)
+        _, reply = self.client.transact([], [read(wanted), read(keys(PRUNED))])
+        now, (entries, marks) = int(reply["header"]["revision"]), etcd.pairs_read(reply)
         if marks and int(marks[0].value.split()[1]) > self.revision:
-            raise Gone(f"the log begins behind height {int(marks[0].value.split()[0])}")
+            raise Gone(f"the log begins after height {int(marks[0].value.split()[0])}")
         for start in range(0, len(entries), PAIRS_A_READ):
             names = [pair.key for pair in entries[start : start + PAIRS_A_READ]]
-            _, told = self.client.transact([], [read(keys(name)) for name in names])
-            pairs = [pair for pairs in etcd.pairs_read(told) for pair in pairs]
+            _, reply = self.client.transact([], [read(keys(name)) for name in names])
+            pairs = [pair for pairs in etcd.pairs_read(reply) for pair in pairs]
             if len(pairs) != len(names):
-                raise Gone("blocks are gone from the log while they are read")
+                raise Gone("blocks were pruned from the log while the node read them")
             yield self.checked(pairs)
         self.revision = now
 
     def checked(self, pairs: list[Pair]) -> list[Pair]:
-        """The entries, none of which was changed since it was made, or made at the revision of another."""
+        """The entries. Refuses one that was changed since it was made, or made at the revision of another."""
         for pair in pairs:
             if pair.made != pair.changed:
                 raise ValueError(f"{pair.key} was changed at revision {pair.changed}, and made at {pair.made}")
@@ -254,7 +254,7 @@ class Log:
 
 
 def revision_at(client: Etcd, height: int, name: str) -> int | None:
-    """The revision of the block of a height, by the digests of a node and by the log; None where it, or what follows, is pruned."""
+    """The revision of the block at a height, from the digests of a node and from the log; None if that part of the log is pruned."""
     known, revision = pruned(client)
     if height <= known:
         return revision if height == known else None
@@ -268,36 +268,36 @@ def revision_at(client: Etcd, height: int, name: str) -> int | None:
         known, revision = int(json.loads(client.need(SETTINGS).value)["as"] == "frame"), client.need(GENESIS).made
     if height == known:
         return revision
-    behind_it: Object = {"min_create_revision": revision + 1, "sort_target": "CREATE", "sort_order": "ASCEND", "limit": height - known}
-    _, blocks = client.range(below(BLOCKS, keys_only=True, **behind_it))
+    later: Object = {"min_create_revision": revision + 1, "sort_target": "CREATE", "sort_order": "ASCEND", "limit": height - known}
+    _, blocks = client.range(below(BLOCKS, keys_only=True, **later))
     if len(blocks) < height - known:
         raise ValueError(f"the session is at height {height}, and the log ends at {known + len(blocks)}: it is another log, or an older one")
     return blocks[-1].made
 
 
 def programs_until(client: Etcd, revision: int) -> list[bytes]:
-    """The files of all programs that were put until a revision."""
+    """The files of all programs that were put up to a revision."""
     _, pairs = client.range(below(PROGRAMS, keys_only=True, max_create_revision=revision, sort_target="CREATE", sort_order="ASCEND"))
     return [client.need(pair.key).value for pair in pairs]
 
 
-def agreed_dumps(client: Etcd, alike: int, own: str = "") -> list[AgreedDump]:
-    """The dumps that so many nodes made alike, or this one, the newest first: the mark, the SHA-256, and the names."""
+def agreed_dumps(client: Etcd, agreeing: int, own: str = "") -> list[AgreedDump]:
+    """The dumps on which so many nodes agree, or that the node `own` made, the newest first."""
     found = []
-    for height, told in by_height(client.range(below(DUMPS))[1]).items():
-        values = list(told.values())
-        value = told.get(own) or max(values, key=values.count)
-        names = sorted(name for name in told if told[name] == value)
-        if (len(names) >= alike or own in names) and 2 * len(names) > len(told):
+    for height, made in by_height(client.range(below(DUMPS))[1]).items():
+        values = list(made.values())
+        value = made.get(own) or max(values, key=values.count)
+        names = sorted(name for name in made if made[name] == value)
+        if (len(names) >= agreeing or own in names) and 2 * len(names) > len(made):
             content, digest, revision = value.split()
             found.append(AgreedDump(Mark(height, digest, int(revision)), content, names))
     return found[::-1]
 
 
-def prune(client: Etcd, kept: int, alike: int) -> tuple[int, int]:
-    """Removes what is older than the oldest of the newest dumps that so many nodes made alike, and compacts. Answers the
-    height up to which the log is pruned, and how many blocks that were; the mark is put before anything goes."""
-    dumps = agreed_dumps(client, alike)
+def prune(client: Etcd, kept: int, agreeing: int) -> tuple[int, int]:
+    """Keeps the newest dumps on which so many nodes agree, removes what is older, and compacts. Returns the height up to which the
+    log is pruned, and how many blocks were removed. The mark is put before anything is removed."""
+    dumps = agreed_dumps(client, agreeing)
     if len(dumps) < kept:
         return pruned(client)[0], 0
     mark = dumps[kept - 1].mark

@@ -1,5 +1,5 @@
-"""A network of namespaces, from which single processes can be parted. It takes root, ip, nsenter and unshare, and a process that has a
-network namespace of its own, as by unshare -n."""
+"""A network of namespaces, from which single processes can be cut off. It needs root, the commands ip, nsenter and unshare, and a
+process with a network namespace of its own (`unshare -n`)."""
 
 import os
 import subprocess
@@ -41,7 +41,7 @@ class Network:
         subprocess.run([*self.words(name), "sh", "-c", setup], check=True)
 
     def words(self, name: str) -> list[str]:
-        """What stands before a command that runs in the namespace of a name."""
+        """The words before a command that runs in the namespace of a name."""
         return ["nsenter", f"--net=/proc/{self.holders[name].pid}/ns/net"] if name in self.holders else []
 
     def address(self, name: str) -> str:
@@ -65,7 +65,7 @@ def is_here() -> bool:
 
 
 class Loopback:
-    """No network of its own: nothing can be parted."""
+    """No network of its own: nothing can be cut off."""
 
     def words(self, name: str) -> list[str]:
         return []

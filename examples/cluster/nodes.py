@@ -1,4 +1,4 @@
-"""A node: follows the log, has each block run by its engine, publishes the digest of each height, and compares it with the others'."""
+"""A node: follows the log, lets its engine run each block, publishes the digest of each height, and compares it with other nodes."""
 
 import argparse
 import contextlib
@@ -28,18 +28,24 @@ from rvstm_tools.sessions.requests import Request, Word
 
 KEPT_DUMPS = 3
 KEPT_ANSWERS = 64
-HEIGHTS_AT_ONCE = 32  # whose digests are published by one request, where the node is behind
+HEIGHTS_AT_ONCE = 32  # one request publishes so many digests when the node catches up
 HEIGHTS_BETWEEN_LOOKS = 8
 MOST_DEATHS = 3
-MOST_TRIES, SECONDS_BETWEEN_TRIES = 3, 1  # of a request that the engine's file does not take
-NEVER_RAN = b"refused frame NoFrame 7\n"  # is what `last` answers of no frame
-UNFIT = ("rvstm: store NotASession 4", "rvstm: store Damaged 7")  # of a file that stays refused
+MOST_TRIES, SECONDS_BETWEEN_TRIES = 3, 1  # of a request that the engine's file does not keep
+NEVER_RAN = b"refused frame NoFrame 7\n"  # the answer to `last` before any frame
+UNFIT = ("rvstm: store NotASession 4", "rvstm: store Damaged 7")  # such a file stays refused
 SECONDS_FOR_A_DUMP = 60
-QUOTA_TOLD = 0.8  # the share of etcd's quota from which on it is told
+QUOTA_WARNED = 0.8  # the share of etcd's quota from which on the node warns
 
 
 class Stop(ValueError):
-    """Why a node must not go on."""
+    """Why a node must stop."""
+
+
+def digest_of(state: State) -> str:
+    """The digest of a session that keeps one."""
+    assert state.digest is not None
+    return state.digest.hex()
 
 
 class Counts:
@@ -53,14 +59,14 @@ class Counts:
 
 class Node:
     def __init__(
-        self, name: str, urls: str, folder: str | Path, workers: int | None = None, library: str | None = None, alike: int = 2, quota: int = 2 << 30, store: str | None = None, anew: bool = False
+        self, name: str, urls: str, folder: str | Path, workers: int | None = None, library: str | None = None, agreeing: int = 2, quota: int = 2 << 30, store: str | None = None, reset: bool = False
     ) -> None:
-        self.name, self.urls, self.folder, self.alike, self.quota = name, urls, Path(folder), alike, quota
-        self.workers, self.library, self.store, self.anew = workers, library, store, anew
+        self.name, self.urls, self.folder, self.agreeing, self.quota = name, urls, Path(folder), agreeing, quota
+        self.workers, self.library, self.store, self.reset = workers, library, store, reset
         self.client, self.busy = etcd.Etcd(urls, math.inf), threading.Lock()
         self.engine: Engine | None = None
         self.mark, self.settings = Mark(), Settings()
-        self.told: Object = {}
+        self.log_settings: Object = {}
         self.pending: list[tuple[str, str]] = []
         self.values: dict[int, str] = {}
         self.answers: OrderedDict[int, Answer] = OrderedDict()
@@ -75,14 +81,14 @@ class Node:
     # ---- the engine
 
     def ask(self, word: Word, *fields: bytes, body: bytes = b"") -> Answer:
-        """The answer of the engine, one that all machines give."""
+        """The answer of the engine. A `failed` is an error, because other machines do not answer it."""
         answer = self.tried(Request(word, fields, body))
         if answer.kind == b"failed":
             raise engines.Ended(answer.line.decode().strip())
         return answer
 
     def tried(self, request: Request) -> Answer:
-        """The answer of the engine. What its file does not take is handed in again, some times."""
+        """The answer of the engine. A request that its file does not keep is sent again, a few times."""
         for _ in range(MOST_TRIES):
             with self.busy:
                 assert self.engine is not None
@@ -91,20 +97,20 @@ class Node:
                 return answer
             self.say(f"height {self.mark.height}: {request.word.decode()} is answered {answer.line.decode().strip()}")
             time.sleep(SECONDS_BETWEEN_TRIES)
-        raise Stop(f"the file {self.store} does not take what follows height {self.mark.height}: {answer.line.decode().strip()}")
+        raise Stop(f"the file {self.store} does not keep what follows height {self.mark.height}: {answer.line.decode().strip()}")
 
     def need(self, word: Word, *fields: bytes, body: bytes = b"") -> bytes:
-        """The answer to a request that has to be done."""
+        """The bytes of an answer `ok`; any other answer stops the node."""
         answer = self.ask(word, *fields, body=body)
         if answer.kind != b"ok":
             raise Stop(f"{word.decode()} is answered {answer.line.decode().strip()}")
         return answer.body
 
     def begin(self) -> None:
-        """Starts an engine, and brings it to where it can go on: by its file, by a dump, or from the log's begin."""
+        """Starts an engine that continues from its file, from a dump, or from the first entry of the log."""
         self.start_engine()
         kept = self.kept() if self.store else None
-        self.go_on(kept) if kept else self.begin_anew()
+        self.go_on(kept) if kept else self.begin_as_new()
         self.looked = self.mark.height
         assert self.engine is not None
         self.say(f"begins at height {self.mark.height}, engine {self.engine.pid or 'in this process'}")
@@ -116,29 +122,30 @@ class Node:
             self.engine = engines.engine(self.settings, self.library)
 
     def kept(self) -> Mark | None:
-        """Where the session in the file is; None where it has run no block, or where the node begins anew."""
+        """Where the session in the file is; None if it has run no block, or if the node is reset."""
         try:
-            told = answers.state_of(self.need(Word.STATE))
+            state = answers.state_of(self.need(Word.STATE))
         except engines.Ended as error:
             if str(error) not in UNFIT:
                 raise
-            self.need_anew(f"its file {self.store} is refused: {error}")
+            self.need_reset(f"its file {self.store} is refused: {error}")
             self.put_file_aside()
             return None
-        height = told.height
+        height = state.height
         revision = ledger.revision_at(self.client, height, self.name) if height else 0
         if revision is None:
-            self.need_anew(f"its file {self.store} is at height {height}, and the log behind that is pruned")
-        return Mark(height, self.digest_told(told), revision) if revision else None
+            self.need_reset(f"its file {self.store} is at height {height}, and the log after that is pruned")
+        return Mark(height, digest_of(state), revision) if revision else None
 
-    def need_anew(self, why: str) -> None:
-        """Goes on where the node was told to begin anew in such a case."""
-        if not self.anew:
-            raise Stop(f"{why}; started with --anew the node begins as a new one does, with a dump")
-        self.say(f"{why}: begins anew")
+    def need_reset(self, why: str) -> None:
+        """Stops the node, unless it was started with --reset."""
+        if not self.reset:
+            raise Stop(f"{why}; with --reset the node begins as a new one does, with a dump")
+        self.say(f"{why}: begins as a new node")
 
     def put_file_aside(self) -> None:
-        """Renames a file that is refused, and starts an engine with a new one. Its log goes first: beside a new file it would be read."""
+        """Renames a file that is refused, and starts an engine with a new one. Its log is renamed first: beside a new file it would be
+        read."""
         assert self.store is not None
         file = os.path.realpath(self.store)
         aside = f"{file}.refused-{time.time_ns()}"
@@ -149,23 +156,23 @@ class Node:
         self.start_engine()
 
     def go_on(self, mark: Mark) -> None:
-        """Goes on from the file. What it ran last may not have been published: the node died, or the engine before it answered."""
+        """Continues from the file. The digest of its last height may be missing: the node died, or the engine before its answer."""
         self.mark, answer = mark, self.ask(Word.LAST)
-        self.say(f"goes on from its file at height {mark.height}")
+        self.say(f"continues from its file at height {mark.height}")
         if answer.line != NEVER_RAN:
             self.answers[mark.height] = answer
         if mark.height not in self.values:
-            self.digest_is_to_be_published()
+            self.queue_digest()
         self.flush()
-        if mark.height % self.told["every"] == 0:
+        if mark.height % self.log_settings["every"] == 0:
             self.make_dump()
 
-    def begin_anew(self) -> None:
+    def begin_as_new(self) -> None:
         """Begins with a dump, or with the first entry of the log."""
         self.mark, dump = self.newest_dump()
         gone, revision = ledger.pruned(self.client)
         if self.mark.revision < revision:
-            raise ledger.Gone(f"the log begins behind height {gone}, and no dump of that height or above is to be had")
+            raise ledger.Gone(f"the log begins after height {gone}, and there is no dump of that height or above to take")
         for file in ledger.programs_until(self.client, self.mark.revision):
             self.ask(Word.PROGRAM, body=file)
         if dump is not None:
@@ -178,18 +185,18 @@ class Node:
         return self.folder / f"{height:010d}.dump"
 
     def newest_dump(self) -> tuple[Mark, bytes | None]:
-        """The newest dump that enough nodes made alike, or this one alone, from the own folder or from another node."""
-        for mark, content, names in ledger.agreed_dumps(self.client, self.alike, self.name):
+        """The newest dump on which enough nodes agree, or that this node made, from its own folder or from another node."""
+        for mark, content, names in ledger.agreed_dumps(self.client, self.agreeing, self.name):
             for name in sorted(names, key=lambda name: name != self.name):
                 try:
                     dump = self.path(mark.height).read_bytes() if name == self.name else self.fetched(name, f"/dump/{mark.height}")
                 except (OSError, http.client.HTTPException) as error:
-                    self.say(f"has no dump of height {mark.height} from {name}: {error}")
+                    self.say(f"can't get the dump of height {mark.height} from {name}: {error}")
                     continue
                 if ledger.sha256(dump) == content:
-                    self.say(f"takes the dump of height {mark.height} from {name}, {len(dump)} bytes, made alike by {', '.join(names)}")
+                    self.say(f"takes the dump of height {mark.height} from {name}, {len(dump)} bytes; it is equal at {', '.join(names)}")
                     return mark, dump
-                self.say(f"refuses the dump of height {mark.height} from {name}: its SHA-256 is another")
+                self.say(f"refuses the dump of height {mark.height} from {name}: its SHA-256 is wrong")
         return Mark(revision=self.client.need(GENESIS).made - 1), None
 
     def fetched(self, name: str, path: str) -> bytes:
@@ -197,7 +204,7 @@ class Node:
         pair = self.client.get(NODES + name)
         host, _, port = (pair.value.decode() if pair else "").rpartition(":")
         if not port:
-            raise OSError("it tells no address")
+            raise OSError("it has published no address")
         line = http.client.HTTPConnection(host, int(port), timeout=SECONDS_FOR_A_DUMP)
         try:
             line.request("GET", path)
@@ -210,7 +217,7 @@ class Node:
         return data
 
     def make_dump(self) -> None:
-        """Keeps the storage in a file, and publishes its SHA-256. Where the disk is full, the node goes on without it."""
+        """Keeps the storage in a file, and publishes its SHA-256. If the disk is full, the node continues without a dump."""
         dump, path = self.need(Word.DUMP), self.path(self.mark.height)
         new = path.with_suffix(".new")
         try:
@@ -227,12 +234,13 @@ class Node:
             old.unlink()
         value = f"{ledger.sha256(dump)} {self.mark.digest} {self.mark.revision}"
         self.publish([(ledger.at(DUMPS, self.name, self.mark.height), value)])
-        self.tell_quota()
+        self.warn_of_quota()
 
-    def tell_quota(self) -> None:
+    def warn_of_quota(self) -> None:
+        """Warns if etcd's quota is nearly full."""
         used = int(self.client.ask("maintenance/status", {})["dbSize"])
-        if used > QUOTA_TOLD * self.quota:
-            self.say(f"etcd has {used >> 20} MiB of {self.quota >> 20}, and takes no block where it is full: prune the log")
+        if used > QUOTA_WARNED * self.quota:
+            self.say(f"etcd uses {used >> 20} of {self.quota >> 20} MiB, and accepts no block if it is full: prune the log")
 
     # ---- the log
 
@@ -240,13 +248,13 @@ class Node:
         """Does what an entry of the log says."""
         if pair.key.startswith(PROGRAMS):
             self.ask(Word.PROGRAM, body=pair.value)
-        elif pair.key == GENESIS and self.told["as"] == "begin":
+        elif pair.key == GENESIS and self.log_settings["as"] == "begin":
             self.need(Word.BEGIN, b"0", NO_DIGEST.encode(), body=self.block_of(pair) or b"")
         elif ledger.is_block(pair):
             self.run_block(pair)
 
     def block_of(self, pair: Pair) -> bytes | None:
-        """The bytes of an entry, none of one that a node refuses: its frame is then one of no bytes, so that heights agree."""
+        """The bytes of an entry. None if nodes refuse it: the frame then has no bytes, so that heights agree."""
         limit = 0 if pair.key == GENESIS else self.settings.frame_limit
         block = ledger.block_of(self.client, pair, limit)
         return None if block is None or ledger.is_refused(block, pair.key == GENESIS) else block
@@ -256,25 +264,21 @@ class Node:
         block = self.block_of(pair)
         times.append(time.monotonic())
         answer = self.ask(Word.FRAME, body=block or b"")
-        told = answers.state_of(self.need(Word.STATE))
+        state = answers.state_of(self.need(Word.STATE))
         times.append(time.monotonic())
-        if told.height != self.mark.height + 1:
-            raise Stop(f"the engine is at height {told.height} behind block {self.mark.height + 1}")
-        self.mark = Mark(self.mark.height + 1, self.digest_told(told), pair.made)
+        if state.height != self.mark.height + 1:
+            raise Stop(f"the engine is at height {state.height} after block {self.mark.height + 1}")
+        self.mark = Mark(self.mark.height + 1, digest_of(state), pair.made)
         self.answers[self.mark.height] = answer
         if len(self.answers) > KEPT_ANSWERS:
             self.answers.popitem(last=False)
         self.count(block or b"", answer, times, block is None)
-        self.digest_is_to_be_published()
-        is_dump = self.mark.height % self.told["every"] == 0
+        self.queue_digest()
+        is_dump = self.mark.height % self.log_settings["every"] == 0
         if is_dump or len(self.pending) >= HEIGHTS_AT_ONCE:
             self.flush()
         if is_dump:
             self.make_dump()
-
-    def digest_told(self, told: State) -> str:
-        assert told.digest is not None
-        return told.digest.hex()
 
     def count(self, block: bytes, answer: Answer, times: Sequence[float], is_refused: bool) -> None:
         counts = self.counts
@@ -289,7 +293,7 @@ class Node:
 
     # ---- what is published
 
-    def digest_is_to_be_published(self) -> None:
+    def queue_digest(self) -> None:
         self.values[self.mark.height] = f"{self.mark.digest} {self.mark.revision}"
         self.pending.append((ledger.at(DIGESTS, self.name, self.mark.height), self.values[self.mark.height]))
 
@@ -300,12 +304,12 @@ class Node:
         self.counts.seconds["publish"] += time.monotonic() - began
 
     def publish(self, pairs: Sequence[tuple[str, str]]) -> None:
-        """Publishes values, each once. A node that comes to another value than it published before does not go on."""
+        """Publishes values, each once. A node stops if it published another value before."""
         names = [key for key, _ in pairs]
         if self.client.transact(map(is_absent, names), [put(key, value) for key, value in pairs])[0]:
             return
-        _, told = self.client.transact([], [read(keys(key)) for key in names])
-        before = {pair.key: pair.value.decode() for found in etcd.pairs_read(told) for pair in found}
+        _, reply = self.client.transact([], [read(keys(key)) for key in names])
+        before = {pair.key: pair.value.decode() for found in etcd.pairs_read(reply) for pair in found}
         for key, value in pairs:
             if before.get(key, value) != value:
                 raise Stop(f"{key} was published as {before[key]}, and is {value} now")
@@ -314,46 +318,47 @@ class Node:
             self.publish(missing)
 
     def compare(self) -> None:
-        """Compares the last digests with those of the other nodes."""
+        """Compares the last digests with those of other nodes."""
         first = max(1, self.looked - HEIGHTS_BETWEEN_LOOKS)
         self.looked = self.mark.height
-        for height, told in ledger.digests(self.client, first, self.mark.height).items():
-            if height in self.values and self.name in told:
-                self.judge(height, told)
+        for height, published in ledger.digests(self.client, first, self.mark.height).items():
+            if height in self.values and self.name in published:
+                self.judge(height, published)
         for height in [height for height in self.values if height < first]:
             del self.values[height]
 
-    def judge(self, height: int, told: Mapping[str, str]) -> None:
-        others, are_most = ledger.different_from(self.name, told)
+    def judge(self, height: int, published: Mapping[str, str]) -> None:
+        """Stops the node if most nodes differ from it, and otherwise names those that differ."""
+        others, are_most = ledger.different_from(self.name, published)
         if are_most:
             line = self.different_line(height, others)
-            raise Stop(f"height {height}: {', '.join(others)} of {len(told)} nodes differ from this one; {line}")
+            raise Stop(f"height {height}: {', '.join(others)} of {len(published)} nodes differ from this one; {line}")
         for other in others:
             if (height, other) not in self.named:
-                self.say(f"height {height}: {other} differs from this node, one of {len(told)}")
+                self.say(f"height {height}: {other} differs from this node, one of {len(published)}")
             self.named.add((height, other))
 
     def different_line(self, height: int, others: Sequence[str]) -> str:
-        """The first line of this node's answer that differs from that of another one, which tells its own."""
+        """The first line of this node's answer that differs from the answer of another node."""
         for other in others:
             try:
                 theirs = self.fetched(other, f"/receipts/{height}").decode().splitlines()
             except (OSError, http.client.HTTPException):
                 continue
             if height not in self.answers:
-                return "this node's answer is not kept any more"
+                return "this node no longer keeps its answer"
             mine = self.answers[height].text().decode().splitlines()
             for number, (one, two) in enumerate(zip([*mine, "none"], [*theirs, "none"]), 1):
                 if one != two:
-                    return f"line {number} is here '{one[:160]}' and that of {other} '{two[:160]}'"
-            return f"the answer of {other} is the same, so one of the digests is none of it"
-        return "none of them tells its answer"
+                    return f"line {number} is '{one[:160]}' here and '{two[:160]}' at {other}"
+            return f"the answer of {other} is the same, so one of the two digests is false"
+        return "none of them shows its answer"
 
     # ---- the whole
 
     @contextlib.contextmanager
     def alone(self) -> Iterator[None]:
-        """Has the folder for itself."""
+        """Locks the folder for this node."""
         with open(self.folder / "lock", "w") as lock:
             try:
                 fcntl.flock(lock, fcntl.LOCK_EX | fcntl.LOCK_NB)
@@ -362,11 +367,11 @@ class Node:
             yield
 
     def settle(self) -> None:
-        """Waits for the genesis, and takes the settings that it came with."""
+        """Waits for the genesis, and reads the settings that were put with it."""
         while not self.client.get(GENESIS):
             time.sleep(0.1)
-        self.told = json.loads(self.client.need(ledger.SETTINGS).value)
-        of_session = {word: self.told[word] for word in ("frame_limit", "frame_gas", "brief")}
+        self.log_settings = json.loads(self.client.need(ledger.SETTINGS).value)
+        of_session = {word: self.log_settings[word] for word in ("frame_limit", "frame_gas", "brief")}
         self.settings = Settings(digest=True, workers=self.workers, store=self.store, **of_session)
 
     def follow(self) -> None:
@@ -381,7 +386,7 @@ class Node:
                 self.compare()
 
     def run(self) -> None:
-        """Runs until the node has to stop, which is an error that says why."""
+        """Runs until the node must stop; the error says why."""
         self.settle()
         deaths: Counter[int] = Counter()
         while True:
@@ -389,7 +394,7 @@ class Node:
                 self.begin()
                 self.follow()
             except engines.Ended as error:
-                self.say(f"height {self.mark.height + 1}: its engine can't go on: {error}")
+                self.say(f"height {self.mark.height + 1}: its engine can't continue: {error}")
                 deaths[self.mark.height] += 1
                 if deaths[self.mark.height] == MOST_DEATHS:
                     raise Stop(f"the engine could not run block {self.mark.height + 1} three times: {error}") from error
@@ -402,7 +407,7 @@ class Node:
 def address(text: str) -> tuple[str, int]:
     host, _, port = text.rpartition(":")
     if not host or not port.isdigit():
-        raise argparse.ArgumentTypeError(f"{text} is no HOST:PORT")
+        raise argparse.ArgumentTypeError(f"{text} is not HOST:PORT")
     return host, int(port)
 
 
@@ -414,28 +419,28 @@ def options(doc: str) -> argparse.Namespace:
     parser.add_argument("--workers", type=int)
     parser.add_argument("--library")
     parser.add_argument("--store")
-    parser.add_argument("--anew", action="store_true")
+    parser.add_argument("--reset", action="store_true")
     parser.add_argument("--http", type=address, default=("127.0.0.1", 0))
-    parser.add_argument("--told", type=address)
-    parser.add_argument("--alike", type=int, default=2)
+    parser.add_argument("--advertise", type=address)
+    parser.add_argument("--agreeing", type=int, default=2)
     parser.add_argument("--quota", type=int, default=2048)
     given = parser.parse_args()
     if not re.fullmatch("[A-Za-z0-9-]+", given.name):
-        parser.error("--name has letters, digits and -")
+        parser.error("--name may have only letters, digits and -")
     if given.store and given.library:
-        parser.error("the library keeps no session in a file: --store goes without --library")
-    if given.anew and not given.store:
-        parser.error("--anew is for a node with --store")
+        parser.error("the library keeps no file: give --store or --library, not both")
+    if given.reset and not given.store:
+        parser.error("--reset needs --store")
     return given
 
 
 def start(kind: type[Node], given: argparse.Namespace) -> int:
-    """Runs a node, and tells why it stopped."""
-    node = kind(given.name, given.etcd, given.folder, given.workers, given.library, given.alike, given.quota << 20, given.store, given.anew)
+    """Runs a node, and prints why it stopped."""
+    node = kind(given.name, given.etcd, given.folder, given.workers, given.library, given.agreeing, given.quota << 20, given.store, given.reset)
     try:
         with node.alone():
             port = status.serve(node, *given.http)
-            host, port = given.told or (given.http[0], port)
+            host, port = given.advertise or (given.http[0], port)
             node.client.ask("kv/put", put(NODES + given.name, f"{host}:{port}")["request_put"])
             node.say(f"answers readers at http://{host}:{port}/")
             node.run()

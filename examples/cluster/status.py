@@ -1,8 +1,8 @@
-"""What a node tells by HTTP: reads, receipts, dumps, counts for Prometheus, and a page for people. It takes no writes.
+"""What a node answers by HTTP: reads, receipts, dumps, counts for Prometheus, and a page for people. It accepts no writes.
 
     /healthz            at once: what the node does, and its height
     /state              the session's state; 503 while a block runs
-    /get/KEY            the value of a key, likewise
+    /get/KEY            the value of a key; 503 while a block runs
     /receipts/HEIGHT    the answer to a block, one of the last few
     /dump/HEIGHT        the storage at a height, one of the last few
     /metrics            counts, as Prometheus reads them
@@ -34,7 +34,7 @@ PAGE = """<!DOCTYPE html>
 body { font: 15px sans-serif; margin: 2em } td, th { padding: .2em .8em; text-align: left; border-bottom: 1px solid #ccc }
 td { font-family: monospace } .differs { background: #c00; color: #fff } .absent { color: #888 }
 </style></head><body><h1>%(name)s: height %(height)d, %(lag)s behind the log</h1>
-<p>The digest of each node at the last heights. %(told)s</p>
+<p>The digest of each node at the last heights. %(note)s</p>
 <table><tr><th>height</th>%(heads)s</tr>
 %(rows)s
 </table><p>%(wrong)d of %(shown)d heights differ. Others: <a href="/healthz">healthz</a>, <a href="/state">state</a>,
@@ -43,7 +43,7 @@ td { font-family: monospace } .differs { background: #c00; color: #fff } .absent
 
 
 class Page(NamedTuple):
-    """An answer: its status, its kind and its bytes."""
+    """An answer: its status, its media type and its bytes."""
 
     status: int
     kind: str
@@ -58,12 +58,12 @@ class Rows(NamedTuple):
     wrong: int
 
 
-def rows_of(told: Values) -> Rows:
-    """The names of all nodes, the rows of a table, and how many heights differ. What stands in etcd may be any text."""
-    names = sorted({name for values in told.values() for name in values})
+def rows_of(published: Values) -> Rows:
+    """The names of all nodes, the rows of a table, and how many heights differ. Values in etcd may be any text, so they are escaped."""
+    names = sorted({name for values in published.values() for name in values})
     rows: list[str] = []
     wrong = 0
-    for height, values in sorted(told.items(), reverse=True):
+    for height, values in sorted(published.items(), reverse=True):
         most = Counter(values.values()).most_common(1)[0][0]
         wrong += len(set(values.values())) > 1
         cells = [cell_of(values.get(name), most) for name in names]
@@ -85,7 +85,7 @@ class Status:
         self.node, self.client, self.lock = node, etcd.Etcd(node.urls, SECONDS_FOR_ETCD), threading.Lock()
 
     def answer(self, path: str) -> Page:
-        """The status, the kind and the bytes of an answer."""
+        """The answer for a path."""
         word, _, rest = path.removeprefix("/").partition("/")
         if word in ("state", "get"):
             return self.read(word, rest)
@@ -123,11 +123,11 @@ class Status:
         return Page(200, "text/plain", f"{node.name} height {node.mark.height} digest {node.mark.digest}\n".encode())
 
     def lag(self) -> int | None:
-        """How many blocks of the log the node has not run, or None where etcd does not say."""
+        """How many blocks of the log the node has not run yet; None if etcd does not answer."""
         try:
             with self.lock:
                 gone = ledger.pruned(self.client)[0]
-                blocks = self.client.count(BLOCKS) + (gone or self.node.told.get("as") == "frame")
+                blocks = self.client.count(BLOCKS) + (gone or self.node.log_settings.get("as") == "frame")
         except (OSError, ValueError):
             return None
         return max(0, blocks - self.node.mark.height)
@@ -143,23 +143,23 @@ class Status:
 
     def page(self) -> Page:
         node = self.node
-        told: Values = {}
+        published: Values = {}
         try:
             with self.lock:
-                told, said = ledger.digests(self.client, max(0, node.mark.height - HEIGHTS_SHOWN + 1), node.mark.height), ""
+                published, note = ledger.digests(self.client, max(0, node.mark.height - HEIGHTS_SHOWN + 1), node.mark.height), ""
         except (OSError, ValueError):
-            said = "etcd does not answer now."
-        names, rows, wrong = rows_of(told)
+            note = "etcd does not answer now."
+        names, rows, wrong = rows_of(published)
         lag = self.lag()
         words = {
-            "name": html.escape(node.name), "height": node.mark.height, "told": said, "wrong": wrong, "shown": len(rows), "rows": "\n".join(rows),
+            "name": html.escape(node.name), "height": node.mark.height, "note": note, "wrong": wrong, "shown": len(rows), "rows": "\n".join(rows),
             "lag": "unknown how far" if lag is None else lag, "heads": "".join(f"<th>{html.escape(name)}</th>" for name in names),
         }
         return Page(200, "text/html; charset=utf-8", (PAGE % words).encode())
 
 
 def serve(node: "Node", host: str, port: int) -> int:
-    """Answers readers by threads of their own, and tells etcd where."""
+    """Answers readers on threads of their own. Returns the port."""
     status = Status(node)
 
     class Handler(http.server.BaseHTTPRequestHandler):

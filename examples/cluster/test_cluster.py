@@ -1,6 +1,6 @@
 """Tests of a whole ledger, which need etcd and the program rvstm: python3 -m unittest, in this folder.
 
-What answers have to be is told by tools/rvstm_tools/models/sessions.py, which runs each block by `rvstm seq`, and by docs/formats.md.
+The expected answers come from tools/rvstm_tools/models/sessions.py, which runs each block with `rvstm seq`, and from docs/formats.md.
 """
 
 import hashlib
@@ -37,7 +37,7 @@ CALLS, BLOCKS = 6, 45
 
 
 def missing() -> str:
-    """What the tests of this file lack, or nothing."""
+    """What the tests of this file lack; empty if nothing."""
     lacks = [] if shutil.which("etcd") else ["etcd (Debian's package etcd-server)"]
     try:
         engines.rvstm()
@@ -51,7 +51,7 @@ def setUpModule() -> None:
         print(f"skipped, for want of {missing()}: all tests of test_cluster.py", file=sys.stderr)
         raise unittest.SkipTest(missing())
     if "n4" not in clusters.engines_known():
-        print("skipped, for want of the library for C (`rvstm-tools library`): a node by it", file=sys.stderr)
+        print("skipped, for want of the library for C (`rvstm-tools library`): a node with it", file=sys.stderr)
 
 
 def wait(is_so: Callable[[], bool], seconds: float = 120) -> bool:
@@ -69,16 +69,16 @@ def is_running(pid: int) -> bool:
 
 
 class Forgetful(etcd.Etcd):
-    """A client whose transactions are done, but the first answer to each is lost."""
+    """A client that loses the first answer to a transaction, which etcd has carried out."""
 
     has_lost = False
 
     def ask_once(self, path: str, body: Object) -> Object:
-        told = super().ask_once(path, body)
+        reply = super().ask_once(path, body)
         if path == "kv/txn" and not self.has_lost:
             self.has_lost = True
             raise OSError("the answer is lost")
-        return told
+        return reply
 
 
 class Engines(unittest.TestCase):
@@ -106,7 +106,7 @@ class Engines(unittest.TestCase):
 
 
 class Ledger(unittest.TestCase):
-    """One ledger for all tests; they run by their names, and each leaves it in order."""
+    """One ledger for all tests. They run in the order of their names, and each leaves the ledger whole."""
 
     place: ClassVar[str]
     cluster: ClassVar[clusters.Cluster]
@@ -168,8 +168,8 @@ class Ledger(unittest.TestCase):
             self.assertEqual(self.digest(height), {digest.hex()}, height)
 
     def test_2_strange_blocks_are_refused_as_the_page_says(self) -> None:
-        told = [answer for _, answer in transfers.strange(random.Random(2)).values()]
-        for height, answer in enumerate(told, 2):
+        expected = [answer for _, answer in transfers.strange(random.Random(2)).values()]
+        for height, answer in enumerate(expected, 2):
             self.assertEqual(self.page("n2", f"/receipts/{height}")[1].decode().strip(), answer)
 
     def test_3_pages(self) -> None:
@@ -189,7 +189,7 @@ class Ledger(unittest.TestCase):
             self.assertEqual(self.page("n1", path)[0], 404, path)
 
     def is_busy(self) -> bool:
-        """Whether n1 answers no reader now. One that came before the block waits for the engine, and has it then."""
+        """Whether n1 answers no reader now. A reader that came before the block waits for the engine, and gets its answer."""
         try:
             return self.page("n1", f"/get/{transfers.key_of(transfers.ACCOUNTS[0])}", 2)[0] == 503
         except TimeoutError:
@@ -218,20 +218,20 @@ class Ledger(unittest.TestCase):
         self.settle()
         self.assertEqual(audits.audit(self.cluster.client, self.names)[0], [])
 
-    def test_5_killed_nodes_go_on_from_their_files(self) -> None:
+    def test_5_killed_nodes_continue_from_their_files(self) -> None:
         height = len(self.blocks)
         self.cluster.kill("n2")
         shutil.rmtree(self.cluster.folder / "n2")
         self.transfers(2)
         self.cluster.node("n2")
         self.settle()
-        self.assertIn(f"goes on from its file at height {height}\n", self.cluster.log("n2"))
+        self.assertIn(f"continues from its file at height {height}\n", self.cluster.log("n2"))
         self.assertNotIn("takes the dump", self.cluster.log("n2"))
         for _ in range(3):
             os.kill(int(re.findall(r"engine (\d+)", self.cluster.log("n3"))[-1]), signal.SIGKILL)
             self.transfers(2)
             self.settle()
-        self.assertEqual(self.cluster.log("n3").count("goes on from its file"), 3)
+        self.assertEqual(self.cluster.log("n3").count("continues from its file"), 3)
         self.assertNotIn("takes the dump", self.cluster.log("n3"))
         self.assertEqual(audits.audit(self.cluster.client, self.names)[0], [])
 
@@ -256,12 +256,12 @@ class Ledger(unittest.TestCase):
         self.cluster.node("other", "--store", path)
         self.assertIn("rvstm: store OtherSettings 6", self.cluster.wait_for("other", "STOPS"))
 
-    def test_5_told_so_a_node_puts_a_damaged_file_aside(self) -> None:
+    def test_5_with_reset_a_node_renames_a_damaged_file(self) -> None:
         path = self.cluster.folder / "spoilt.store"
         path.write_bytes(b"x" * 4096)
         self.cluster.node("spoilt", "--store", path)
-        self.assertRegex(self.cluster.wait_for("spoilt", "STOPS"), "is refused: rvstm: store NotASession 4; started with --anew")
-        self.cluster.node("spoilt", "--store", path, "--anew")
+        self.assertRegex(self.cluster.wait_for("spoilt", "STOPS"), "is refused: rvstm: store NotASession 4; with --reset")
+        self.cluster.node("spoilt", "--store", path, "--reset")
         self.settle("spoilt")
         self.cluster.kill("spoilt")
         self.assertIn("takes the dump of height", self.cluster.log("spoilt"))
@@ -302,13 +302,13 @@ class Ledger(unittest.TestCase):
         _, receipts = self.page("n1", f"/receipts/{len(self.blocks)}")
         self.assertEqual(receipts.count(b" out-of-gas gas 100 "), 200)
 
-    def test_8_who_lies_is_named(self) -> None:
+    def test_8_a_lying_node_is_named(self) -> None:
         height = len(self.blocks) + 3
         self.cluster.node("liar", script="liar", env={**os.environ, "LIE_AT": str(height)})
         self.settle("liar")
         self.transfers(5)
-        told = self.cluster.wait_for("liar", "STOPS")
-        self.assertRegex(told, rf"height {height}: (n\d, )+n\d of \d nodes differ from this one; the answer of n\d is the same")
+        line = self.cluster.wait_for("liar", "STOPS")
+        self.assertRegex(line, rf"height {height}: (n\d, )+n\d of \d nodes differ from this one; the answer of n\d is the same")
         for name in self.names:
             self.cluster.wait_for(name, f"height {height}: liar differs from this node")
         self.settle()
@@ -318,11 +318,11 @@ class Ledger(unittest.TestCase):
 
     def test_9_a_changed_program_is_named(self) -> None:
         changed = clusters.changed_program(Path(self.place) / "changed")
-        self.cluster.node("changed", "--alike", "2", env={**os.environ, "RVSTM": str(changed)})
+        self.cluster.node("changed", "--agreeing", "2", env={**os.environ, "RVSTM": str(changed)})
         self.cluster.wait_for("changed", "begins at")
         self.transfers(2)
-        told = self.cluster.wait_for("changed", "STOPS")
-        self.assertRegex(told, r"line \d+ is here 'call \d Returned gas .*' and that of n\d 'call \d returned gas ")
+        line = self.cluster.wait_for("changed", "STOPS")
+        self.assertRegex(line, r"line \d+ is 'call \d Returned gas .*' here and 'call \d returned gas .*' at n\d")
         self.settle()
 
     def test_z_an_old_log_is_pruned(self) -> None:
@@ -335,8 +335,8 @@ class Ledger(unittest.TestCase):
         self.cluster.node("late")
         self.settle("late", *self.names)
         self.assertRegex(self.cluster.log("late"), r"takes the dump of height \d+ from n\d")
-        self.cluster.node("alone", "--alike", "9")
-        self.assertIn(f"the log begins behind height {height}, and no dump", self.cluster.wait_for("alone", "STOPS"))
+        self.cluster.node("alone", "--agreeing", "9")
+        self.assertIn(f"the log begins after height {height}, and there is no dump", self.cluster.wait_for("alone", "STOPS"))
         self.assertEqual(audits.audit(self.cluster.client, self.names)[0], [])
 
 

@@ -31,7 +31,7 @@ ONE, OTHER = "1" * 64, "2" * 64
 
 
 class Shelf(etcd.Etcd):
-    """What is in etcd, for reads alone."""
+    """A client whose pairs are in a dictionary; it only reads."""
 
     def __init__(self) -> None:
         super().__init__("http://127.0.0.1:1")
@@ -64,11 +64,11 @@ class Entries(unittest.TestCase):
     def block(self, value: bytes, limit: int = 100, shelf: Shelf | None = None, made: int = 10) -> bytes | None:
         return ledger.block_of(shelf or Shelf(), Pair("/log/blocks/p.1/0000000001", value, made, made, 0), limit)
 
-    def test_a_block_stands_in_its_entry(self) -> None:
+    def test_a_block_is_in_its_entry(self) -> None:
         self.assertEqual(self.block(entry(b"rvblock 1\n").value), b"rvblock 1\n")
         self.assertEqual(self.block(entry(b"").value), b"")
 
-    def test_what_is_no_entry_stands_for_no_block(self) -> None:
+    def test_other_values_have_no_block(self) -> None:
         good = entry(b"rvblock 1\n").value
         for value in (b"", b"hello", b"parts\n", b"parts \n" + good[6:], good[:-1], good + b"more", b"parts " + b"1" * 63 + b"\n"):
             self.assertIsNone(self.block(value), value)
@@ -80,7 +80,7 @@ class Entries(unittest.TestCase):
         self.assertEqual(self.block(entry(b"0" * 5000).value, limit=0), b"0" * 5000)
 
     def parted(self, **how: Any) -> tuple[Shelf, bytes]:
-        """A block in two parts, the second of which is put as told."""
+        """A block in two parts. `how` changes what is put of the second."""
         data, shelf = zlib.compress(bytes(range(256))), Shelf()
         halves = data[:20], data[20:]
         shelf.put("/parts/p.1/0000000001/000", halves[0], 5, 10)
@@ -92,13 +92,13 @@ class Entries(unittest.TestCase):
         shelf, value = self.parted()
         self.assertEqual(self.block(value, 256, shelf), bytes(range(256)))
 
-    def test_a_part_has_to_be_what_the_entry_kept(self) -> None:
+    def test_a_part_must_be_what_the_entry_kept(self) -> None:
         hows: list[dict[str, Any]] = [{"value": b"other"}, {"lease": 7}, {"made": 11}]
         for how in hows:
             shelf, value = self.parted(**how)
             self.assertIsNone(self.block(value, 256, shelf), how)
 
-    def test_missing_parts_stand_for_no_block_unless_they_were_pruned(self) -> None:
+    def test_missing_parts_are_no_block_unless_they_were_pruned(self) -> None:
         shelf, value = self.parted()
         del shelf.pairs["/parts/p.1/0000000001/001"]
         self.assertIsNone(self.block(value, 256, shelf))
@@ -124,20 +124,20 @@ class Entries(unittest.TestCase):
 
 class Agreement(unittest.TestCase):
     def test_most_nodes_are_more_than_half(self) -> None:
-        for told, expected in (
+        for published, expected in (
             ("aaaa", ([], False)), ("ab", (["n1"], False)), ("aab", (["n2"], False)), ("abb", (["n1", "n2"], True)),
             ("aabb", (["n2", "n3"], False)), ("abbb", (["n1", "n2", "n3"], True)), ("a", ([], False)),
         ):
-            values = {f"n{number}": value for number, value in enumerate(told)}
-            self.assertEqual(ledger.different_from("n0", values), expected, told)
+            values = {f"n{number}": value for number, value in enumerate(published)}
+            self.assertEqual(ledger.different_from("n0", values), expected, published)
 
-    def dumps(self, told: Sequence[tuple[int, str, str]]) -> Shelf:
+    def dumps(self, published: Sequence[tuple[int, str, str]]) -> Shelf:
         shelf = Shelf()
-        for number, (height, name, content) in enumerate(told):
+        for number, (height, name, content) in enumerate(published):
             shelf.put(ledger.at(ledger.DUMPS, name, height), f"{content} {ONE} {height + 100}", number + 1)
         return shelf
 
-    def test_a_dump_is_taken_that_enough_nodes_made_alike(self) -> None:
+    def test_a_dump_is_taken_if_enough_nodes_agree(self) -> None:
         shelf = self.dumps([(20, "a", ONE), (20, "b", ONE), (20, "c", OTHER), (40, "a", ONE), (60, "a", ONE), (60, "b", OTHER)])
         found = ledger.agreed_dumps(shelf, 2)
         self.assertEqual(found, [(ledger.Mark(20, ONE, 120), ONE, ["a", "b"])])
@@ -147,10 +147,10 @@ class Agreement(unittest.TestCase):
 
 
 class Revisions(unittest.TestCase):
-    """Of the block at which a session in a file stands."""
+    """The revision of the last block of a session in a file."""
 
     def shelf(self, *own: tuple[int, int], kind: str = "frame") -> Shelf:
-        """A genesis and three blocks, whose names are not in their order, and one that came before; and what a node published."""
+        """A genesis and three blocks, whose names are not in their order, a block before the genesis, and what a node published."""
         shelf = Shelf()
         shelf.put(ledger.SETTINGS, f'{{"as": "{kind}"}}', 10)
         for name, made in (("z", 5), ("p.1/0000000001", 20), ("a.1/0000000001", 30), ("b.1/0000000001", 45)):
@@ -175,13 +175,13 @@ class Revisions(unittest.TestCase):
         shelf.put(ledger.at(ledger.DIGESTS, "n2", 3), f"{OTHER} 31", 50)
         self.assertEqual(self.at(shelf, 3), [30])
 
-    def test_a_pruned_log_leads_on_from_where_it_begins(self) -> None:
+    def test_in_a_pruned_log_it_is_found_from_its_begin(self) -> None:
         shelf = self.shelf((2, 20))
         shelf.put(ledger.PRUNED, "3 30", 60)
         del shelf.pairs[ledger.BLOCKS + "p.1/0000000001"]
         self.assertEqual(self.at(shelf, 2, 3, 4), [None, 30, 45])
 
-    def test_a_file_above_the_log_is_told(self) -> None:
+    def test_a_file_above_the_log_is_refused(self) -> None:
         self.assertRaisesRegex(ValueError, "at height 5, and the log ends at 4", self.at, self.shelf(), 5)
 
 
@@ -222,7 +222,7 @@ class Files(unittest.TestCase):
     def setUp(self) -> None:
         nodes.SECONDS_BETWEEN_TRIES = 0
 
-    def test_what_a_file_does_not_take_is_handed_in_again(self) -> None:
+    def test_what_a_file_does_not_keep_is_sent_again(self) -> None:
         node = Saying(b"failed store Full 8", b"failed store Memory 9", b"ok 0")
         self.assertEqual(node.ask(Word.FRAME, body=b"block").kind, b"ok")
         self.assertEqual([request.body for request in node.answering.asked], [b"block"] * 3)
@@ -230,7 +230,7 @@ class Files(unittest.TestCase):
 
     def test_three_times_at_most(self) -> None:
         node = Saying(*[b"failed store Full 8"] * 4)
-        self.assertRaisesRegex(nodes.Stop, "FILE does not take what follows height 0: failed store Full 8", node.ask, Word.FRAME)
+        self.assertRaisesRegex(nodes.Stop, "FILE does not keep what follows height 0: failed store Full 8", node.ask, Word.FRAME)
         self.assertEqual(len(node.answering.answers), 1)
 
     def test_other_failures_take_another_engine(self) -> None:
@@ -238,7 +238,7 @@ class Files(unittest.TestCase):
         self.assertRaises(engines.Ended, node.ask, Word.FRAME)
         self.assertEqual(len(node.answering.asked), 1)
 
-    def test_an_engine_tells_why_its_file_is_refused(self) -> None:
+    def test_an_engine_says_why_its_file_is_refused(self) -> None:
         with tempfile.TemporaryDirectory() as place:
             stub = Path(place) / "rvstm"
             stub.write_text("#!/bin/sh\necho $* > $0.words\necho rvstm: store Busy 1 >&2\nexit 1\n")
@@ -265,8 +265,8 @@ class Refusing:
         pass
 
 
-class Anew(unittest.TestCase):
-    """What a node does whose file is refused, or has heights that are gone from the log."""
+class Resets(unittest.TestCase):
+    """What a node does if its file is refused, or the log after it is pruned."""
 
     def setUp(self) -> None:
         place = tempfile.TemporaryDirectory()
@@ -275,16 +275,16 @@ class Anew(unittest.TestCase):
         for end in ("", "-wal"):
             (self.folder / f"FILE{end}").write_text(f"old{end}")
 
-    def begin(self, anew: bool, *started: Engine) -> list[str]:
-        """What a node said that begins with these engines, one behind the other."""
-        node = nodes.Node("n1", "http://127.0.0.1:1", self.folder / "n1", store=str(self.folder / "FILE"), anew=anew)
+    def begin(self, reset: bool, *started: Engine) -> list[str]:
+        """What a node prints that begins with these engines, one after the other."""
+        node = nodes.Node("n1", "http://127.0.0.1:1", self.folder / "n1", store=str(self.folder / "FILE"), reset=reset)
         said, left, shelf = list[str](), list(started), Shelf()
         shelf.put(ledger.GENESIS, b"parts\n", 10)
         shelf.put(ledger.PRUNED, "3 30", 60)
         node.client = shelf
         with (
             unittest.mock.patch.object(node, "say", said.append),
-            unittest.mock.patch.object(node, "begin_anew", lambda: said.append("takes a dump")),
+            unittest.mock.patch.object(node, "begin_as_new", lambda: said.append("takes a dump")),
             unittest.mock.patch.object(engines, "engine", lambda *_: left.pop(0)),
         ):
             node.begin()
@@ -302,30 +302,30 @@ class Anew(unittest.TestCase):
     def test_a_damaged_file_stops_a_node_and_stays(self) -> None:
         before = self.files()
         for why in ("Damaged 7", "NotASession 4"):
-            self.assertRaisesRegex(nodes.Stop, f"FILE is refused: rvstm: store {why}; started with --anew", self.begin, False, Refusing(why))
+            self.assertRaisesRegex(nodes.Stop, f"FILE is refused: rvstm: store {why}; with --reset", self.begin, False, Refusing(why))
         self.assertEqual(self.files(), before)
 
-    def test_told_so_a_node_puts_a_damaged_file_aside_and_begins_with_a_dump(self) -> None:
+    def test_with_reset_a_node_renames_a_damaged_file_and_begins_with_a_dump(self) -> None:
         said = self.begin(True, Refusing("Damaged 7"), Answering())
         self.assertIn("takes a dump", said)
         self.assertEqual(sorted(path.read_text() for path in self.folder.glob("FILE.refused-*")), ["old", "old-wal"])
         self.assertFalse((self.folder / "FILE").exists() or (self.folder / "FILE-wal").exists())
 
-    def test_no_other_refusal_puts_a_file_aside(self) -> None:
+    def test_no_other_refusal_renames_a_file(self) -> None:
         before = self.files()
         for why in ("Busy 1", "HotJournal 2", "Unreadable 3", "OtherVersion 5", "OtherSettings 6", "Memory 9"):
             self.assertRaisesRegex(engines.Ended, why, self.begin, True, Refusing(why))
         self.assertEqual(self.files(), before)
 
-    def test_a_file_behind_which_the_log_is_pruned_stops_a_node(self) -> None:
-        self.assertRaisesRegex(nodes.Stop, "FILE is at height 2, and the log behind that is pruned; .*--anew", self.begin, False, self.at_height(2))
+    def test_a_file_stops_a_node_if_the_log_after_it_is_pruned(self) -> None:
+        self.assertRaisesRegex(nodes.Stop, "FILE is at height 2, and the log after that is pruned; .*--reset", self.begin, False, self.at_height(2))
 
-    def test_told_so_a_node_begins_with_a_dump_in_that_file(self) -> None:
+    def test_with_reset_a_node_begins_with_a_dump_in_that_file(self) -> None:
         before = self.files()
         self.assertIn("takes a dump", self.begin(True, self.at_height(2)))
         self.assertEqual(self.files(), before)
 
-    def test_a_new_file_begins_with_a_dump_untold(self) -> None:
+    def test_a_new_file_begins_with_a_dump_without_reset(self) -> None:
         self.assertIn("takes a dump", self.begin(False, self.at_height(0)))
 
 
@@ -340,28 +340,28 @@ class Audits(unittest.TestCase):
             shelf.put(ledger.at(ledger.DIGESTS, name, height), value, 40 + number)
         return shelf
 
-    def told(self, name: str = "a", **other: str) -> list[tuple[int, str, str]]:
+    def of(self, name: str = "a", **other: str) -> list[tuple[int, str, str]]:
         return [(height, name, other.get(f"at{height}", f"{ONE} {10 * height}")) for height in (1, 2, 3)]
 
     def test_equal_digests_are_right(self) -> None:
-        wrong, seen = audits.audit(self.ledger_of([*self.told("a"), *self.told("b")]), ["a", "b"])
+        wrong, seen = audits.audit(self.ledger_of([*self.of("a"), *self.of("b")]), ["a", "b"])
         self.assertEqual(wrong, [])
         self.assertIn("3 heights, 3 of them with 6 digests of 2 nodes, 0 dumps", seen)
 
     def test_a_height_is_named_where_digests_differ(self) -> None:
-        wrong, _ = audits.audit(self.ledger_of([*self.told("a"), *self.told("b", at2=f"{OTHER} 20")]))
+        wrong, _ = audits.audit(self.ledger_of([*self.of("a"), *self.of("b", at2=f"{OTHER} 20")]))
         self.assertEqual(wrong, [f"digests at height 2 differ: a {ONE[:16]}, b {OTHER[:16]}"])
 
     def test_a_digest_of_another_block_is_named(self) -> None:
-        wrong, _ = audits.audit(self.ledger_of(self.told("a", at3=f"{ONE} 20")))
-        self.assertEqual(wrong, ["height 3: a ran another block than the log's"])
+        wrong, _ = audits.audit(self.ledger_of(self.of("a", at3=f"{ONE} 20")))
+        self.assertEqual(wrong, ["height 3: a ran another block than the one in the log"])
 
     def test_a_missing_digest_is_named(self) -> None:
-        wrong, _ = audits.audit(self.ledger_of(self.told("a")[:2]), ["a", "b"])
+        wrong, _ = audits.audit(self.ledger_of(self.of("a")[:2]), ["a", "b"])
         self.assertEqual(wrong, ["a has no digest at the last height, 3", "b has no digest at the last height, 3"])
 
     def test_a_changed_entry_is_named(self) -> None:
-        shelf = self.ledger_of(self.told("a"))
+        shelf = self.ledger_of(self.of("a"))
         shelf.put(ledger.BLOCKS + "p.1/0000000001", b"parts\n", 20, 77)
         self.assertEqual(audits.audit(shelf)[0], [f"{ledger.BLOCKS}p.1/0000000001 was changed"])
 
@@ -379,8 +379,8 @@ class Pages(unittest.TestCase):
 
 
 class Texts(unittest.TestCase):
-    def test_keys_behind_a_prefix(self) -> None:
-        self.assertEqual(etcd.behind("/log/"), "/log0")
+    def test_the_key_after_a_prefix(self) -> None:
+        self.assertEqual(etcd.after("/log/"), "/log0")
 
     def test_a_refusal_of_the_library_is_a_line_of_a_session(self) -> None:
         parts = engines.Parts(7, 2, b"block", b"BadLine")
@@ -395,7 +395,7 @@ class Texts(unittest.TestCase):
         parts = engines.Parts(0, 5, b"frame", b"TooMuchGas")
         self.assertEqual(library.reason(), b"frame TooMuchGas 5")
 
-    def test_strange_blocks_are_as_the_page_of_a_session_says(self) -> None:
+    def test_answers_to_strange_blocks_have_the_form_of_a_session(self) -> None:
         for what, (block, answer) in transfers.strange(random.Random(1)).items():
             self.assertTrue(answers.ANSWER.fullmatch(answer.encode() + b"\n"), what)
 

@@ -1,4 +1,4 @@
-"""Blocks for a demonstration: transfers by two contracts between accounts, and blocks that nodes refuse."""
+"""Blocks for a demonstration: transfers between accounts with two contracts, and blocks that nodes refuse."""
 
 import hashlib
 from random import Random
@@ -22,7 +22,7 @@ def number(amount: int) -> str:
 
 
 def key_of(account: bytes) -> str:
-    """The key of an account, as a row of the table that both contracts have."""
+    """The key of an account: a row of the table that both contracts share."""
     return Row("acct", account).key.hex()
 
 
@@ -35,7 +35,7 @@ def genesis() -> bytes:
 
 
 def transfers(source: Random, count: int) -> bytes:
-    """Half of them by token, which reads both accounts, and half by fees, which adds to one and to the pot."""
+    """Transfers: half with token, which reads both accounts, and half with fees, which adds to one account and to the pot."""
     calls = []
     for at in range(count):
         one, other = source.sample(ACCOUNTS, 2)
@@ -45,13 +45,13 @@ def transfers(source: Random, count: int) -> bytes:
 
 
 def long_calls(source: Random, count: int, length: int = 4000, gas: int = 10_000_000) -> bytes:
-    """Calls that hash long inputs: a block of some megabytes, which takes a while."""
+    """Calls that hash long inputs: a block of some megabytes, which runs for a while."""
     calls = (f"call 0 {gas} {source.randbytes(length).hex()}\n" for _ in range(count))
     return (HEAD + programs(DIGEST) + "".join(calls)).encode()
 
 
 def strange(source: Random) -> dict[str, tuple[str, str]]:
-    """What strangers send, by what it is, and what each session answers."""
+    """Blocks as strangers send them, by what is wrong, each with the answer of every session."""
     good = transfers(source, 2).decode()
     token = HEAD + programs(TOKEN)
     none = "refused block 1 BadHeader 1"
