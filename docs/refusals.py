@@ -51,7 +51,7 @@ class Parts:
 
 
 SCHEDULE = "schedule"
-"""The area of a schedule file, whose refusals are two of those of `Cause`."""
+"""The area of a schedule file. Its refusals are two of `Cause`."""
 ENUMERATIONS = (
     Enumeration("FileFault", "engines/src/fault.rt", "file"),
     Enumeration("WriteFault", "byte_streams/src/fault.rt", "output"),

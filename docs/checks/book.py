@@ -65,7 +65,7 @@ class Book:
 
 
 def book_of(words: Sequence[str]) -> Book:
-    """The book that words ask for, as those of --reading."""
+    """The book for the words of --book, which are as for --reading."""
     return Book(reading.reading_of(words))
 
 

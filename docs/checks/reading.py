@@ -105,7 +105,7 @@ class Reading:
 
     @functools.cached_property
     def modules(self) -> list[Module]:
-        """The modules of the kit from which a name is taken, without those of what was read before."""
+        """The modules of the kit that a name comes from, without those that were read before."""
         new = {module_of(cited) for cited in self.cited if cited.kind is Place.KIT}
         old = {module_of(cited) for cited in self.before if cited.kind is Place.KIT}
         return sorted(new - old, key=lambda module: (module.library != "std", module.library, module.name))

@@ -71,7 +71,7 @@ def in_order_and_by_workers(run: Run, name: str) -> None:
 
 
 def in_rust(run: Run) -> None:
-    """The tally in Rust does what the one in C does, but for gas and pc."""
+    """The tally in Rust does what the one in C does, except for gas and pc."""
     texts = [rvstm(run, "seq", f"{name}.block", folder=EXAMPLES / name).done() for name in ("tally", "tally-rust")]
     one, other = (CHARGES.sub("", without_registers(text)) for text in texts)
     same(other, one)
@@ -126,7 +126,7 @@ def modelled(run: Run) -> None:
 
 
 def traced(run: Run, name: str) -> None:
-    """Each call of a block: the gas of its steps is that of its receipt, which the tool compares."""
+    """Each call of a block: its steps have as much gas as its receipt. The tool compares them."""
     folder = EXAMPLES / name
     calls = len(re.findall("^call ", (folder / f"{name}.block").read_text(), re.M))
     for call in range(calls):
@@ -173,7 +173,7 @@ def covered(run: Run) -> None:
     one = tool(run, "coverage", "token.list", folder=run.place).done()
     both = tool(run, "coverage", "token.list", "refusals.list", "--sdk", "--lcov", "info", folder=run.place).done()
     came = re.sub(r"^[^ ]*/sdk/", "sdk/", one + both, flags=re.M)
-    # The order of files is that of their paths, so it depends on where the checkout is.
+    # Files are ordered by their paths, so the order depends on the folder of the checkout.
     parts = [sorted(re.split(r"\n(?=\S)", text.rstrip())) for text in (came, (EXAMPLES / "covered/token.covered").read_text())]
     same("\n".join(parts[0]), "\n".join(parts[1]))
     shown = re.findall(r"^[^ ].*: lines (\d+) of (\d+).*; branches (\d+) of (\d+)", both, re.M)

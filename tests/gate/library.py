@@ -72,7 +72,7 @@ def two_copies(run: Run) -> None:
 
 
 def beside_chain(run: Run) -> None:
-    """Random sessions by a driver in C, two side by side in one process: each answer is that of `rvstm chain`."""
+    """Random sessions by a driver in C, two side by side in one process: each answer equals that of `rvstm chain`."""
     run.note(f"seed {run.setting.seed}")
     done = command([*tool_words("embedded"), run.program, str(PAIRS), str(run.setting.seed)])
     holds(done.status == 0, last_lines(done.out + done.errors), "no difference")

@@ -81,7 +81,7 @@ def sums(outcomes: Sequence[Outcome], more_failed: int = 0) -> str:
 
 
 def main(words: Sequence[str] | None = None) -> int:
-    """Runs the cases. The last line comes in every case but that of a wrong command line."""
+    """Runs the cases. The last line always comes, except after a wrong command line."""
     given = parser().parse_args(words)
     if (given.program is None) != given.preview:
         parser().error("PROGRAM, or --preview")

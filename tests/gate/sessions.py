@@ -196,7 +196,7 @@ def strangers(run: Run) -> None:
 
 
 def over_a_file(run: Run) -> None:
-    """Each request in a process of its own, over a file: the answers are those of one session."""
+    """Each request in a process of its own, over a file: the answers equal those of one session."""
     path = run.place / "file"
     for number, (request, answer) in enumerate(requests()):
         with Session(run.program, "--brief", "--store", path) as session:
@@ -356,7 +356,7 @@ def synced(run: Run) -> None:
 
 def nodes(run: Run) -> None:
     """Three nodes over the same frames: in order, by four workers, and by two over a file with restarts. They have one digest at
-    each height, which is that of hashlib."""
+    each height, and hashlib computes the same."""
     frames = [frame_of(path) for path in sorted((TOP / "examples").glob("*/*.block")) if path.stem == path.parent.name]
     frames += [frame_of(path / "block") for rules in ("rules2", "rules3") for path in sorted((FOLDER / rules).iterdir())[::2]]
     digest, path = NO_DIGEST, run.place / "file"

@@ -170,7 +170,7 @@ class GateTest(unittest.TestCase):
         self.assertIn("built --again", self.expect("86 passed, 0 failed, 2 skipped", 0))
 
     def test_packages(self) -> None:
-        """A machine of the gate installs what CONTRIBUTING names, first, and goes on if it can't."""
+        """A machine of the gate installs what CONTRIBUTING names, first, and continues if it can't."""
         self.stub("bin/id", "echo 0")
         for ending in ("", "; exit 100"):
             self.stub("bin/apt-get", f'echo "$*" >> installed{ending}')

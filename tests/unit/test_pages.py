@@ -43,7 +43,7 @@ class BlocksTest(unittest.TestCase):
         self.blocks = pages.blocks_of("page.md", PAGE)
 
     def test_which(self) -> None:
-        """Blocks without a command are none, and the others stand at their lines."""
+        """Blocks without a command do not count. The others have the numbers of their lines."""
         self.assertEqual([block.name for block in self.blocks], ["page.md:8", "page.md:17", "page.md:22"])
 
     def test_steps(self) -> None:
@@ -53,7 +53,7 @@ class BlocksTest(unittest.TestCase):
         self.assertEqual((second.command, second.printed), ("rvstm seq counter.block", ("call 0 ..", "", "end")))
 
     def test_longer_commands(self) -> None:
-        """A text up to its end and a line that goes on belong to their command."""
+        """A text up to its end, and a line that continues, belong to their command."""
         first, second = self.blocks[2].steps
         self.assertEqual(first.command, "cat > one.list <<'END'\n$ no command\nEND")
         self.assertEqual((second.command, second.printed), ("two \\\n    lines", ("out",)))
@@ -77,7 +77,7 @@ class DifferenceTest(unittest.TestCase):
         self.assertIn(text, pages.first_difference(wanted.split("|"), came.split("|")))
 
     def test_whole(self) -> None:
-        """Without a cut all lines are the same, but for blanks at their ends."""
+        """Without a cut all lines must be equal, except for blanks at their ends."""
         self.same("a|b", "a|b  ")
         self.differs("a|b", "a|c", "came c; wanted b")
         self.differs("a|b", "a", "came the end; wanted b")
