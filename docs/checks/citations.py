@@ -81,17 +81,18 @@ def is_in(name: str, words: set[str]) -> bool:
     return name in words or ("◌" in name and all(part in words for part in parts_of_name(name)))
 
 
+def taken_in(path: Path, text: str) -> dict[str, list[sources.Taken]]:
+    """What the names in a text take, by the `use` lines of its file."""
+    imports, words = sources.imports(path), words_of(text)
+    found = {local: list(entries) for local, entries in imports.names.items() if is_in(local, words)}
+    for alias, name in MEMBER_OF.findall(text):
+        found[f"{alias}.{name}"] = [sources.Taken(module, name) for module in imports.modules.get(alias, [])]
+    return found
+
+
 def names_in(path: Path, text: str) -> dict[str, set[Cited]]:
     """What the names in a text refer to, by the `use` lines of its file."""
-    imports, words = sources.imports(path), words_of(text)
-    found = dict[str, set[Cited]]()
-    for local, entries in imports.names.items():
-        if is_in(local, words):
-            found.setdefault(local, set()).update(cited for entry in entries if (cited := target(entry)))
-    for alias, name in MEMBER_OF.findall(text):
-        taken = [sources.Taken(module, name) for module in imports.modules.get(alias, [])]
-        found.setdefault(f"{alias}.{name}", set()).update(cited for entry in taken if (cited := target(entry)))
-    return found
+    return {name: {cited for entry in entries if (cited := target(entry))} for name, entries in taken_in(path, text).items()}
 
 
 def cited_by_text(path: Path, text: str) -> set[Cited]:

@@ -7,13 +7,14 @@ from dataclasses import dataclass
 from pathlib import Path
 
 import refusals
-from checks import book, book_page, calls, crates, definitions, markdown, pages, reading, rule_calls, sources, versions
+from checks import book, book_page, calls, crates, definitions, layers, markdown, pages, reading, rule_calls, sources, unused, versions
 from rvstm_tools import errors
 from rvstm_tools.errors import MisuseError
 
 DESCRIPTION = """\
-Checks that the calls, clauses, files, links, commands and numbers of lines that the pages name are there, that docs/rule_calls.txt
-and the refusals of docs/messages.md agree with the sources, and that all places say one version. Prints what is missing, the checksum
+Checks that the calls, clauses, files, links, commands and numbers of lines that the pages name are there, that docs/rule_calls.txt,
+docs/crates.svg and the refusals of docs/messages.md agree with the sources, that crates.txt has each crate after those that it uses,
+and that all places say one version. Prints what is missing, the checksum
 of the sources of the program, and 'N names, M missing'. The status is 1 if something is missing.
 
 With an option it prints what is in the sources, and no page repeats it."""
@@ -40,6 +41,7 @@ PRINTERS = (
     Printer("--crates", "CRATE", "*", "the crates, and what each is for", crates.listed),
     Printer("--definitions", "CRATE", "*", "the files of definitions in reading order, and what each defines", definitions.listed),
     Printer("--lemmas", "CRATE", "*", "the crates whose lemmas each crate's proofs cite", crates.lemmas),
+    Printer("--unused", "CRATE", "*", "the public names, definitions and lemmas that nothing uses", unused.listed),
     Printer("--refusals", "", "", "what rvstm refuses, and when: the rows of docs/messages.md", lambda words: refusals.table_lines()),
     Printer(
         "--reading",
@@ -64,12 +66,15 @@ def parser() -> argparse.ArgumentParser:
         else:
             choice.add_argument(printer.option, action="store_const", const=[], help=printer.help)
     made.add_argument("--html", metavar="FILE", type=Path, help="with --book: writes it to FILE as a page with links")
+    made.add_argument("--svg", metavar="FILE", type=Path, help="with --crates: writes FILE, a picture of all crates by layer")
     return made
 
 
 def faults() -> Iterator[str]:
     """What the pages name wrongly, and what disagrees with the sources."""
     yield from versions.wrong()
+    yield from layers.misplaced()
+    yield from layers.differences()
     yield from rule_calls.differences()
     yield from refusals.differences()
     for page in pages.page_files():
@@ -94,6 +99,12 @@ def run(given: argparse.Namespace) -> int:
         held = book.book_of(given.book)
         given.html.write_text(book_page.page_of(held))
         print(f"{given.html}: {held.summary}")
+        return errors.Status.DONE
+    if given.svg and given.crates != []:
+        raise MisuseError("--svg goes with --crates, without the name of a crate")
+    if given.svg:
+        given.svg.write_text(layers.svg())
+        print(f"{given.svg}: {sources.counted(len(sources.crate_names()), 'crate')}")
         return errors.Status.DONE
     for printer in PRINTERS:
         words = getattr(given, printer.option.removeprefix("--"))

@@ -2,21 +2,27 @@
 
 import functools
 import re
-from collections.abc import Iterator
+from collections.abc import Iterator, Mapping
 from dataclasses import dataclass, field
 from pathlib import Path
 
 TOP = Path(__file__).resolve().parents[2]
 CRATES = TOP / "crates"
-USE = re.compile(r"^ *(?:ghost )?(?:pub )?use ([\w.]+?)(?:\.\{(.*?)\})?(?: as (\S+?))?;?$", re.M)
-RUST_USE = re.compile(r"^(?:pub(?:\(\w+\))? )?use ([\w:]+?)(?:::\{([^{}]*)\}|::(\w+))?;", re.M)
+USE = re.compile(r"^ *(?:ghost )?(?:pub )?use ([\w.+]+?)(?:\.\{(.*?)\})?(?: as (\S+?))?;?$", re.M)
+RUST_USE = re.compile(r"^(pub(?:\(\w+\))? )?use ([\w:]+?)(?:::\{([^{}]*)\}|::(\w+(?: as \w+)?|\*))?;", re.M)
 
 
 @functools.cache
+def libraries() -> Mapping[str, tuple[str, ...]]:
+    """The crates, lowest first, each with the libraries that crates.txt gives it."""
+    lines = (TOP / "crates.txt").read_text().splitlines()
+    rows = (line.partition(":") for line in lines if ":" in line and not line.startswith("#"))
+    return {name.split()[0]: tuple(others.split()) for name, _, others in rows}
+
+
 def crate_names() -> tuple[str, ...]:
     """The crates, lowest first."""
-    lines = (TOP / "crates.txt").read_text().splitlines()
-    return tuple(line.split(":")[0].split()[0] for line in lines if ":" in line and not line.startswith("#"))
+    return tuple(libraries())
 
 
 def is_crate(name: str) -> bool:
@@ -58,6 +64,19 @@ def lines_of(file: str) -> list[str]:
 def without_comments(text: str) -> str:
     """A text without its comments, and without what is between quotes."""
     return re.sub(r"(?://|--).*", "", re.sub(r'"[^"\n]*"', '""', text))
+
+
+@functools.cache
+def files_of(crate: str) -> tuple[Path, ...]:
+    """The files of a crate's code, definitions and proofs."""
+    files = (path for folder in ("src", "specs", "proofs") for path in (CRATES / crate / folder).rglob("*"))
+    return tuple(sorted(path for path in files if path.suffix in (".rt", ".antt")))
+
+
+@functools.cache
+def code_of(path: Path) -> str:
+    """The text of a file of code or of proofs without its comments and `use` lines."""
+    return RUST_USE.sub("", USE.sub("", without_comments(text_of(path))))
 
 
 def first_sentence(lines: list[str]) -> str:
@@ -119,13 +138,33 @@ def imports(path: Path) -> Imports:
     return found
 
 
+@dataclass(frozen=True)
+class CodeUse:
+    """A name as a `use` line of code takes it: its name in the file, its path, and whether the line is `pub use`."""
+
+    local: str
+    path: str
+    is_shown: bool
+
+
+@functools.cache
+def code_uses(path: Path) -> tuple[CodeUse, ...]:
+    """What the `use` lines of a file of code take. What `*` takes has the local name `*`."""
+    found = list[CodeUse]()
+    for shown_as, module, braces, name in RUST_USE.findall(text_of(path)):
+        for entry in entries_of(braces or name or "self"):
+            is_module = entry.name == "self"
+            local = module.split("::")[-1] if entry.local == "self" else entry.local
+            found.append(CodeUse(local, module if is_module else f"{module}::{entry.name}", shown_as == "pub "))
+    return tuple(found)
+
+
 @functools.cache
 def code_imports(path: Path) -> dict[str, str]:
     """The crate of each name that the code of a file imports."""
     found, own = dict[str, str](), crate_of(path)
-    for module, braces, name in RUST_USE.findall(text_of(path)):
-        first = module.split("::")[0]
+    for use in code_uses(path):
+        first = use.path.split("::")[0]
         is_own = first in ("crate", "self", "super") or (CRATES / own / f"src/{first}.rt").exists()
-        for entry in entries_of(braces or name):
-            found[entry.local] = own if is_own else first
+        found[use.local] = own if is_own else first
     return found

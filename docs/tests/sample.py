@@ -8,9 +8,9 @@ from pathlib import Path
 from types import ModuleType
 from unittest import mock
 
-from checks import calls, citations, crates, definitions, markdown, pages, reading, rule_calls, sources
+from checks import calls, citations, crates, definitions, items, markdown, pages, public_names, reading, rule_calls, sources, unused
 
-MODULES: tuple[ModuleType, ...] = (calls, citations, crates, definitions, markdown, pages, reading, rule_calls, sources)
+MODULES: tuple[ModuleType, ...] = (calls, citations, crates, definitions, items, markdown, pages, public_names, reading, rule_calls, sources, unused)
 LOW_SPEC = """\
 -- What a number is, here.
 use Rattle.std.specs.Prelude.{ℕ, ◌+◌, Bool}
@@ -107,7 +107,10 @@ FILES = {
     "crates/high/specs/Sums.antt": HIGH_SPEC,
     "crates/high/proofs/Sums.antt": "use Rattle.low.proofs.Number.{lemma}\n",
     "examples/counter/counter.block": "block 1\n",
+    "README.md": "",
+    "CONTRIBUTING.md": "",
     "docs/check": "",
+    "docs/rule_calls.txt": "",
     "docs/guide.md": "# Guide\n\n## Two  `words`: here\n\n## Twice\n\n## Twice\n",
 }
 

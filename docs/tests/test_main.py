@@ -37,6 +37,7 @@ class CommandLine(unittest.TestCase):
             ("--crates",): "low: Numbers.",
             ("--definitions", "high"): "high/specs/Sums.antt: Sums of boxes.",
             ("--lemmas",): "high: low",
+            ("--unused", "low"): "    low/specs/Number.antt unused  13",
             ("--reading", "low::Boxed::doubled"): "| 7 | together, in 1 file | |",
             ("--book", "low::Boxed::doubled", "even"): "twice n = n + n",
         }
@@ -54,9 +55,19 @@ class CommandLine(unittest.TestCase):
         self.assertEqual(done, Ended(0, [f"{top}/book.html: 7 lines of definitions in 1 file, 0 types of the code, 1 module of the kit"], []))
         self.assertTrue(page.startswith("<!DOCTYPE html>") and page.endswith("</html>\n"))
 
+    def test_picture_of_crates(self) -> None:
+        with sample.tree() as top:
+            done = ended(["--crates", "--svg", str(top / "crates.svg")])
+            picture = (top / "crates.svg").read_text()
+        self.assertEqual(done, Ended(0, [f"{top}/crates.svg: 2 crates"], []))
+        self.assertTrue(picture.startswith("<svg ") and picture.endswith("</svg>\n"))
+
     def test_refusals(self) -> None:
         rows = {
             ("--html", "book.html"): (2, "docs/check: --html goes with --book"),
+            ("--svg", "crates.svg"): (2, "docs/check: --svg goes with --crates, without the name of a crate"),
+            ("--crates", "low", "--svg", "crates.svg"): (2, "docs/check: --svg goes with --crates, without the name of a crate"),
+            ("--unused", "middle"): (2, "docs/check: there is no crate middle"),
             ("--reading", "low::gone"): (2, "docs/check: there is no public call and no clause low::gone"),
             ("--calls", "middle"): (2, "docs/check: there is no crate middle"),
             ("--book", "low::Boxed::doubled", "--html", "/nowhere/book.html"): (1, "docs/check: /nowhere/book.html: No such file or directory"),

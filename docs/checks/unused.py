@@ -1,0 +1,201 @@
+"""What nothing uses, as docs/check --unused prints it: public names of code, definitions, lemmas.
+
+A text uses a definition or a lemma if it has its name, and a `use` line of its file takes that name from the file of the definition, or
+it is in that file. What the contracts use, and what this uses itself, is reached. So is, for lemmas, what answers of goals and
+`#[tactic(.. using(..))]` use. No field of a record is looked at.
+"""
+
+import enum
+import functools
+import re
+from collections import Counter
+from collections.abc import Iterable, Iterator, Sequence
+from dataclasses import dataclass
+from pathlib import Path
+
+from checks import calls, citations, items, pages, public_names, rule_calls, sources
+from checks.calls import Call
+from rvstm_tools.errors import MisuseError
+
+LIST = "docs/unused_names.txt"
+"""The names that stay though nothing uses them, below the top: a name as --unused prints it, two spaces, a # and the reason."""
+TACTIC = re.compile(r"\b(\w+)::proofs::([\w:]+)::([^\s:,()]+)")
+
+
+class Kind(enum.Enum):
+    """How something is unused."""
+
+    OWN = "public, and only its crate uses it"
+    NOBODY = "public, and nothing uses it"
+    BOTH = "public, and only its crate and tests use it"
+    TESTS = "public, and only tests use it"
+    UNCITED = "a law that no page cites"
+    PROOFS = "a definition that only proofs reach"
+    NOTHING = "a definition that nothing reaches"
+    LEMMA = "a lemma that nothing reaches"
+
+
+@dataclass(frozen=True)
+class Unused:
+    """A name that is not used: `crate::Type::name` of code, `crate/proofs/File.antt name` of proofs."""
+
+    kind: Kind
+    name: str
+    where: str
+    """Its line, after its file if the name has none."""
+
+
+@dataclass(frozen=True)
+class Place:
+    """A definition or a lemma: the file below crates/ that it is in, and its name."""
+
+    file: str
+    name: str
+
+
+# ---- definitions and lemmas
+
+
+def place_of(taken: sources.Taken) -> Place | None:
+    """The definition that a name of a module is; None if it is of the kit, or the prover makes it."""
+    root, *parts = taken.module.split(".")
+    file = "/".join(parts) + ".antt"
+    if root != "Rattle" or parts[1:2] not in (["specs"], ["proofs"]) or not (sources.CRATES / file).is_file():
+        return None
+    owner = items.items(file).owner.get(taken.name)
+    if owner:
+        return Place(file, owner)
+    passed = sources.imports(sources.CRATES / file).names.get(taken.name, [])
+    return next((place for entry in passed if (place := place_of(entry))), None)
+
+
+def used_by_text(path: Path, text: str) -> set[Place]:
+    """The definitions of other files that a text uses."""
+    taken = (entry for entries in citations.taken_in(path, text).values() for entry in entries)
+    return {place for entry in taken if (place := place_of(entry))}
+
+
+@functools.cache
+def used_by(place: Place) -> set[Place]:
+    """What a definition or a lemma uses."""
+    held = items.items(place.file)
+    code = held.by_name[place.name].code
+    words = citations.words_of(code)
+    own = {Place(place.file, owner) for name, owner in held.owner.items() if citations.is_in(name, words)}
+    return own | used_by_text(sources.CRATES / place.file, code)
+
+
+def reached(begin: Iterable[Place]) -> set[Place]:
+    """What some definitions use, directly or not, with themselves."""
+    found = set(begin)
+    left = list(found)
+    while left:
+        new = used_by(left.pop()) - found
+        found |= new
+        left += new
+    return found
+
+
+def code_files() -> Iterator[Path]:
+    """The files of code of all crates."""
+    yield from (path for crate in sources.crate_names() for path in sources.files_of(crate) if path.suffix == ".rt")
+
+
+def places(crate: str, folder: str) -> Iterator[Place]:
+    """What the files of specs/ or proofs/ of a crate define."""
+    files = [sources.shown(path) for path in sources.files_of(crate) if path.suffix == ".antt"]
+    yield from (Place(file, name) for file in files if file.startswith(f"{crate}/{folder}/") for name in items.items(file).by_name)
+
+
+@functools.cache
+def by_contracts() -> frozenset[Place]:
+    """What the contracts reach."""
+    return frozenset(reached({place for path in code_files() for place in used_by_text(path, sources.code_of(path))}))
+
+
+@functools.cache
+def by_proofs() -> frozenset[Place]:
+    """What the contracts, the answers of goals and the tactics reach."""
+    found = set(by_contracts())
+    for path in code_files():
+        for crate, module, name in TACTIC.findall(sources.text_of(path)):
+            own = sources.crate_of(path) if crate == "crate" else crate
+            place = place_of(sources.Taken(f"Rattle.{own}.proofs.{module.replace('::', '.')}", name))
+            found |= {place} if place else set()
+    answers = (place for crate in sources.crate_names() for place in places(crate, "proofs"))
+    return frozenset(reached(found | {place for place in answers if items.items(place.file).by_name[place.name].is_answer}))
+
+
+def unused_places(crate: str) -> Iterator[Unused]:
+    """The definitions and lemmas of a crate that are not used."""
+    for place in (*places(crate, "specs"), *places(crate, "proofs")):
+        where, is_definition = str(items.items(place.file).by_name[place.name].line), "/specs/" in place.file
+        if place not in by_proofs():
+            yield Unused(Kind.NOTHING if is_definition else Kind.LEMMA, f"{place.file} {place.name}", where)
+        elif is_definition and place not in by_contracts():
+            yield Unused(Kind.PROOFS, f"{place.file} {place.name}", where)
+
+
+# ---- public names
+
+
+@functools.cache
+def cited_by_pages() -> frozenset[str]:
+    """The calls that pages name."""
+    return frozenset(name for page in pages.page_files() for name, _ in pages.CALL.findall(page.read_text()))
+
+
+def is_law(call: Call) -> bool:
+    """Whether it is a law: it changes nothing and gives nothing, so that only its clauses count."""
+    return call.is_function and not re.search(r"->|&mut|\bself\b", call.signature)
+
+
+def kind_of(call: Call) -> Kind | None:
+    """How a public name is unused; None if it is used."""
+    rules = rule_calls.listed((sources.TOP / "docs/rule_calls.txt").read_text())
+    if call.full_name in public_names.used(False) or call.full_name in rules or (is_law(call) and call.full_name in cited_by_pages()):
+        return None
+    if public_names.is_used_in_crate(call):
+        return Kind.BOTH if call.full_name in public_names.used(True) else Kind.OWN
+    if call.full_name in public_names.used(True):
+        return Kind.TESTS
+    return Kind.UNCITED if is_law(call) else Kind.NOBODY
+
+
+def unused_names(crate: str) -> Iterator[Unused]:
+    """The public names of a crate that are not used."""
+    for call in public_names.public(crate).values():
+        if kind := kind_of(call):
+            cited = ", which a page names" if call.full_name in cited_by_pages() else ""
+            yield Unused(kind, call.full_name, f"{sources.shown(call.path)}:{call.line}{cited}")
+
+
+# ---- what --unused prints
+
+
+def exceptions() -> dict[str, str]:
+    """The names of the list of exceptions, each with its reason."""
+    path = sources.TOP / LIST
+    lines = path.read_text().splitlines() if path.is_file() else []
+    rows = [line.partition("  # ") for line in lines if line and not line.startswith("#")]
+    for name, _, reason in rows:
+        if not reason:
+            raise MisuseError(f"{LIST}: {name} has no reason")
+    return {name: reason for name, _, reason in rows}
+
+
+def listed(crates: Sequence[str]) -> Iterator[str]:
+    """The lines that --unused prints: by crate and kind the names that are not used, their number, and the exceptions that are used."""
+    spared, counts, seen = exceptions(), Counter[Kind](), set[str]()
+    for crate in calls.chosen_crates(crates):
+        found = [*unused_names(crate), *unused_places(crate)]
+        seen.update(entry.name for entry in found)
+        left = [entry for entry in found if entry.name not in spared]
+        yield from [crate] if left else []
+        for kind in Kind:
+            rows = [f"    {entry.name}  {entry.where}" for entry in left if entry.kind is kind]
+            counts[kind] += len(rows)
+            yield from [f"  {kind.value}:", *rows] if rows else []
+    yield from (f"{counts[kind]:5} {kind.value}" for kind in Kind)
+    if not crates:
+        yield from (f"{LIST}: {name} is used, or is not there" for name in spared if name not in seen)
