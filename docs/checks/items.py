@@ -1,4 +1,4 @@
-"""What the files of specs/ and proofs/ define, in a `module _ (..) where` too, with all that each definition says."""
+"""The definitions and lemmas of the files in specs/ and proofs/, those in a `module _ (..) where` too."""
 
 import functools
 import re
@@ -23,11 +23,11 @@ class Item:
     signs: str
     """What comes before its name, such as `abbrev pub`."""
     code: str
-    """Its text without comments, with the arguments of the modules that it is in."""
+    """Its text without comments, and the arguments of the modules around it."""
 
     @property
     def is_answer(self) -> bool:
-        """Whether the prover takes it: it answers a goal, or is public in a file that is neither one of lemmas nor of answers."""
+        """Whether the prover asks for it: it answers a goal, or is public in a file for one function that has no goals."""
         crate_and_folder, _, rest = self.file.partition("/proofs/")
         if not rest.count("/") or "pub" not in self.signs:
             return False
@@ -36,15 +36,14 @@ class Item:
 
 @dataclass
 class Items:
-    """What a file defines: its items by name, and by each name that it gives, such as a constructor of its data, that of the item."""
-
     by_name: dict[str, Item] = field(default_factory=dict)
     owner: dict[str, str] = field(default_factory=dict)
+    """The item of each name that an item gives, such as a constructor of its data."""
 
 
 @dataclass(frozen=True)
 class Line:
-    """A line of a file, from what its module is indented to, with the arguments of all modules that it is in."""
+    """A line of a file, without the indentation of its module, and the arguments of all modules around it."""
 
     number: int
     text: str
@@ -52,7 +51,7 @@ class Line:
 
 
 def lines_in_modules(text: str) -> Iterator[Line]:
-    """The lines of a file that are neither empty nor of the head of a module."""
+    """The lines of a file except empty ones and the heads of modules."""
     modules, head = [(0, "")], ""
     for number, line in enumerate(text.splitlines(), 1):
         indent = len(line) - len(line.lstrip())
@@ -71,7 +70,7 @@ def lines_in_modules(text: str) -> Iterator[Line]:
 
 @functools.cache
 def items(file: str) -> Items:
-    """What a file of specs/ or proofs/ defines. An equation belongs to the definition of its name."""
+    """The items of a file below crates/. An equation belongs to the item of its name."""
     found = Items()
     last: Item | None = None
     for line in lines_in_modules(sources.without_comments(sources.text_of(sources.CRATES / file))):

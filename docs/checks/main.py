@@ -14,8 +14,8 @@ from rvstm_tools.errors import MisuseError
 DESCRIPTION = """\
 Checks that the calls, clauses, files, links, commands and numbers of lines that the pages name are there, that docs/rule_calls.txt,
 docs/crates.svg and the refusals of docs/messages.md agree with the sources, that crates.txt has each crate after those that it uses,
-and that all places say one version. Prints what is missing, the checksum
-of the sources of the program, and 'N names, M missing'. The status is 1 if something is missing.
+and that all places say one version. Prints what is missing, the checksum of the sources of the program, and 'N names, M missing'. The
+status is 1 if something is missing.
 
 With an option it prints what is in the sources, and no page repeats it."""
 EXAMPLE = """\

@@ -2,7 +2,7 @@
 
 A crate uses a name of another one by its path or through a `use` line, in code, contracts, definitions or proofs. It uses a method by
 `.method(` if the crate of the method is among its libraries: of several methods with that name all count, since types are not worked
-out. A type is used if a used name shows it: in its arguments, its result or a public field, or as its own type.
+out. A type is used if a used name shows it, in its arguments, its result or a public field.
 """
 
 import functools
@@ -31,7 +31,6 @@ def public(crate: str) -> Mapping[str, Call]:
 
 
 def is_of_tests(path: Path) -> bool:
-    """Whether a file is of tests alone."""
     return sources.crate_of(path).endswith("_tests") or "tests" in path.parts or path.name == "tests.rt"
 
 
@@ -47,11 +46,11 @@ def names_of_path(parts: Sequence[str]) -> Iterator[str]:
 
 
 def named_by_code(path: Path) -> Iterator[str]:
-    """The public names that a file of code names by their paths, or through its `use` lines."""
+    """The public names that a file of code has, by their paths or through its `use` lines."""
     own, text = sources.crate_of(path), TURBOFISH.sub("", sources.code_of(path))
     local = {"crate": [own]}
     for use in sources.code_uses(path):
-        parts = use.path.split("::")
+        parts = [own if part == "crate" else part for part in use.path.split("::")]
         if use.local == "*":
             local |= {name: [*parts[:-1], name] for name in public(parts[0])}
         elif use.is_shown:
@@ -62,14 +61,14 @@ def named_by_code(path: Path) -> Iterator[str]:
 
 
 def methods_called(path: Path) -> Iterator[str]:
-    """The methods of all types of its libraries that a file of code may call."""
+    """The methods that a file of code may call, of all types of its libraries."""
     crate, words = sources.crate_of(path), set(METHOD.findall(TURBOFISH.sub("", sources.code_of(path))))
     for library in (*sources.libraries()[crate], crate):
         yield from (f"{library}::{name}" for name in public(library) if "::" in name and name.rpartition("::")[2] in words)
 
 
 def named_by_proofs(path: Path) -> Iterator[str]:
-    """The types and constants that a file takes from what the prover makes of code."""
+    """The types and constants of code that a file of proofs or a contract takes."""
     for entries in citations.taken_in(path, sources.code_of(path)).values():
         for parts in ((*taken.module.split("."), taken.name) for taken in entries):
             if parts[0] == "Rattle" and parts[2:4] in (("specs", "declared"), ("specs", "contracts")):
@@ -91,13 +90,13 @@ def shown_by(full_name: str) -> frozenset[str]:
 
 
 def counted(path: Path, names: Iterable[str]) -> set[str]:
-    """Of the names that a file uses those that count: a crate's own count in its tests alone."""
+    """The names that a file uses. Those of its own crate count only if it is a test."""
     return {name for name in names if is_of_tests(path) or not name.startswith(f"{sources.crate_of(path)}::")}
 
 
 @functools.cache
 def used(with_tests: bool) -> frozenset[str]:
-    """The public names that other crates use, or C by `extern "C"`; if tests count, those that tests use, too."""
+    """The public names that other crates or C use, and, if asked for, tests."""
     found = {call.full_name for crate in sources.crate_names() for call in public(crate).values() if 'extern "C"' in call.head}
     methods = set[str]()
     for path in (path for crate in sources.crate_names() for path in sources.files_of(crate)):

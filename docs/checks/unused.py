@@ -1,8 +1,8 @@
-"""What nothing uses, as docs/check --unused prints it: public names of code, definitions, lemmas.
+"""Public names of code, definitions and lemmas that nothing uses.
 
-A text uses a definition or a lemma if it has its name, and a `use` line of its file takes that name from the file of the definition, or
-it is in that file. What the contracts use, and what this uses itself, is reached. So is, for lemmas, what answers of goals and
-`#[tactic(.. using(..))]` use. No field of a record is looked at.
+A text uses a definition or a lemma if it has its name, and is in the same file or takes the name by a `use` line. Contracts reach what
+they use, and what that uses in turn. Proofs also reach what answers of goals and `#[tactic(.. using(..))]` use. Fields of records are
+not looked at.
 """
 
 import enum
@@ -18,7 +18,7 @@ from checks.calls import Call
 from rvstm_tools.errors import MisuseError
 
 LIST = "docs/unused_names.txt"
-"""The names that stay though nothing uses them, below the top: a name as --unused prints it, two spaces, a # and the reason."""
+"""The names that stay though nothing uses them, each with its reason."""
 TACTIC = re.compile(r"\b(\w+)::proofs::([\w:]+)::([^\s:,()]+)")
 
 
@@ -37,17 +37,16 @@ class Kind(enum.Enum):
 
 @dataclass(frozen=True)
 class Unused:
-    """A name that is not used: `crate::Type::name` of code, `crate/proofs/File.antt name` of proofs."""
-
     kind: Kind
     name: str
+    """`crate::Type::name` for code, `crate/proofs/File.antt name` for definitions and lemmas."""
     where: str
-    """Its line, after its file if the name has none."""
+    """Its line, with the file if the name does not say it."""
 
 
 @dataclass(frozen=True)
 class Place:
-    """A definition or a lemma: the file below crates/ that it is in, and its name."""
+    """A definition or a lemma."""
 
     file: str
     name: str
@@ -57,7 +56,7 @@ class Place:
 
 
 def place_of(taken: sources.Taken) -> Place | None:
-    """The definition that a name of a module is; None if it is of the kit, or the prover makes it."""
+    """What a name of a module refers to; None if it is in the kit, or the prover makes it."""
     root, *parts = taken.module.split(".")
     file = "/".join(parts) + ".antt"
     if root != "Rattle" or parts[1:2] not in (["specs"], ["proofs"]) or not (sources.CRATES / file).is_file():
@@ -70,14 +69,13 @@ def place_of(taken: sources.Taken) -> Place | None:
 
 
 def used_by_text(path: Path, text: str) -> set[Place]:
-    """The definitions of other files that a text uses."""
+    """What a text uses through the `use` lines of its file."""
     taken = (entry for entries in citations.taken_in(path, text).values() for entry in entries)
     return {place for entry in taken if (place := place_of(entry))}
 
 
 @functools.cache
 def used_by(place: Place) -> set[Place]:
-    """What a definition or a lemma uses."""
     held = items.items(place.file)
     code = held.by_name[place.name].code
     words = citations.words_of(code)
@@ -86,7 +84,7 @@ def used_by(place: Place) -> set[Place]:
 
 
 def reached(begin: Iterable[Place]) -> set[Place]:
-    """What some definitions use, directly or not, with themselves."""
+    """Some definitions, and all that they use in turn."""
     found = set(begin)
     left = list(found)
     while left:
@@ -97,12 +95,11 @@ def reached(begin: Iterable[Place]) -> set[Place]:
 
 
 def code_files() -> Iterator[Path]:
-    """The files of code of all crates."""
     yield from (path for crate in sources.crate_names() for path in sources.files_of(crate) if path.suffix == ".rt")
 
 
 def places(crate: str, folder: str) -> Iterator[Place]:
-    """What the files of specs/ or proofs/ of a crate define."""
+    """The definitions and lemmas in a folder of a crate."""
     files = [sources.shown(path) for path in sources.files_of(crate) if path.suffix == ".antt"]
     yield from (Place(file, name) for file in files if file.startswith(f"{crate}/{folder}/") for name in items.items(file).by_name)
 
@@ -127,7 +124,6 @@ def by_proofs() -> frozenset[Place]:
 
 
 def unused_places(crate: str) -> Iterator[Unused]:
-    """The definitions and lemmas of a crate that are not used."""
     for place in (*places(crate, "specs"), *places(crate, "proofs")):
         where, is_definition = str(items.items(place.file).by_name[place.name].line), "/specs/" in place.file
         if place not in by_proofs():
@@ -141,12 +137,11 @@ def unused_places(crate: str) -> Iterator[Unused]:
 
 @functools.cache
 def cited_by_pages() -> frozenset[str]:
-    """The calls that pages name."""
     return frozenset(name for page in pages.page_files() for name, _ in pages.CALL.findall(page.read_text()))
 
 
 def is_law(call: Call) -> bool:
-    """Whether it is a law: it changes nothing and gives nothing, so that only its clauses count."""
+    """Whether only its clauses count, since it changes nothing and returns nothing."""
     return call.is_function and not re.search(r"->|&mut|\bself\b", call.signature)
 
 
@@ -163,7 +158,6 @@ def kind_of(call: Call) -> Kind | None:
 
 
 def unused_names(crate: str) -> Iterator[Unused]:
-    """The public names of a crate that are not used."""
     for call in public_names.public(crate).values():
         if kind := kind_of(call):
             cited = ", which a page names" if call.full_name in cited_by_pages() else ""
@@ -173,19 +167,18 @@ def unused_names(crate: str) -> Iterator[Unused]:
 # ---- what --unused prints
 
 
-def exceptions() -> dict[str, str]:
-    """The names of the list of exceptions, each with its reason."""
+def exceptions() -> list[str]:
     path = sources.TOP / LIST
     lines = path.read_text().splitlines() if path.is_file() else []
     rows = [line.partition("  # ") for line in lines if line and not line.startswith("#")]
     for name, _, reason in rows:
         if not reason:
             raise MisuseError(f"{LIST}: {name} has no reason")
-    return {name: reason for name, _, reason in rows}
+    return [name for name, _, _ in rows]
 
 
 def listed(crates: Sequence[str]) -> Iterator[str]:
-    """The lines that --unused prints: by crate and kind the names that are not used, their number, and the exceptions that are used."""
+    """The lines that --unused prints: the unused names by crate and kind, how many there are, and the exceptions that are used."""
     spared, counts, seen = exceptions(), Counter[Kind](), set[str]()
     for crate in calls.chosen_crates(crates):
         found = [*unused_names(crate), *unused_places(crate)]

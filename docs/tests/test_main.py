@@ -65,8 +65,8 @@ class CommandLine(unittest.TestCase):
     def test_refusals(self) -> None:
         rows = {
             ("--html", "book.html"): (2, "docs/check: --html goes with --book"),
-            ("--svg", "crates.svg"): (2, "docs/check: --svg goes with --crates, without the name of a crate"),
-            ("--crates", "low", "--svg", "crates.svg"): (2, "docs/check: --svg goes with --crates, without the name of a crate"),
+            ("--svg", "/nowhere/crates.svg"): (2, "docs/check: --svg goes with --crates, without the name of a crate"),
+            ("--crates", "low", "--svg", "/nowhere/crates.svg"): (2, "docs/check: --svg goes with --crates, without the name of a crate"),
             ("--unused", "middle"): (2, "docs/check: there is no crate middle"),
             ("--reading", "low::gone"): (2, "docs/check: there is no public call and no clause low::gone"),
             ("--calls", "middle"): (2, "docs/check: there is no crate middle"),

@@ -29,6 +29,12 @@ pub const LIMIT: u32 = 7;
 /// It says Alone, by_path and listed in a comment alone.
 pub struct Alone;
 
+impl Alone {
+    pub fn counted(&self) -> u32 {
+        7
+    }
+}
+
 pub type Named = Boxed;
 
 pub struct Held;
@@ -147,7 +153,12 @@ abbrev pub ◌⊖◌ : ℕ → ℕ → ℕ
 a ⊖ b = a
 
 abbrev pub for_proofs : ℕ
-for_proofs = 1
+for_proofs = one
+
+one : ℕ
+two : ℕ
+one = two
+two = 1
 """
 SHOWN = """\
 pub use Rattle.base.specs.Numbers.{no_one}
@@ -246,8 +257,9 @@ class Unused(unittest.TestCase):
 
     def test_names_of_code(self) -> None:
         rows = found()
-        # Held is shown by Fault, and this by the result of counted, which is called on a Boxed; the user names it Named.
-        self.assertEqual(rows[unused.Kind.NOBODY], ["Alone", "Boxed::left_over", "listed"])
+        # Held is shown by Fault, and this by the result of counted, which is called on a Boxed; the user names it Named. Nobody has an
+        # Alone to call its counted on.
+        self.assertEqual(rows[unused.Kind.NOBODY], ["Alone", "Alone::counted", "Boxed::left_over", "listed"])
         self.assertEqual(rows[unused.Kind.OWN], ["limits::HIGH", "only_here"])
         self.assertEqual(rows[unused.Kind.TESTS], ["LIMIT", "Tested", "starred"])
         self.assertEqual(rows[unused.Kind.UNCITED], ["no_page"])
@@ -255,7 +267,7 @@ class Unused(unittest.TestCase):
 
     def test_each_name_once_used(self) -> None:
         users = {
-            "crates/user/src/more.rt": "use base::{Alone, listed};\nfn f(a: &Alone) -> u32 {\n    listed()\n}\nfn g(b: Boxed) -> u32 {\n    b.left_over()\n}\n",
+            "crates/user/src/more.rt": "use base::Alone;\npub use base::listed;\nfn f(a: &Alone, b: Boxed) -> u32 {\n    b.left_over() + a.counted()\n}\n",
             "crates/user/specs/More.antt": "use Rattle.base.specs.declared.numbers.Tested.{Tested}\n\nabbrev pub f : Tested → Tested\nf t = t\n",
             "crates/base_tests/src/more.rt": "fn f() -> u32 {\n    base::limits::HIGH + base::only_here()\n}\n",
             "docs/laws.md": "`base::no_page`\n",
@@ -267,13 +279,13 @@ class Unused(unittest.TestCase):
 
     def test_imports_that_do_not_occur(self) -> None:
         rows = found({"crates/user/src/more.rt": "use base::{Alone, listed};\n// listed()\nfn f() -> u32 {\n    \"Alone\"\n}\n"})
-        self.assertEqual(rows[unused.Kind.NOBODY], ["Alone", "Boxed::left_over", "listed"])
+        self.assertEqual(rows[unused.Kind.NOBODY], ["Alone", "Alone::counted", "Boxed::left_over", "listed"])
 
     def test_definitions(self) -> None:
         rows = found()
         # `no_one` is also a field, in a comment, and in a `pub use`; IsBig is reached by the arguments of the module of IsEven.
         self.assertEqual(rows[unused.Kind.NOTHING], ["specs/Numbers.antt IsOdd", "specs/Numbers.antt no_one", "specs/Numbers.antt ◌⊖◌"])
-        self.assertEqual(rows[unused.Kind.PROOFS], ["specs/Numbers.antt for_proofs"])
+        self.assertEqual(rows[unused.Kind.PROOFS], ["specs/Numbers.antt for_proofs", "specs/Numbers.antt one", "specs/Numbers.antt two"])
 
     def test_each_definition_once_used(self) -> None:
         code = "ghost use Rattle.base.specs.Shown as s;\nghost use Rattle.base.specs.Numbers.{IsOdd as Odd, ◌⊖◌, for_proofs};\nfn f() -> u32\n"
@@ -296,6 +308,7 @@ class Unused(unittest.TestCase):
             held = items.items("base/specs/Numbers.antt")
         self.assertEqual(held.by_name["IsEven"].line, 27)
         self.assertEqual(held.by_name["IsEven"].code.split("\n"), ["abbrev pub IsEven : Type 0", "module _ (n : ℕ) (as_big : IsBig n) where", "IsEven = n ≡ n"])
+        self.assertEqual(held.by_name["one"].code, "one : ℕ\n\none = two")
         self.assertEqual((held.owner["Minus"], held.owner["◌⊕◌"], "go" in held.owner), ("Sign", "◌⊕◌", False))
 
 
@@ -308,14 +321,15 @@ class Printed(unittest.TestCase):
             lines, chosen = list(unused.listed([])), list(unused.listed(["user"]))
         self.assertEqual(lines[:3], ["base", "  public, and only its crate uses it:", "    base::limits::HIGH  base/src/limits.rt:2"])
         self.assertIn("    base/specs/Numbers.antt IsOdd  30", lines)
-        self.assertIn("    2 public, and nothing uses it", lines)
+        self.assertIn("    3 public, and nothing uses it", lines)
         self.assertIn("    2 a definition that nothing reaches", lines)
+        self.assertEqual(lines[-2], "    5 a lemma that nothing reaches")
         self.assertEqual(lines[-1], "docs/unused_names.txt: base::again is used, or is not there")
         self.assertEqual(chosen, [f"    0 {kind.value}" for kind in unused.Kind])
 
     def test_a_page_names_it(self) -> None:
         with sample.tree({**FILES, "docs/calls.md": "`base::listed`\n"}):
-            self.assertIn("    base::listed  base/src/numbers.rt:65, which a page names", list(unused.listed(["base"])))
+            self.assertIn("    base::listed  base/src/numbers.rt:71, which a page names", list(unused.listed(["base"])))
 
     def test_exceptions_have_reasons(self) -> None:
         with sample.tree({**FILES, unused.LIST: "base::Alone\n"}), self.assertRaisesRegex(UserError, "^docs/unused_names.txt: base::Alone has no reason$"):
