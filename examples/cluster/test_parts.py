@@ -175,7 +175,7 @@ class Revisions(unittest.TestCase):
         shelf.put(ledger.at(ledger.DIGESTS, "n2", 3), f"{OTHER} 31", 50)
         self.assertEqual(self.at(shelf, 3), [30])
 
-    def test_in_a_pruned_log_it_is_found_from_its_begin(self) -> None:
+    def test_in_a_pruned_log_it_is_found_from_its_start(self) -> None:
         shelf = self.shelf((2, 20))
         shelf.put(ledger.PRUNED, "3 30", 60)
         del shelf.pairs[ledger.BLOCKS + "p.1/0000000001"]
