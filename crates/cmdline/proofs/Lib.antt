@@ -1,6 +1,6 @@
 pub mod Numbers
 pub mod Operands
-pub mod FileWords
 pub mod Lines
-pub mod DriveLine
-pub mod ChainLine
+pub mod Rows
+pub mod Steps
+pub mod TypedLines

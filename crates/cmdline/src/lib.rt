@@ -4,11 +4,12 @@
 mod commands;
 mod requests;
 
-ghost use Rattle.std.specs.Prelude.{◌≡◌, ◌∷◌, [], List, ℕ, IfErr, IfOk, None, Some, false, true, map, option_map, codes};
+ghost use Rattle.std.specs.Prelude.{◌≡◌, ◌∷◌, IfErr, IfOk, true, map, option_map};
 ghost use Rattle.std.specs.String.{string_bytes};
-ghost use Rattle.clap.specs.Words.{FailsBy, HasMatchesOf, fault_of, kind_of, takes};
+ghost use Rattle.clap.specs.Words.{FailsBy, HasMatchesOf, Text, fault_of, kind_of, takes};
 ghost use Rattle.clap.specs.declared.error.ErrorKind.TheVariants as kind;
-ghost use Rattle.cmdline.specs.Line.{AnswersUnlessMemory, AsmOf, ChainOf, ConflictsOf, DebugOf, DisOf, DriveOf, MigrateOf, RunOf, SeqOf, requested, asked_by, is_call_number, is_operand, is_setting_number, is_store_file, is_worker_number, number_in, rvstm_app};
+ghost use Rattle.cmdline.specs.Line.{AnswersUnlessMemory, asked_by, requested, rvstm_app};
+ghost use Rattle.cmdline.specs.Typed.{TypedLine, asked_of, has_right_words, typed_words};
 
 use crate::commands::rvstm;
 use crate::requests::request_in;
@@ -106,83 +107,10 @@ pub fn request_of<'a>(alloc: Global, words: &'a [String]) -> Result<Option<Reque
         option_map asked_by r ≡ requested (map string_bytes words.now)) }
     // a line with a fault is never accepted; the error is of the fault's kind, or memory ran out
     ensures refused { FailsBy (fault_of rvstm_app (map string_bytes words.now)) result }
-    // `run FILE --workers N` is accepted, where N is a whole number of 1 to 32, unless memory runs out
-    ensures run { (program file word : List ℕ)
-        → map string_bytes words.now ≡ program ∷ codes "run" ∷ file ∷ codes "--workers" ∷ word ∷ []
-        → is_operand file ≡ true → is_worker_number word ≡ true
-        → AnswersUnlessMemory result (RunOf file (number_in word) false) }
-    // so is the same with `--counts`
-    ensures run_counts { (program file word : List ℕ)
-        → map string_bytes words.now ≡ program ∷ codes "run" ∷ file ∷ codes "--workers" ∷ word ∷ codes "--counts" ∷ []
-        → is_operand file ≡ true → is_worker_number word ≡ true
-        → AnswersUnlessMemory result (RunOf file (number_in word) true) }
-    // so is `seq FILE`
-    ensures seq { (program file : List ℕ)
-        → map string_bytes words.now ≡ program ∷ codes "seq" ∷ file ∷ [] → is_operand file ≡ true
-        → AnswersUnlessMemory result (SeqOf file) }
-    // so is `conflicts FILE`
-    ensures conflicts { (program file : List ℕ)
-        → map string_bytes words.now ≡ program ∷ codes "conflicts" ∷ file ∷ [] → is_operand file ≡ true
-        → AnswersUnlessMemory result (ConflictsOf file) }
-    // so is `drive FILE --workers N --schedule FILE`, where N is a whole number of 1 to 32
-    ensures drive { (program file word schedule : List ℕ)
-        → map string_bytes words.now ≡ program ∷ codes "drive" ∷ file ∷ codes "--workers" ∷ word ∷ codes "--schedule" ∷ schedule ∷ []
-        → is_operand file ≡ true → is_worker_number word ≡ true → is_operand schedule ≡ true
-        → AnswersUnlessMemory result (DriveOf file (number_in word) schedule false) }
-    // so is the same with `--counts`
-    ensures drive_counts { (program file word schedule : List ℕ)
-        → map string_bytes words.now ≡ program ∷ codes "drive" ∷ file ∷ codes "--workers" ∷ word ∷ codes "--schedule" ∷ schedule ∷ codes "--counts" ∷ []
-        → is_operand file ≡ true → is_worker_number word ≡ true → is_operand schedule ≡ true
-        → AnswersUnlessMemory result (DriveOf file (number_in word) schedule true) }
-    // so is `asm FILE --out OUT`
-    ensures asm { (program file out : List ℕ)
-        → map string_bytes words.now ≡ program ∷ codes "asm" ∷ file ∷ codes "--out" ∷ out ∷ [] → is_operand file ≡ true → is_operand out ≡ true
-        → AnswersUnlessMemory result (AsmOf file out) }
-    // so is `dis FILE`
-    ensures dis { (program file : List ℕ)
-        → map string_bytes words.now ≡ program ∷ codes "dis" ∷ file ∷ [] → is_operand file ≡ true
-        → AnswersUnlessMemory result (DisOf file) }
-    // so is `debug FILE --call N`, where N is a whole number of 0 to 1023
-    ensures debug { (program file word : List ℕ)
-        → map string_bytes words.now ≡ program ∷ codes "debug" ∷ file ∷ codes "--call" ∷ word ∷ []
-        → is_operand file ≡ true → is_call_number word ≡ true
-        → AnswersUnlessMemory result (DebugOf file (number_in word) false) }
-    // so is the same with `--more`
-    ensures debug_more { (program file word : List ℕ)
-        → map string_bytes words.now ≡ program ∷ codes "debug" ∷ file ∷ codes "--call" ∷ word ∷ codes "--more" ∷ []
-        → is_operand file ≡ true → is_call_number word ≡ true
-        → AnswersUnlessMemory result (DebugOf file (number_in word) true) }
-    // so is `migrate FILE --out OUT`
-    ensures migrate { (program file out : List ℕ)
-        → map string_bytes words.now ≡ program ∷ codes "migrate" ∷ file ∷ codes "--out" ∷ out ∷ [] → is_operand file ≡ true → is_operand out ≡ true
-        → AnswersUnlessMemory result (MigrateOf file out) }
-    // so is `chain`
-    ensures chain { (program : List ℕ) → map string_bytes words.now ≡ program ∷ codes "chain" ∷ []
-        → AnswersUnlessMemory result (ChainOf None None None false false None) }
-    // and `chain --workers N`, where N is a whole number of 1 to 32
-    ensures chain_workers { (program word : List ℕ)
-        → map string_bytes words.now ≡ program ∷ codes "chain" ∷ codes "--workers" ∷ word ∷ []
-        → is_worker_number word ≡ true
-        → AnswersUnlessMemory result (ChainOf (Some (number_in word)) None None false false None) }
-    // so is `chain --frame-limit A --frame-gas B --digest --brief`, where A and B are decimals of 0 to 9,999,999,999
-    ensures chain_settings { (program limit gas : List ℕ)
-        → map string_bytes words.now ≡ program ∷ codes "chain" ∷ codes "--frame-limit" ∷ limit ∷ codes "--frame-gas" ∷ gas ∷ codes "--digest" ∷ codes "--brief" ∷ []
-        → is_setting_number limit ≡ true → is_setting_number gas ≡ true
-        → AnswersUnlessMemory result (ChainOf None (Some (number_in limit)) (Some (number_in gas)) true true None) }
-    // and the same with `--workers N` before
-    ensures chain_all { (program word limit gas : List ℕ)
-        → map string_bytes words.now ≡ program ∷ codes "chain" ∷ codes "--workers" ∷ word ∷ codes "--frame-limit" ∷ limit ∷ codes "--frame-gas" ∷ gas ∷ codes "--digest" ∷ codes "--brief" ∷ []
-        → is_worker_number word ≡ true → is_setting_number limit ≡ true → is_setting_number gas ≡ true
-        → AnswersUnlessMemory result (ChainOf (Some (number_in word)) (Some (number_in limit)) (Some (number_in gas)) true true None) }
-    // so is `chain --store FILE`, which keeps a digest too
-    ensures chain_store { (program file : List ℕ)
-        → map string_bytes words.now ≡ program ∷ codes "chain" ∷ codes "--store" ∷ file ∷ [] → is_store_file file ≡ true
-        → AnswersUnlessMemory result (ChainOf None None None true false (Some file)) }
-    // and the same behind all others
-    ensures chain_store_all { (program word limit gas file : List ℕ)
-        → map string_bytes words.now ≡ program ∷ codes "chain" ∷ codes "--workers" ∷ word ∷ codes "--frame-limit" ∷ limit ∷ codes "--frame-gas" ∷ gas ∷ codes "--digest" ∷ codes "--brief" ∷ codes "--store" ∷ file ∷ []
-        → is_worker_number word ≡ true → is_setting_number limit ≡ true → is_setting_number gas ≡ true → is_store_file file ≡ true
-        → AnswersUnlessMemory result (ChainOf (Some (number_in word)) (Some (number_in limit)) (Some (number_in gas)) true true (Some file)) }
+    // a line of `typed_words` with right words is accepted, unless memory runs out, and asks for what it says
+    ensures accepted { (program : Text) (line : TypedLine)
+        → map string_bytes words.now ≡ program ∷ typed_words line → has_right_words line ≡ true
+        → AnswersUnlessMemory result (asked_of line) }
 {
     let matches = matches_of(alloc, words)?;
     Ok(request_in(&matches))
