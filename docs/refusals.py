@@ -81,7 +81,6 @@ def printed(crate: str) -> dict[str, Parts]:
 
 
 def message_of(before: str, parts: Parts) -> str:
-    """What is printed of a refusal, as the page has it."""
     if parts.name == WITHOUT_LINE:
         before = before.removesuffix(" N")
     elif parts.name in ANSWERS_OF_DEBUG:
@@ -103,18 +102,15 @@ def refusals(enumeration: Enumeration) -> Iterator[Refusal]:
 
 
 def all_refusals() -> dict[str, str]:
-    """When each refusal comes, by what is printed."""
     return {refusal.message: refusal.when for enumeration in ENUMERATIONS for refusal in refusals(enumeration)}
 
 
 def areas() -> set[str]:
-    """The areas that the sources print."""
     texts = (path.read_text() for path in CRATES.glob("*/src/*.rt"))
     return {found[1] or found[2] for text in texts for found in AREA.finditer(text)}
 
 
 def table_lines() -> Iterator[str]:
-    """The lines that --refusals prints: a table for each enumeration."""
     for enumeration in ENUMERATIONS:
         yield from (f"{enumeration.name} ({enumeration.file})", "", "| message | it comes if |", "|---|---|")
         yield from (f"| `{refusal.message}` | {refusal.when} |" for refusal in refusals(enumeration))
@@ -122,7 +118,6 @@ def table_lines() -> Iterator[str]:
 
 
 def differences() -> Iterator[str]:
-    """How the rows of the page differ from the sources."""
     wanted, said = all_refusals(), {row["message"]: row["when"] for row in ROW.finditer(PAGE.read_text())}
     for message, when in wanted.items():
         if message not in said:

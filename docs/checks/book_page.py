@@ -106,7 +106,6 @@ class Page:
         return "".join(out) + (f'<span class="note">{escape(dashes + note)}</span>' if dashes else "")
 
     def linked(self, text: str, names: Mapping[str, Cited]) -> str:
-        """A text of definitions with its links."""
         return "\n".join(self.linked_line(line, names) for line in text.splitlines())
 
     def linked_code(self, text: str, types: Mapping[str, Cited], names: Mapping[str, Cited]) -> str:
@@ -122,7 +121,6 @@ class Page:
         return "\n".join(out)
 
     def linked_types(self, line: str, types: Mapping[str, Cited]) -> str:
-        """A line of the code with links to the types that it names."""
         out, end = "", 0
         for match in RUST_WORD.finditer(line):
             out += escape(line[end : match.start()])
@@ -133,7 +131,6 @@ class Page:
     # ---- parts
 
     def contract(self, asked: Asked) -> Iterator[str]:
-        """A call that the book is about."""
         call = asked.call
         text = "\n".join(line for line in book.contract_of(asked).splitlines() if not line.startswith("///"))
         names = by_word(citations.names_in(call.path, sources.without_comments(text)))
@@ -163,7 +160,6 @@ class Page:
         yield f"<pre>{self.linked(code, names)}</pre>{self.users(entry.cited)}</section>"
 
     def users(self, cited: Cited) -> str:
-        """A line of the definitions that cite one."""
         users = self.citing.get(cited, [])
         links = ", ".join(self.link(user, user.name) for user in users)
         return f'<p class="quiet">used by {links}</p>' if users else ""
@@ -188,7 +184,6 @@ class Page:
         yield f"<p>{', '.join(f'<code>{escape(name)}</code>' for name in names.names)}</p></section>"
 
     def contents(self) -> Iterator[str]:
-        """The list of what the page has, at its side."""
         held = self.held.reading
         yield '<nav><h2>The clauses</h2><ul><li><a href="#top">the contract</a></li></ul><h2>Definitions</h2><ol>'
         for number, row in enumerate(held.rows, 1):
@@ -201,7 +196,6 @@ class Page:
         yield '<h2>Of the kit</h2><ul><li><a href="#kit">modules</a></li></ul></nav>' if held.modules else "</nav>"
 
     def parts(self) -> Iterator[str]:
-        """The page below its head."""
         held = self.held.reading
         yield from self.contents()
         yield f'<main id="top"><h1>{escape(self.held.title)}</h1><p class="quiet">{self.held.summary}. Each file comes after those that it uses.</p>'
@@ -240,12 +234,10 @@ def short_name(file: str) -> str:
 
 
 def prose(text: str) -> str:
-    """A comment as HTML: what is in backquotes is code."""
     return re.sub(r"`([^`]+)`", r"<code>\1</code>", escape(text))
 
 
 def page_of(made: Book) -> str:
-    """A book as the text of an HTML page."""
     body = "\n".join(part for part in Page(made).parts() if part)
     return f"""<!DOCTYPE html>
 <html lang="en">

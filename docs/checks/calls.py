@@ -50,7 +50,6 @@ class Call:
 
     @functools.cached_property
     def clauses(self) -> tuple[Clause, ...]:
-        """The clauses of its contract, with their comments."""
         return tuple(clauses_of(self.head))
 
     @property
@@ -123,7 +122,6 @@ def exported(crate: str) -> frozenset[str] | None:
 
 @functools.cache
 def calls_of(crate: str) -> Mapping[str, Call]:
-    """The public calls and types of a crate, by their paths in it."""
     found, names = dict[str, Call](), exported(crate)
     made = [call for path in sources.source_files(crate) for call in calls_in(path)]
     for call in made:
@@ -144,7 +142,6 @@ def call_of(full_name: str) -> Call | None:
 
 
 def chosen_crates(words: Sequence[str]) -> Sequence[str]:
-    """The crates that words name; all of them if there are none."""
     for word in words:
         if word not in sources.crate_names():
             raise MisuseError(f"there is no crate {word}")

@@ -121,7 +121,6 @@ def cited_by_type(cited: Cited) -> set[Cited]:
 
 
 def own_names(cited: Cited) -> dict[str, Cited]:
-    """The names of its own file that a definition cites."""
     held = definitions(cited.place)
     words = words_of(held.by_name[cited.name].code)
     return {name: Cited(Place.DEFINITION, cited.place, owner) for name, owner in held.owner.items() if owner != cited.name and is_in(name, words)}
@@ -164,7 +163,6 @@ def split_types(text: str) -> list[str]:
 
 
 def arguments_of(text: str) -> Iterator[tuple[str, str]]:
-    """The names between brackets, each with its type or its bounds."""
     for part in split_types(text):
         name, _, of = part.partition(": ")
         yield name, of

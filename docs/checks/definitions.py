@@ -60,7 +60,6 @@ class Type:
 
     @property
     def code(self) -> str:
-        """Its declaration without comments."""
         return sources.without_comments(self.text)
 
     @functools.cached_property
@@ -73,7 +72,6 @@ class Type:
 
     @functools.cached_property
     def comment(self) -> list[str]:
-        """The `///` lines above it, without the slashes."""
         comment: list[str] = []
         for line in sources.text_of(self.path).splitlines()[: self.line - 1]:
             comment = calls.comment_after(comment, line)
@@ -105,7 +103,6 @@ def start_of(lines: Sequence[str], head: int) -> int:
 
 
 def head_comment(file: str) -> list[str]:
-    """The comment at the head of a file of definitions."""
     found = list[str]()
     for line in sources.lines_of(file):
         if not line.startswith("--"):
@@ -116,7 +113,6 @@ def head_comment(file: str) -> list[str]:
 
 @functools.cache
 def types(crate: str) -> dict[str, Type]:
-    """The types and traits of a crate's code, by name."""
     found = dict[str, Type]()
     for path in sources.source_files(crate):
         lines = sources.text_of(path).splitlines()

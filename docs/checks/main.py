@@ -71,7 +71,6 @@ def parser() -> argparse.ArgumentParser:
 
 
 def faults() -> Iterator[str]:
-    """What the pages name wrongly, and what disagrees with the sources."""
     yield from versions.wrong()
     yield from layers.misplaced()
     yield from layers.differences()
@@ -83,7 +82,6 @@ def faults() -> Iterator[str]:
 
 
 def check() -> int:
-    """Checks the pages. Its status is 1 if something is missing."""
     missing = list(faults())
     names = sum(pages.count_of_names(page.read_text()) for page in pages.page_files())
     print(*missing, sep="\n", end="\n" if missing else "")

@@ -55,7 +55,6 @@ def named_calls(text: str) -> Iterator[Named]:
 
 
 def missing_calls(page: str, text: str) -> Iterator[str]:
-    """The calls and clauses that a page names and that are not there."""
     for named in dict.fromkeys(named_calls(text)):
         call = call_of(named.call)
         if not call:
@@ -147,12 +146,10 @@ def page_files() -> list[Path]:
 
 
 def count_of_names(text: str) -> int:
-    """How many names of calls, clauses and files a page has."""
     return len(named_files(text)) + sum(1 + len(named.clauses) for named in named_calls(text))
 
 
 def faults_of(page: Path, text: str, options: Iterable[str]) -> Iterator[str]:
-    """What a page names or says wrongly."""
     yield from missing_calls(page.name, text)
     yield from missing_files(page, text)
     yield from wrong_counts(page.name, text)

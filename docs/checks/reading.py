@@ -31,14 +31,11 @@ class Asked:
 
     @property
     def named(self) -> list[str]:
-        """The names of the clauses that count."""
         return self.clauses or self.call.clause_names
 
 
 @dataclass(frozen=True)
 class Row:
-    """A file of a list."""
-
     file: str
     read: int
     """How many of its lines to read: those of definitions that are not cited are left out."""
@@ -51,8 +48,6 @@ class Row:
 
 @dataclass(frozen=True)
 class Module:
-    """A module of the kit, in its library."""
-
     library: str
     name: str
 
@@ -79,7 +74,6 @@ def asked_for(words: Sequence[str]) -> list[Asked]:
 
 
 def cited_by(asked: Iterable[Asked]) -> set[Cited]:
-    """What some clauses cite, directly or through other definitions."""
     return closure(cited for entry in asked for cited in cited_by_call(entry.call, entry.clauses))
 
 
@@ -211,7 +205,6 @@ def which(row: Row) -> str:
 
 
 def table(held: Reading) -> Iterator[str]:
-    """The files of a list as the lines of a table."""
     yield from ["| lines | file | of it |", "|---|---|---|"]
     for row in held.rows:
         yield f"| {row.read:,}{'' if row.read == row.lines else f' of {row.lines:,}'} | `{row.file}` | {which(row)} |"
@@ -219,14 +212,12 @@ def table(held: Reading) -> Iterator[str]:
 
 
 def types_table(held: Reading) -> Iterator[str]:
-    """The types and traits of a list as the lines of a table."""
     yield from ["| type of the code | file | line |", "|---|---|---|"]
     for entry in held.types:
         yield f"| {entry.kind.value} `{entry.name}` | `{sources.shown(entry.path)}` | {entry.line} |"
 
 
 def listed(words: Sequence[str]) -> Iterator[str]:
-    """The lines that --reading prints."""
     held = reading_of(words)
     for asked in held.asked:
         clauses = f" ({', '.join(f'`{name}`' for name in asked.named)})" if asked.named else ""

@@ -46,13 +46,11 @@ def signature_of(call: Call) -> str:
 
 
 def listed(text: str) -> dict[str, str]:
-    """The signatures of a list, by the path of their call."""
     lines = (line.partition("  # ")[0].strip() for line in text.splitlines() if not line.startswith("#"))
     return {found[0]: line for line in lines if (found := NAMED.match(line))}
 
 
 def differences() -> Iterator[str]:
-    """How the sources differ from the list."""
     for path, wanted in listed(LIST.read_text()).items():
         call = call_of(path)
         if not call:

@@ -57,12 +57,10 @@ def spec_files(crate: str) -> tuple[str, ...]:
 
 
 def lines_of(file: str) -> list[str]:
-    """The lines of a file below crates/."""
     return text_of(CRATES / file).splitlines()
 
 
 def without_comments(text: str) -> str:
-    """A text without its comments, and without what is between quotes."""
     return re.sub(r"(?://|--).*", "", re.sub(r'"[^"\n]*"', '""', text))
 
 
@@ -86,7 +84,6 @@ def first_sentence(lines: list[str]) -> str:
 
 
 def counted(number: int, name: str) -> str:
-    """A number of something: `1 file`, `2 files`, `2 types of the code`."""
     noun, _, rest = name.partition(" ")
     return f"{number:,} {noun}{'' if number == 1 else 's'}" + (f" {rest}" if rest else "")
 
@@ -119,7 +116,6 @@ class Entry:
 
 
 def entries_of(braces: str) -> Iterator[Entry]:
-    """The names between the braces of a `use` line."""
     for entry in braces.split(","):
         name, _, local = entry.strip().partition(" as ")
         if name:

@@ -33,7 +33,6 @@ def places() -> tuple[Said, ...]:
 
 
 def wrong() -> Iterator[str]:
-    """The places that say another version than the program."""
     for said in places():
         found = re.search(said.form, sources.text_of(sources.TOP / said.file), re.M)
         if not found or found[1].replace("_", "") != said.wanted:

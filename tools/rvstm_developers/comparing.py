@@ -22,7 +22,6 @@ SHOWN = 200
 
 
 def model_of(rvstm: Path, settings: Settings = Settings()) -> Model:
-    """A session in Python, whose frames `rvstm seq` runs."""
     return Model(Program(rvstm, SECONDS_A_BLOCK), settings)
 
 
@@ -31,7 +30,6 @@ def shown(answer: Answer | None) -> str:
 
 
 def at_once(rvstm: Path, text: bytes, settings: Settings) -> Ended:
-    """What a session writes for an input that it gets in one piece."""
     return running.run([rvstm, *settings.words()], data=text, seconds=SECONDS_A_SESSION)
 
 

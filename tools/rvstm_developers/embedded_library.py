@@ -58,7 +58,6 @@ def compile_driver(place: Path, words: Sequence[str] = ()) -> Path:
 
 
 def settings_text(settings: Settings) -> bytes:
-    """Settings of a session, as the driver reads them."""
     gas = NO_LIMIT if settings.frame_gas is None else settings.frame_gas
     return b"%d %d %d %d" % (settings.frame_limit, gas, settings.digest, settings.brief)
 
@@ -84,7 +83,6 @@ class Library(Pipes):
         return self.call(place, letter, 0, fields[0] if fields else body)
 
     def closed(self) -> str:
-        """Ends the driver. Returns what it wrote on standard error."""
         ended = self.end()
         if ended.status:
             raise UserError(f"the driver ended with status {ended.status}: {ended.said()[-SHOWN_OF_ERRORS:]}")

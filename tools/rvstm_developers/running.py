@@ -30,7 +30,6 @@ def run(
 
 
 def output_of(words: Sequence[Word], folder: Path = Path(), data: bytes = b"") -> bytes:
-    """What a command writes that must not fail."""
     ended = run(words, folder, data)
     if ended.status:
         raise UserError(f"`{' '.join(map(str, words))}` ended with status {ended.status}: {ended.said()}")

@@ -14,7 +14,6 @@ MOST_ASKED_FOR = 2**63 - 1
 
 
 def count(word: str) -> int:
-    """A number of at least 1."""
     number = numbers.at_most(word, MOST_ASKED_FOR) if numbers.is_decimal(word) else None
     if not number:
         raise argparse.ArgumentTypeError(f"{word}: it is a number of at least 1")
@@ -22,7 +21,6 @@ def count(word: str) -> int:
 
 
 def positive(word: str) -> float:
-    """A number above 0, which may have a fraction."""
     try:
         number = float(word)
     except ValueError:
@@ -63,7 +61,6 @@ class ProgramChoice:
 
 
 def program_parser() -> argparse.ArgumentParser:
-    """The options that name the program. All commands that run rvstm have them."""
     parser = argparse.ArgumentParser(add_help=False)
     group = parser.add_mutually_exclusive_group()
     group.add_argument(

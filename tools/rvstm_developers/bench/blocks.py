@@ -77,7 +77,6 @@ def chain() -> TimedBlock:
 
 
 def assemble(rvstm: Path, place: Path, source: str) -> Path:
-    """Makes a program at place/SOURCE.elf."""
     path = TOP / "examples/counter/counter.s" if source == "counter" else FOLDER / f"programs/{source}.s"
     running.output_of([rvstm, "asm", path, "--out", f"{source}.elf"], place)
     return place / f"{source}.elf"

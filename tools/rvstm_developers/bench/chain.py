@@ -67,7 +67,6 @@ def frame_of(place: Path, block: TimedBlock) -> Request:
 
 
 def begun(rvstm: Path, settings: Settings, program: Path) -> Session:
-    """A session in which a program was handed in."""
     session = Session(rvstm, settings)
     processes.answered(session, Request(Word.PROGRAM, (), program.read_bytes()))
     return session
@@ -95,7 +94,6 @@ class Measured:
         self.before = self.after = 0
 
     def timed(self, asked: Sequence[Request]) -> float:
-        """The processor time of some frames, in milliseconds each."""
         return sum(processes.answered(self.session, request).processor for request in asked) / len(asked)
 
     def add_round(self) -> None:
@@ -105,7 +103,6 @@ class Measured:
         self.seq_times.append(seq_time(self.rvstm, self.path.name, self.place))
 
     def add_more_blocks(self) -> None:
-        """Takes the memory before and after more blocks."""
         self.before = processes.resident(self.session.process.pid)
         self.timed(self.frames * (BLOCKS_FOR_MEMORY // BLOCKS_A_ROUND))
         self.after = processes.resident(self.session.process.pid)
@@ -136,7 +133,6 @@ class Beside:
             raise UserError(f"{block.name}: the answers with {WORKERS} workers are others")
 
     def row(self) -> list[str]:
-        """Makes the rounds, and returns the row of the table."""
         for _ in range(ROUNDS_BY_WORKERS):
             self.times.append([processes.answered(session, self.frame).elapsed for session in self.sessions])
         for session in self.sessions:
@@ -188,7 +184,6 @@ class Embedded(Protocol):
 
 
 def embedded(library: Path, settings: Settings) -> Embedded:
-    """A session of the library, in this process."""
     spec = importlib.util.spec_from_file_location("embed", TOP / "examples/embed/embed.py")
     assert spec is not None and spec.loader is not None
     module = importlib.util.module_from_spec(spec)
@@ -200,8 +195,6 @@ def embedded(library: Path, settings: Settings) -> Embedded:
 
 
 class InLibrary:
-    """The blocks of a session through the library, in this process."""
-
     def __init__(self, library: Path, settings: Settings, place: Path, measured: Measured) -> None:
         self.frames = [frame.body for frame in measured.frames]
         self.times: list[float] = []

@@ -38,8 +38,6 @@ WRITE = re.compile(r"(pwrite64|fdatasync)\(\d+<([^>]*)>.*= (\d+)$", re.M)
 
 
 class Way(NamedTuple):
-    """How commits.c commits: with the two rows or without, and how many syncs."""
-
     rows: str
     syncs: str
 
@@ -73,7 +71,6 @@ class Commit:
 
 
 def block_of(changes: Storage) -> Request:
-    """The frame that sets some keys."""
     return Request(Word.FRAME, (), texts.head_of(3).encode() + frames.store_lines(changes))
 
 
@@ -82,13 +79,10 @@ def changes_of(source: Random, keys: int, count: int) -> Storage:
 
 
 class Beside(Pipes):
-    """A process of commits.c, over a file of its own."""
-
     def __init__(self, program: Path, file: Path, way: Way) -> None:
         super().__init__([program, file, *way])
 
     def asked(self, request: bytes) -> float:
-        """The milliseconds that the process counts."""
         self.give(request)
         return int(self.output.readline()) / 1e6
 
@@ -133,7 +127,6 @@ class Stored:
                 reader.end()
 
     def commit(self, count: int) -> Commit:
-        """A commit of so many keys, by all in turn."""
         changes = changes_of(self.source, self.keys, count)
         block = block_of(changes)
         attempt = block._replace(word=Word.TRY)
@@ -161,7 +154,6 @@ class Stored:
         ]
 
     def row_of_calls(self, count: int, place: Path) -> list[str]:
-        """What a commit asks of the system, as strace shows it."""
         cells = [f"{self.keys:,}", str(count)]
         for number, (process, file) in enumerate(((self.session.process, self.file), (self.beside[0].process, self.copies[0]))):
             trace = place / f"trace{number}"
@@ -189,7 +181,6 @@ class Stored:
 
 @contextlib.contextmanager
 def traced(process: int, path: Path) -> Iterator[None]:
-    """Lets strace write the calls of a process to a file."""
     words = ["strace", "-f", "-y", "-e", "trace=pwrite64,fdatasync", "-o", str(path), "-p", str(process)]
     with subprocess.Popen(words, stderr=subprocess.PIPE) as strace:
         assert strace.stderr is not None
@@ -205,7 +196,6 @@ def compiled(place: Path) -> Path:
 
 
 def memory_of_none(rvstm: Path, place: Path) -> int:
-    """The most memory of a session with no keys, in bytes."""
     with Session(rvstm, Settings(FRAME_LIMIT, store=str(place / "none"))) as session:
         processes.answered(session, Request(Word.STATE))
         return 1024 * processes.peak_of(session.process.pid)

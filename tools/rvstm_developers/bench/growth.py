@@ -32,7 +32,6 @@ class Row:
 
 
 def sized() -> Iterator[tuple[int, TimedBlock]]:
-    """Blocks, each with its size; their names say what grows."""
     for size in (64, 256, 1024):
         yield size, TimedBlock("calls", "counter", [Input(1_000, key(n)) for n in range(size)])
     for size in (10, 1_000, 100_000):

@@ -38,7 +38,6 @@ def counted(words: Sequence[Word], folder: Path, place: Path) -> int:
 
 
 def last_moment(rvstm: Path, block: Path) -> int:
-    """How many instructions the first call of a block makes."""
     text = running.output_of([rvstm, "debug", block, "--call", "0"], FOLDER, b"g 00000000\n")
     return int(text.split(b" ", 1)[0])
 
@@ -53,7 +52,6 @@ def programs_of(rvstm: Path, place: Path) -> Iterator[Program]:
 
 
 def print_loops(rvstm: Path, place: Path) -> None:
-    """What an instruction of a contract costs."""
     machines: dict[str, list[Word]] = {"rvstm seq": [rvstm, "seq"]}
     for name, words in TABLES.items():
         path = place / f"plain{''.join(words)}"
@@ -73,7 +71,6 @@ def print_loops(rvstm: Path, place: Path) -> None:
 
 
 def print_calls(rvstm: Path, place: Path) -> None:
-    """What a call costs in the whole program."""
     print()
     tables.print_head(["a call of the whole program", "`seq`", "`run`, one worker", "`run` / `seq`"])
     for block in (blocks.transfers(), blocks.hot_key(), blocks.hot_sum(), blocks.chain()):

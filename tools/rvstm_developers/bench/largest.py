@@ -6,8 +6,8 @@ from pathlib import Path
 
 from rvstm_developers import options, texts
 from rvstm_developers.bench import blocks, processes, tables
-from rvstm_developers.models import machine
-from rvstm_developers.models.machine import Part
+from rvstm_developers.machine_code import EXECUTE, READ, WRITE, Part, elf_of
+from rvstm_developers.models.machine import DATA, TEXT
 from rvstm_developers.texts import word
 from rvstm_tools.errors import UserError
 from rvstm_tools.options import Command
@@ -24,12 +24,11 @@ LONG_LIST, SHORT_LIST = 20_000_000, 65_535
 def program_of(text: bytes, number: int) -> bytes:
     """A program file of the greatest size: a text, and data whose first word is the number."""
     data = word(number).ljust(FILE_BYTES - HEADERS - len(text), b"\x55")
-    code = Part(machine.TEXT, text, machine.READ | machine.EXECUTE)
-    return machine.elf_of(code, Part(machine.DATA, data, machine.READ | machine.WRITE))
+    code = Part(TEXT, text, READ | EXECUTE)
+    return elf_of(code, Part(DATA, data, READ | WRITE))
 
 
 def block_text(programs: int, calls: int) -> str:
-    """A block of calls that write the most keys."""
     made = [CallLine(number % programs, GAS, word(KEYS) + word(number)) for number in range(calls)]
     return texts.block_text([f"{number}.elf" for number in range(programs)], {}, made)
 

@@ -50,7 +50,6 @@ class Rounds:
     rounds: list[Round]
 
     def ratios(self, number: int) -> list[float]:
-        """How many times as fast as `seq` a run is in each round."""
         return [one.times[0] / one.times[number + 1] for one in self.rounds]
 
     def ratio(self, number: int) -> float:
@@ -68,7 +67,6 @@ class Rounds:
 
 
 def mixing(length: int, count: int) -> list[Input]:
-    """Calls of work.s, which have so many instructions each."""
     mixes = word((length - OTHER_INSTRUCTIONS) // INSTRUCTIONS_A_ROUND)
     return [Input(GAS, key(number) + mixes) for number in range(count)]
 

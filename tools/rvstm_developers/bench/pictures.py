@@ -9,8 +9,6 @@ GREY, DARK_GREY = "#dddddd", "#888888"
 
 
 class Point(NamedTuple):
-    """A place in a picture, in pixels from its upper left corner."""
-
     x: float
     y: float
 
@@ -25,23 +23,19 @@ class Picture:
         self.parts.append(f'<rect {size} fill="white"/>')
 
     def mark_x(self, x: float, text: str) -> None:
-        """Names a place of the lower edge."""
         self.label(Point(x, self.bottom + 20), text, anchor="middle")
 
     def mark_y(self, y: float, text: str, colour: str = GREY) -> None:
-        """Names a height, and draws a line there."""
         self.parts.append(f'<line x1="{self.left:.0f}" y1="{y:.0f}" x2="{self.right:.0f}" y2="{y:.0f}" stroke="{colour}"/>')
         self.label(Point(self.left - 8, y + 4), text, anchor="end")
 
     def title(self, below: str, beside: str = "") -> None:
-        """Says what the edges are."""
         self.label(Point((self.left + self.right) / 2, self.bottom + 42), below, anchor="middle")
         if beside:
             place = f'x="{-(self.top + self.bottom) / 2:.0f}" y="14" text-anchor="middle" transform="rotate(-90)"'
             self.parts.append(f"<text {place}>{beside}</text>")
 
     def line(self, points: Sequence[Point], colour: str, *, is_broken: bool = False) -> None:
-        """Draws a line, with a dot at each point."""
         text = " ".join(f"{point.x:.0f},{point.y:.0f}" for point in points)
         dashes = ' stroke-dasharray="5 4"' if is_broken else ""
         self.parts.append(f'<polyline points="{text}" fill="none" stroke="{colour}" stroke-width="2"{dashes}/>')

@@ -72,7 +72,6 @@ def timed(words: Sequence[Word], place: Path, source: str = os.devnull, result: 
 
 
 def sound(spent: Spent) -> Spent:
-    """The same, if the run was not refused."""
     if spent.fault:
         raise UserError(spent.fault)
     return spent

@@ -59,7 +59,6 @@ def times_in_turn(commands: Mapping[str, Sequence[Word]], place: Path, rounds: i
 
 
 def fastest_builds(plain: Mapping[str, Path], block: Path, place: Path) -> list[str]:
-    """The fastest build on a block with jump tables, and the fastest without."""
     times = times_in_turn({name: [path, block] for name, path in plain.items()}, place, CHOOSING_ROUNDS)
     middle = {name: statistics.median(spent) for name, spent in times.items()}
     return [min((name for name in middle if (NO_TABLES in name) == is_without), key=middle.__getitem__) for is_without in (False, True)]
@@ -87,7 +86,6 @@ def print_whole(rvstm: Path, old: Path | None, place: Path) -> None:
 
 
 def best_times(commands: Sequence[Sequence[Word]], place: Path) -> list[float]:
-    """The best time of each command in seconds, all in turn."""
     rounds = [[processes.sound(processes.timed(words, place)).seconds for words in commands] for _ in range(TIMES)]
     return [min(times) for times in zip(*rounds)]
 

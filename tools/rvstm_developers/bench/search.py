@@ -27,8 +27,6 @@ UNITS = sum(slow_programs.GROUPS.values(), ())
 
 @dataclass(frozen=True, order=True)
 class Found:
-    """A program that was measured."""
-
     ratio: float
     """Its processor time for a unit of gas beside that of `work`."""
     name: str
@@ -54,14 +52,11 @@ class Kind(NamedTuple):
 
 
 class Bench:
-    """A folder in which blocks of programs are run."""
-
     def __init__(self, rvstm: Path, place: Path) -> None:
         self.rvstm, self.place = rvstm, place
         blocks.assemble(rvstm, place, "work")
 
     def run(self, program: str, calls: int) -> Spent:
-        """Runs calls that use up all of their gas."""
         lines = [CallLine(0, GAS, numbered_key(number) + texts.word(2**32 - 1)) for number in range(calls)]
         (self.place / "block").write_text(texts.block_text([program], {}, lines, texts.head_of(3)))
         spent = sound(timed([self.rvstm, "seq", "block"], self.place, result="result"))
@@ -82,7 +77,6 @@ class Bench:
         return Long(statistics.median(ratios), statistics.median(times), name)
 
     def ratio(self, name: str) -> float:
-        """The first of these, of one call."""
         return self.measured(name).ratio
 
 
@@ -93,7 +87,6 @@ class Pool:
         self.found: list[Found] = []
 
     def is_among_worst(self, ratio: float, name: str) -> bool:
-        """Whether a program may be added."""
         alike = [found for found in self.found if kind_of(found.name) == kind_of(name)]
         if len(alike) >= ALIKE:
             return ratio > alike[-1].ratio
@@ -144,7 +137,6 @@ def search(bench: Bench, seconds: float, without: str) -> list[Found]:
 
 
 def print_long(bench: Bench, names: list[str]) -> None:
-    """Prints what programs take over 160 million gas, the worst one first."""
     rows = sorted((bench.measured(name, LONG_CALLS, LONG_ROUNDS) for name in names), reverse=True)
     tables.print_head(["program", "times `work`", "ns a unit of gas", "shape"])
     for row in rows:

@@ -5,9 +5,9 @@ from collections.abc import Callable, Sequence
 from dataclasses import dataclass, field
 from enum import Enum
 
-from rvstm_developers.bench import machine_code as code
+from rvstm_developers import machine_code as code
 from rvstm_developers.bench import slow_programs
-from rvstm_developers.bench.machine_code import PAGE, WORD, Segment
+from rvstm_developers.machine_code import PAGE, WORD, Segment
 from rvstm_developers.texts import word
 from rvstm_tools.texts.blocks import CallLine
 from rvstm_tools.texts.keys import KEY_LENGTH, Storage
@@ -23,8 +23,6 @@ ALL_WAYS = (SEQ, RUN, CHAIN, CHAIN_4)
 
 
 class Share(Enum):
-    """What the time of a block is parted by."""
-
     GAS = "ns a unit"
     CALL = "µs a call"
 
@@ -40,7 +38,6 @@ class Content:
 
 
 def used_up(programs: Sequence[str | bytes], calls: Sequence[CallLine], store: Storage | None = None) -> Content:
-    """A block of calls that use up their gas."""
     return Content(programs, calls, store or {}, sum(gas for _, gas, _ in calls))
 
 
@@ -64,7 +61,6 @@ def endless(count: int, program: int = 0) -> list[CallLine]:
 
 
 def halves(count: int) -> Content:
-    """Calls that compute, and then as many that read."""
     calls = endless(count)
     return used_up(["work", "reads"], calls[: count // 2] + [CallLine(1, gas, data) for _, gas, data in calls[count // 2 :]])
 
@@ -75,7 +71,6 @@ def long_reads(count: int) -> Content:
 
 
 def drawn(name: str) -> Callable[[int], Content]:
-    """Calls of a program of slow_programs.py."""
     return lambda count: used_up([slow_programs.program_of(slow_programs.shape_of(name), name)], endless(count))
 
 
@@ -83,7 +78,6 @@ def drawn(name: str) -> Callable[[int], Content]:
 
 
 def short(program: str | bytes, gas: int, data: bytes = b"") -> Callable[[int], Content]:
-    """The most calls of a program, each of which ends soon."""
     return lambda _: Content([program], [CallLine(0, gas, data)] * MOST_CALLS)
 
 

@@ -15,8 +15,8 @@ import random
 from collections.abc import Callable, Iterator, Mapping
 from dataclasses import dataclass, field, replace
 
-from rvstm_developers.bench import machine_code as code
-from rvstm_developers.bench.machine_code import PAGE, WORD, Segment
+from rvstm_developers import machine_code as code
+from rvstm_developers.machine_code import PAGE, WORD, Segment
 
 WORDS_A_PAGE = PAGE // WORD
 MOST_PAGES = 31  # of code in a file
@@ -74,7 +74,6 @@ class Shape:
 
 
 def shares(weights: Mapping[str, float]) -> str:
-    """Weights as parts of a hundred, the greatest first."""
     whole = sum(weights.values()) or 1
     rows = sorted(((100 * weight / whole, name) for name, weight in weights.items() if weight), reverse=True)
     return " ".join(f"{name} {share:.0f}" for share, name in rows if share >= 0.5) or "none"
@@ -109,7 +108,6 @@ def drawn(choice: random.Random) -> Shape:
 
 
 def changed(shape: Shape, choice: random.Random) -> Shape:
-    """A shape that differs from another one in some places."""
     for _ in range(choice.randint(1, 3)):
         other = drawn(choice)
         name = choice.choice(("pages", "copies", "data_pages", "run", "reach", "zero", "leaps", *("units",) * 4))
@@ -123,7 +121,6 @@ def changed(shape: Shape, choice: random.Random) -> Shape:
 
 
 def other_weights(weights: Mapping[str, float], names: tuple[str, ...], choice: random.Random) -> dict[str, float]:
-    """Weights of which one to four differ: they grow, shrink, go or come."""
     made = dict(weights)
     whole = sum(made.values()) or 1.0
     for name in choice.sample(names, choice.randint(1, min(4, len(names)))):
@@ -160,8 +157,6 @@ def shape_of(name: str) -> Shape:
 
 
 class Program:
-    """The words of a program's code, while they are made."""
-
     def __init__(self, shape: Shape, name: str) -> None:
         self.shape = shape
         self.choice = random.Random(f"code of {name}")
@@ -176,13 +171,11 @@ class Program:
             self.makers |= dict.fromkeys(names, maker)
 
     def drawn_from(self, weights: Mapping[str, float]) -> Iterator[str]:
-        """Names without end, by their weights."""
         names, sums = list(weights), list(itertools.accumulate(weights.values()))
         while True:
             yield from self.choice.choices(names, cum_weights=sums, k=256)
 
     def result(self) -> int:
-        """A register that a unit may write to."""
         return 0 if self.choice.random() < self.shape.zero else self.choice.choice(FREE)
 
     def source(self) -> int:
@@ -242,7 +235,6 @@ class Program:
         return [code.jal(self.result(), offset)]
 
     def tables(self) -> list[tuple[tuple[str, ...], Callable[[str, int], list[int]]]]:
-        """Which function makes which units."""
         bits = self.choice.getrandbits
         return [
             (tuple(code.IMMEDIATES), lambda kind, _: [code.immediate(kind, self.result(), self.source(), bits(12))]),
@@ -264,7 +256,6 @@ class Program:
         ]
 
     def offset(self, kind: str) -> int:
-        """The distance from the address of data, for a load or a store."""
         width = code.WIDTHS[kind]
         return self.choice.randrange(LINE // width) * width
 
@@ -297,7 +288,6 @@ def shake() -> list[int]:
 
 
 def masked(register: int, source: int, mask: int) -> list[int]:
-    """An address of data by a number."""
     return [code.computed("and", SCRATCH, source, mask), code.computed("add", register, SCRATCH, DATA)]
 
 

@@ -28,8 +28,6 @@ FRAME_LIMIT = 1 << 27
 
 @dataclass(frozen=True)
 class Row:
-    """What an act over some keys takes of the processor."""
-
     what: str
     seconds: float
     unit: str  # for what it takes that
@@ -43,13 +41,11 @@ def pair_key(number: int, mask: int) -> Key:
 
 
 def random_keys() -> list[Key]:
-    """A million keys, ascending."""
     choice = random.Random(2)
     return sorted(Key(choice.randbytes(KEY_LENGTH)) for _ in range(KEYS))
 
 
 def begun(rvstm: Path, keys: list[Key], store: str | None = None) -> Session:
-    """A session over these keys, in a file if one is named."""
     session = Session(rvstm, Settings(frame_limit=FRAME_LIMIT, store=store))
     dump = frames.dump_of(3, dict.fromkeys(keys, word(1, 8)))
     answered(session, requests.begin(0, bytes(32) if store else None, dump))

@@ -55,7 +55,6 @@ def run_way(options: Options, name: str, way: str) -> Spent:
 
 
 def shown(name: str, way: str) -> str:
-    """The command as it is typed."""
     if way in (CHAIN, CHAIN_4):
         return f"{way} < {name}.requests"
     command, *words = way.split()
@@ -76,7 +75,6 @@ def whole_of(options: Options, block: Block, content: Content) -> int:
 
 
 def print_block(options: Options, block: Block) -> None:
-    """Prints a row for each way in which a block is run."""
     content = block.make(options.calls)
     write_block(options, block.name, content)
     whole = whole_of(options, block, content)
@@ -124,7 +122,6 @@ NOTES = {block.name: block.what for block in BLOCKS} | SESSIONS
 
 
 def prepare(options: Options) -> None:
-    """Makes the programs of bench/programs, and the block beside which others are timed."""
     for source in SOURCES:
         blocks.assemble(options.rvstm, options.place, source)
     write_block(options, "reference", used_up(["work"], endless(WORK_CALLS)))

@@ -101,7 +101,6 @@ class Measured:
         return hashlib.sha256(b"".join(one.body for one in found)).digest()
 
     def add_round(self) -> tuple[bytes, ...]:
-        """Makes each act once. Returns the digests of the answers."""
         return tuple(self.timed(act) for act in ACTS)
 
     def median(self, act: str) -> float:
@@ -131,7 +130,6 @@ class Kind:
     measured: dict[int, list[Measured]]
 
     def add_round(self) -> None:
-        """Makes each act once. All programs have to answer alike."""
         for keys, sessions in self.measured.items():
             if len({one.add_round() for one in sessions}) != 1:
                 raise UserError(f"{self.name}, {keys:,} keys: the two programs answer otherwise")

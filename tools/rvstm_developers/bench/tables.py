@@ -13,7 +13,6 @@ def print_row(cells: Iterable[str]) -> None:
 
 
 def print_table(columns: Sequence[str], rows: Iterable[Iterable[str]]) -> None:
-    """Prints a table, each row as soon as it is made."""
     print_head(columns)
     for row in rows:
         print_row(row)
@@ -30,5 +29,4 @@ def ratio(some: Iterable[float], others: Iterable[float]) -> float:
 
 
 def of_workers(count: int) -> str:
-    """How a column of so many workers is called."""
     return f"{count} worker{'s' * (count > 1)}"

@@ -33,7 +33,6 @@ class Times:
         return [tables.ratio(self.rounds[first], spent) for spent in self.rounds[first + 1 :]]
 
     def check(self, name: str, first: int = 0) -> None:
-        """All commands from a number on print the same."""
         if any(output != self.outputs[first] for output in self.outputs[first:]):
             raise UserError(f"{name}: a run differs from seq")
 
@@ -55,7 +54,6 @@ class Row:
 
 
 def times_of(commands: Sequence[Sequence[Word]], place: Path, count: int = TIMES, output: int = subprocess.PIPE) -> Times:
-    """Runs all commands in turn, in so many rounds."""
     times = Times([[] for _ in commands], [b""] * len(commands))
     for _ in range(count):
         for number, words in enumerate(commands):
@@ -98,7 +96,6 @@ def measured(rvstm: Path, place: Path, block: TimedBlock) -> Row:
 
 
 def picture(rows: Sequence[Row]) -> Picture:
-    """Speed against `seq` by the number of workers, a line a block."""
     places = [2 * MARGIN + BETWEEN * number for number in range(len(WORKERS))]
     made = Picture(720, 380, MARGIN, places[-1], 320)
     greatest = max(2.0, *(row.speed(number) for row in rows for number in range(len(WORKERS))))

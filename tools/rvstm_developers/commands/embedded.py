@@ -30,7 +30,6 @@ LINES_SHOWN = 12
 
 
 def block_of(choice: Random, paths: Sequence[str]) -> bytes:
-    """A block of a few calls of a program of storage calls."""
     head, program = choice.choice(texts.HEADS), choice.choice(paths)
     keys = sorted(choice.sample(KEYS, choice.randrange(len(KEYS))))
     store = {key: choice.randbytes(choice.choice((1, 8, 8, 16))) for key in keys}
@@ -68,7 +67,6 @@ class Compared:
         self.chain = Session(rvstm, self.settings)
 
     def want(self, wanted: Called, letter: bytes, data: bytes = b"") -> None:
-        """A call that is no request, and what it has to answer."""
         self.check(self.driver.call(self.place, letter, 0, data), wanted, (letter, data))
 
     def check(self, came: Called, wanted: Called, what: object) -> None:
@@ -77,7 +75,6 @@ class Compared:
             raise UserError(f"{what!r}"[:200] + f": {came!r} and not {wanted!r}"[:600])
 
     def check_closed(self) -> None:
-        """Each call says that the session is closed."""
         for letter in (*sorted(LETTERS.values()), CLOSE):
             self.want(Called(Status.CLOSED), letter)
 

@@ -77,7 +77,6 @@ class Graph:
         self.most_work = self.check_ways()
 
     def falls(self, measure: Measure) -> bool:
-        """Whether each step of work lowers the height."""
         heights = [measure.height(state) for state in self.states]
         return all(heights[after] < heights[place] for place, steps in enumerate(self.steps) for after, _ in steps)
 
@@ -141,8 +140,6 @@ def check_small(tally: Tally, until: float) -> None:
 
 
 class Walk:
-    """Steps on a block from the start on, each of them checked."""
-
     def __init__(self, block: Block, workers: int) -> None:
         self.block, self.state, self.measure = block, model.start(block, workers), Measure(block, workers)
         self.work, self.causes = 0, [0] * len(block.calls)
@@ -159,7 +156,6 @@ class Walk:
         self.state = after
 
     def check_rounds(self, choice: Random) -> int:
-        """Rounds to the end. Returns how many there were."""
         workers, rounds = range(len(self.state.tasks)), 0
         while not model.is_done(self.state):
             names, before = [*workers, *choice.choices(workers, k=choice.randrange(4))], self.work
@@ -190,7 +186,6 @@ class Extreme(NamedTuple):
 
 
 def check_walk(seed: int) -> Extreme:
-    """A random schedule of a random block, and rounds."""
     choice = random.Random(seed)
     block = Block([random_call(choice) for _ in range(choice.randint(1, 7))], 3, 2)
     workers = range(choice.randint(1, 6))
@@ -204,7 +199,6 @@ def check_walk(seed: int) -> Extreme:
 
 
 def check_walks(tally: Tally, until: float, seed: int) -> None:
-    """Walks until the time is over."""
     found, first = [Extreme()], seed
     while time.time() < until:
         one = tally.of(f"walk of seed {seed}", functools.partial(check_walk, seed))
@@ -242,7 +236,6 @@ class Adversary(Walk):
         return worker
 
     def hold_above(self, call: int) -> dict[int, int]:
-        """Takes the validations of the calls above one, and holds them."""
         return {higher: self.take(Validating, higher) for higher in range(call + 1, self.calls)}
 
     def take_back(self, call: int, worker: int) -> None:
@@ -258,7 +251,6 @@ class Adversary(Walk):
         self.take_back_all(held)
 
     def take_back_all(self, held: dict[int, int]) -> None:
-        """Takes calls back, the highest first."""
         for call in reversed(held):
             self.take_back(call, held[call])
 
@@ -278,7 +270,6 @@ class Adversary(Walk):
 
 
 def print_adversary(calls: int, out: Path | None) -> None:
-    """Prints what the adversary reaches, and writes its schedule."""
     adversary, refusal = Adversary(calls), ""
     try:
         adversary.go()

@@ -38,8 +38,6 @@ SESSION_WORDS = (
 
 
 class Kind(enum.Enum):
-    """A kind of file that some command reads."""
-
     ELF = "elf"
     BLOCK = "block"
     SOURCE = "source"
@@ -92,7 +90,6 @@ def session_of(folder: Path) -> bytes:
 
 
 def damaged(choice: Random, whole: bytes, others: Sequence[Seed]) -> bytes:
-    """The bytes after one to eight changes."""
     data = bytearray(whole)
     for _ in range(choice.randint(1, 8)):
         place = choice.randrange(len(data) + 1)
@@ -118,7 +115,6 @@ def damaged(choice: Random, whole: bytes, others: Sequence[Seed]) -> bytes:
 
 
 def random_bytes(choice: Random) -> bytes:
-    """Bytes with some words of a session between them."""
     parts = [choice.choice((*SESSION_WORDS, choice.randbytes(choice.randrange(64)))) for _ in range(choice.randrange(40))]
     return b"".join(parts)
 
@@ -160,7 +156,6 @@ def storage_block(choice: Random, head: str, program: Path) -> bytes:
 
 
 def limit() -> None:
-    """Bounds the memory of this process, and lets it leave no core."""
     resource.setrlimit(resource.RLIMIT_AS, (4 * BYTES_A_RUN, 4 * BYTES_A_RUN))
     resource.setrlimit(resource.RLIMIT_CORE, (0, 0))
 
@@ -183,7 +178,6 @@ class Runs:
         return ended.output if ended and self.is_sound(words, ended) and ended.status == 0 else None
 
     def ended(self, folder: Path, words: Sequence[Word], data: bytes = b"") -> Ended | None:
-        """How the program ends; None if the run fails."""
         self.count += 1
         self.given = data
         with tempfile.TemporaryFile() as out, tempfile.TemporaryFile() as errors, tempfile.TemporaryFile() as given:
@@ -204,14 +198,12 @@ class Runs:
         return ended if self.is_bounded(words, ended) else None
 
     def is_bounded(self, words: Sequence[Word], ended: Ended) -> bool:
-        """Whether a run took little memory and has a status of its own."""
         self.largest = max(self.largest, resource.getrusage(resource.RUSAGE_CHILDREN).ru_maxrss)
         if self.largest * 1024 > BYTES_A_RUN:
             return self.fail(words, f"took {self.largest} KiB")
         return ended.status in (0, 1, 2) or self.fail(words, f"status {ended.status}, {ended.errors[-200:]!r}")
 
     def is_sound(self, words: Sequence[Word], ended: Ended) -> bool:
-        """Whether a run prints or refuses, by one line."""
         if ended.status == 0:
             return not ended.errors or self.fail(words, f"done, and says {ended.errors!r}")
         if ended.output and words[0] != "debug":
@@ -233,7 +225,6 @@ class Runs:
 
 
 def fuzz_block(runs: Runs, choice: Random, folder: Path, path: Path, schedule: Path) -> None:
-    """Gives a block to all that run it, which have to agree."""
     wanted = runs.run(folder, ["seq", path])
     if runs.run(folder, ["migrate", path, "--out", runs.migrated]) is not None:
         if runs.run(folder, ["seq", runs.migrated]) != wanted:
@@ -271,7 +262,6 @@ def data_of(runs: Runs, choice: Random, kind: Kind, others: Sequence[Seed]) -> S
 
 
 def fuzz_file(runs: Runs, choice: Random, kind: Kind, seed: Seed) -> None:
-    """Gives a file to each command that reads its kind."""
     folder, path, block = seed.folder, runs.damaged, COUNTER / "counter.block"
     path.write_bytes(seed.data)
     match kind:

@@ -19,8 +19,6 @@ PARENT, BEGAN, USER_TIME, SYSTEM_TIME = 1, 19, 11, 12
 
 
 class Kind(enum.Enum):
-    """What a process is for."""
-
     PROOF = "proof"
     TESTS = "tests"
     EDITS = "edits"
@@ -81,7 +79,6 @@ def task_of(number: int) -> Task | None:
 
 
 def descendants(root: int, found: Iterable[Process]) -> set[int]:
-    """The numbers of the processes below one."""
     below: defaultdict[int, list[int]] = defaultdict(list)
     for process in found:
         below[process.parent].append(process.identity.number)
@@ -95,7 +92,6 @@ def descendants(root: int, found: Iterable[Process]) -> set[int]:
 
 
 def measure(gate: subprocess.Popen[bytes]) -> dict[Task, float]:
-    """What each task used until the gate ends, in seconds."""
     tasks: dict[Identity, Task] = {}
     used: dict[Identity, float] = {}
     while gate.poll() is None:
@@ -121,8 +117,6 @@ def edits_of(crate: str) -> int:
 
 
 def print_table(costs: Mapping[Task, float], minutes: float) -> None:
-    """Prints what each crate costs, the most first."""
-
     def cost(crate: str, kind: Kind) -> float:
         return costs.get(Task(crate, kind), 0)
 

@@ -53,8 +53,6 @@ class Row(NamedTuple):
 
 
 class Trace:
-    """The state at each moment that gdb sees."""
-
     def __init__(self, call: CallOf) -> None:
         with Debugger(call) as session:
             self.total = session.run_to_end()
@@ -82,7 +80,6 @@ class Trace:
         return self.rows[moment].pc
 
     def registers(self, moment: int) -> str:
-        """The registers at a moment, as gdb gets them."""
         row = self.rows[moment]
         words = [texts.word(word) for word in [*row.registers, row.pc]]
         return b"".join([*words, texts.word(moment, 8)]).hex()
@@ -91,7 +88,6 @@ class Trace:
         return self.rows[moment].stack[place.start - STACK :][: place.length]
 
     def has_changed(self, moment: int, watches: Iterable[Memory]) -> bool:
-        """Whether the step to a moment changed bytes that are watched."""
         return any(self.stack(moment - 1, watch) != self.stack(moment, watch) for watch in watches)
 
 
@@ -117,8 +113,6 @@ class MovingWire(Wire):
 
 
 class Round:
-    """A call as gdb has it, and what the trace says of it."""
-
     def __init__(self, trace: Trace, call: CallOf, draw: Random) -> None:
         self.trace, self.draw, self.now, self.compared = trace, draw, 0, 0
         self.moves: list[str] = []
@@ -128,7 +122,6 @@ class Round:
         self.server = gdb.Server(self.wire, lambda hear: moments.Call(call, View(), hear))
 
     def require(self, holds: bool, what: str) -> None:
-        """Ends with the moves so far if something does not hold."""
         if not holds:
             moves = "\n".join(self.moves)
             raise UserError(f"differs: {what}; at moment {self.server.call.now}, where {self.now} was wanted, after\n{moves}")
@@ -226,7 +219,6 @@ class Round:
         return Memory(start, min(self.draw.choice((4, 8)), STACK_END - start))
 
     def turn(self) -> None:
-        """One random move, or a change of what stops moves."""
         name = self.draw.choice(MOVES)
         if name == "on":
             self.move("vCont;c", self.forward())

@@ -192,7 +192,6 @@ class Session:
         return [None if number == failed else model.answer(request) for number, request in enumerate(self.requests)]
 
     def is_right(self, _: Trial, answer: Ended, wanted: Ended) -> bool:
-        """Whether a session that met a refusal answered as it may."""
         if answer.status == 2 or REFUSED.match(answer.errors):
             return answer.status != 0 and not answer.output
         if answer.status or answer.errors:
@@ -234,7 +233,6 @@ def tests_of(path: Path, place: Path) -> Iterator[Trial]:
 
 
 def run_all(place: Path, trials: Iterable[Trial]) -> Sums:
-    """Refuses each request of each program."""
     runs = failed = 0
     source, tools = place / "refuses.c", Tools(place / "refuses.so", place / "refused")
     source.write_text(LIBRARY)

@@ -39,8 +39,6 @@ LAST_BYTES = (b"q\n", b"", b"what\n", b"frame 9\nrv", b"get 00")
 
 
 class Tape:
-    """A stream that keeps what was read from it."""
-
     def __init__(self, stream: IO[bytes]) -> None:
         self.stream, self.text = stream, b""
 
@@ -71,7 +69,6 @@ class Moment:
         self.delay = choice.uniform(0, choice.choice(DELAYS) if self.after else opening)
 
     def run(self, words: Sequence[str | Path], path: Path) -> Killed:
-        """Runs a session over the input at a path until it is killed."""
         with open(path, "rb") as text:
             process = subprocess.Popen(words, stdin=text, stdout=subprocess.PIPE, stderr=subprocess.PIPE)
         assert process.stdout is not None and process.stderr is not None
@@ -113,7 +110,6 @@ class KilledFile:
         self.opening, self.is_there = LONGEST_OPENING, False
 
     def batch(self) -> list[Request]:
-        """Random requests, made for the programs and the rules that there are."""
         state, _, programs, *_ = self.plain.asked()
         self.made.rules, self.made.given = answers.state_of(state.body).rules, set(programs.body.decode().split())
         self.made.requests = []
@@ -124,7 +120,6 @@ class KilledFile:
         return self.made.requests
 
     def round(self) -> str | None:
-        """Runs and kills a session. Returns what is bad; None if nothing is."""
         batch, end = self.batch(), self.choice.choice(LAST_BYTES)
         self.input.write_bytes(files.text_of(QUESTIONS + batch) + end)
         moment = Moment(self.choice, len(QUESTIONS + batch), self.opening)
@@ -178,7 +173,6 @@ class KilledFile:
         return None if is_right else f"{more} answers after the last one, {run.errors!r}, and status {run.status}"
 
     def folded(self) -> str | None:
-        """Folds the log into the file with stock SQLite, in some rounds."""
         if not self.is_there or self.choice.randrange(ONE_IN):
             return None
         self.counts["folded by sqlite3"] += 1
@@ -201,7 +195,6 @@ class Rounds:
     bad: int = 0
 
     def over_one_file(self, place: Path, count: int) -> None:
-        """Runs some rounds over one file, up to the first bad one."""
         programs = self.choice.choice((blocks.contracts_of(self.folder), None)) or blocks.made_programs(self.rvstm, place, self.choice)
         file = KilledFile(self.rvstm, self.choice, self.folder, programs, place, self.counts)
         with file.plain:

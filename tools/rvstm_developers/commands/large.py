@@ -94,7 +94,6 @@ class Bench:
         return Usage(*json.loads((self.place / "usage").read_text()))
 
     def fault_of(self, trial: Trial, usage: Usage) -> str:
-        """What is wrong about a run; empty if nothing is."""
         errors = (self.place / "errors").read_bytes()
         if usage.status != trial.status or (trial.errors is not None and errors != trial.errors):
             return f"status {usage.status} {errors[:200]!r}, and not {trial.status} {trial.errors!r}"
@@ -181,7 +180,6 @@ def session_words(name: str, *more: str) -> list[str]:
 
 
 def whole_session(workers: Sequence[str], name: str) -> Trial:
-    """A session without a file, all of its parts in one process."""
     parts = sessions.made(name)
     answers, given = b"".join(part.answers for part in parts), b"".join(part.text for part in parts)
     return Trial(session_words(name, *workers), answers, input=given)

@@ -17,7 +17,6 @@ class Module(NamedTuple):
     name: str
 
     def kind(self) -> str:
-        """What it holds, by the last part of its name."""
         part = self.name.rpartition(".")[2]
         if "-proofs." not in self.name:
             return "contracts and definitions"
@@ -30,7 +29,6 @@ class Cost(NamedTuple):
 
 
 def modules(folder: Path) -> list[Module]:
-    """The modules that a check kept, oldest first."""
     files = (path for path in folder.rglob("*.oantt") if path.parent.name != "records")
     return sorted(Module(path.stat().st_mtime, path.stem) for path in files)
 

@@ -103,7 +103,6 @@ class Check:
         return all(function.hands_back() for function in self.called(call) or [NOT_KNOWN])
 
     def fails_for(self, kind: Kind, call: str) -> bool:
-        """Whether a call fails for causes of a kind alone."""
         if RULES[kind].search(call) or (kind is Kind.MEMORY and SIZE.search(call)):
             return True
         found = self.called(call)
@@ -113,7 +112,6 @@ class Check:
         return all(RESULTS[kind].search(function.result) or (kind is Kind.MEMORY and function.hands_back()) for function in found)
 
     def called(self, call: str) -> list[Function]:
-        """The functions that the last call of a text may be."""
         last = last_call(call)
         found = self.uses.functions.get(last.name, [])
         if last.is_method:

@@ -101,7 +101,6 @@ class Recorder:
 
 
 def after(recorded: Recorded, number: int) -> Both:
-    """The file and its log after some steps."""
     disk = Disk(recorded.before)
     for step in recorded.steps[:number]:
         if step.whose != OUTPUT:
@@ -110,12 +109,10 @@ def after(recorded: Recorded, number: int) -> Both:
 
 
 def last_answer(recorded: Recorded) -> int:
-    """The number of steps up to the last one of the output."""
     return max(number for number, step in enumerate(recorded.steps, 1) if step.whose == OUTPUT)
 
 
 def cuts(recorded: Recorded, are_cut: set[int] | None) -> Iterator[Cut]:
-    """The cuts after the steps of these numbers, or after all."""
     disk, written_before = Disk(recorded.before), 0
     for number, step in enumerate(recorded.steps):
         if step.whose == OUTPUT:
@@ -127,15 +124,12 @@ def cuts(recorded: Recorded, are_cut: set[int] | None) -> Iterator[Cut]:
 
 
 def around(choice: Random, recorded: Recorded) -> set[int]:
-    """The steps around those on the file, and some others."""
     steps = recorded.steps
     numbers = {number + near for number, step in enumerate(steps) if step.whose == FILE for near in range(-AROUND, AROUND)}
     return numbers | {choice.randrange(len(steps)) for _ in range(OTHER_CUTS)}
 
 
 class Expected:
-    """What a session without a file holds after each request."""
-
     def __init__(self, plain: files.Plain, asked: Iterable[Request]) -> None:
         self.states = [plain.held()]
         self.ends: list[int] = []
@@ -196,7 +190,6 @@ class Images:
                 self.cut(Recording("opened again", recorded, Same(opened.state)), depth=1)
 
     def made(self, what: Recording) -> Iterator[Image]:
-        """The images of a session that were not made yet."""
         for cut in cuts(what.recorded, what.are_cut):
             allowed = what.expected.at(cut.written_before)
             for both in cut.disk.images(self.choice):
@@ -226,7 +219,6 @@ class Images:
 
 
 def requests_of(choice: Random, folder: Path, number: int) -> list[Request]:
-    """Random requests of a session that keeps a digest."""
     made = sessions.RandomSession(choice, blocks.blocks_of(choice, blocks.contracts_of(folder)), blocks.KEYS, folder)
     made.keeps_digest = True
     while len(made.requests) < number:

@@ -44,14 +44,11 @@ class Moment:
 
 @dataclass(frozen=True)
 class Replay:
-    """All moments of a call, and its registers at the end."""
-
     moments: list[Moment]
     registers: list[int]
 
 
 def replay_of(rvstm: Path, block: Path, call: int, steps: int) -> Replay:
-    """The replay of a call that makes at most so many steps."""
     lines = b"w\n" + b"s\n" * (steps + 1) + b"r\n"
     *shown, registers = running.output_of([rvstm, "debug", block, "--call", str(call)], data=lines).decode().splitlines()
     if shown[-1] != "refused AtEnd 2":
@@ -123,7 +120,6 @@ class Tally:
 
 
 def compare(rvstm: Path, seed: str) -> Tally:
-    """Runs the calls of one random program, and replays each."""
     choice: Random = random.Random(seed)
     with tempfile.TemporaryDirectory() as folder:
         file, block = Path(folder) / "random.elf", Path(folder) / "random.block"

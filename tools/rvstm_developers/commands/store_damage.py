@@ -132,7 +132,6 @@ class Damage:
                 print(f"bad: {files.kept('store-damage-', self.path)}: {came.what}", flush=True)
 
     def tell(self, what: str) -> None:
-        """Prints what came, and counts from zero again."""
         parts = ", ".join(f"{number} {came}" for came, number in sorted(self.counts.items()))
         print(f"{sum(self.counts.values())} {what}: {parts}", flush=True)
         self.counts.clear()

@@ -80,7 +80,6 @@ os._exit(0)
 
 
 def folder_of(path: Path) -> dict[str, bytes | None]:
-    """What is in the folder of a path: the bytes of each file."""
     return {place.name: place.read_bytes() if place.is_file() else None for place in path.parent.iterdir()}
 
 
@@ -114,7 +113,6 @@ class Trial:
         self.sound = files.contents(self.path)
 
     def fresh(self) -> Path:
-        """An empty folder. Returns the path of the file in it."""
         shutil.rmtree(self.folder, ignore_errors=True)
         self.folder.mkdir()
         return self.path
@@ -156,7 +154,6 @@ def other_database(path: Path, *pragmas: str) -> None:
 
 
 def try_foreign(trial: Trial) -> None:
-    """Files of others, and what is no file."""
     texts = {"a short text": b"text\n", "a long text": b"text\n" * 9_999, "a head alone": b"SQLite format 3\0" + b"x" * 9_999}
     for what, text in texts.items():
         trial.fresh().write_bytes(text)
@@ -217,7 +214,6 @@ def sqlite_is_locked(path: Path) -> bool:
 
 
 def try_two(trial: Trial) -> None:
-    """Two sessions at one file, and a session and sqlite3."""
     with files.OverFile(trial.rvstm, trial.sound_file()) as first:
         first.held()
         trial.refuses("a second session", BUSY)
@@ -234,7 +230,6 @@ def try_two(trial: Trial) -> None:
 
 
 def try_journal(trial: Trial) -> None:
-    """A rollback journal that a killed sqlite3 left."""
     subprocess.run([sys.executable, "-c", HOT, trial.sound_file()], check=True)
     trial.refuses("a hot journal", HOT_JOURNAL)
     files.read_by_sqlite(trial.path)
@@ -442,7 +437,6 @@ def fill(trial: Trial, what: str, room: Room) -> None:
 
 
 def start_full(trial: Trial, room: Room) -> None:
-    """Starts a session without room for its file, and again with room."""
     filler = room.path.parent / "filler"
     with open(filler, "wb", buffering=0) as file, suppress(OSError):
         while file.write(bytes(4096)):

@@ -35,7 +35,6 @@ class Way:
 
 
 def driven(rvstm: Path, folder: Path, block: Path, workers: int, choice: Random) -> Ended:
-    """What `rvstm drive` prints along a random list that is long enough."""
     entries, done = 1_000, Ended(b"", NOT_DONE, 1)
     while entries <= LONGEST_SCHEDULE and done.errors == NOT_DONE:
         with temporary_file(texts.lines_of(choice.randrange(workers) for _ in range(entries)), ".schedule") as path:

@@ -15,7 +15,6 @@ KEYS = [key_of(bytes([number]), "") for number in range(4)]
 
 
 def contracts_of(folder: Path) -> list[str]:
-    """The paths of the contracts of a folder, from that folder on: contracts/*.elf."""
     paths = sorted(f"contracts/{path.name}" for path in folder.glob("contracts/*.elf"))
     if not paths:
         raise UserError(f"{folder}/contracts: no file there ends with .elf")

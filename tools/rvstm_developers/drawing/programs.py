@@ -17,7 +17,6 @@ MOST_ROUNDS = 8_000
 
 
 def storage_call(choice: Random) -> list[str]:
-    """The lines of one storage call on the key at a0."""
     kind = choice.choice(("add", "add", "add", "read", "read", "write", "remove"))
     if kind == "add":
         amount = choice.choice((*AMOUNTS, choice.randrange(2**64)))
@@ -51,5 +50,4 @@ def input_of(choice: Random, keys: Sequence[Key]) -> bytes:
 
 
 def make(rvstm: Path, choice: Random, path: Path) -> Path:
-    """Makes a random program at a path, with its source beside it."""
     return running.assembled(rvstm, source(choice), path)

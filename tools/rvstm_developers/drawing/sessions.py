@@ -142,7 +142,6 @@ class RandomSession:
         return wide_block(self.choice, named.block)
 
     def add_frames(self) -> None:
-        """Adds a block as a frame, as a try, or as both."""
         block, frame, attempt = self.next_block(), Word.FRAME, Word.TRY
         for word in self.choice.choice(((frame,),) * 3 + ((attempt, frame), (frame, attempt), (attempt,), (frame, frame))):
             self.add(word, body=block)
@@ -150,7 +149,6 @@ class RandomSession:
                 self.add_question()
 
     def add_bad_frame(self) -> None:
-        """Adds a frame that is mostly refused."""
         make = self.choice.choice((bad_block, bad_block, hostile_body))
         body = make(self.choice, self.next_block())
         body = self.choice.choice((body,) * 6 + (b"", b"\n", b"rvblock 1", b"rvblock 1\n", b"rvblock 2\n", self.choice.randbytes(40)))
@@ -158,7 +156,6 @@ class RandomSession:
             self.add(word, body=body)
 
     def add_question(self) -> None:
-        """Adds a request that changes nothing."""
         word = self.choice.choice((Word.GET, Word.LIST, Word.DUMP, Word.STATE, Word.LAST, Word.PROGRAMS))
         key = key_field(self.choice.choice((*self.keys, *self.keys, LOWEST_KEY, HIGHEST_KEY, self.choice.randbytes(32))))
         count = self.choice.choice((1, 2, 3, 1023, 1024, self.choice.randrange(1, 1025)))
@@ -183,7 +180,6 @@ class RandomSession:
             self.add(Word.PROGRAM, body=self.no_program())
 
     def no_program(self) -> bytes:
-        """A file that is mostly refused."""
         file = bytearray(self.choice.choice([*self.files.values(), b"\x7fELF", b""]))
         if file and self.choice.randrange(2):
             file[self.choice.randrange(min(len(file), 100))] ^= 1 << self.choice.randrange(8)

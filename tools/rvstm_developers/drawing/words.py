@@ -1,20 +1,15 @@
 """Programs whose words are random, and calls of them that start at random words with random registers."""
 
-import struct
-from collections.abc import Callable, Sequence
+from collections.abc import Callable
 from dataclasses import dataclass
 from random import Random
 
-from rvstm_developers.models.machine import Part, elf_of
+from rvstm_developers import machine_code as code
+from rvstm_developers.machine_code import PAGE, Part
 
-PAGE = 4096
 WORDS_A_PAGE = PAGE // 4
 LAUNCHER, CODE, DATA = 0x0001_0000, 0x0001_1000, 0x0002_0000
 INPUT, STACK = 0x0010_0000, 0x0010_f000
-READABLE, WRITABLE, EXECUTABLE = 4, 2, 1
-LUI, AUIPC, JAL, JALR, BRANCH, LOAD, STORE, OP_IMM, OP, FENCE, SYSTEM = (
-    0x37, 0x17, 0x6F, 0x67, 0x63, 0x03, 0x23, 0x13, 0x33, 0x0F, 0x73,
-)
 INPUT_REGISTER, NUMBER_REGISTER, START_REGISTER = 10, 17, 31
 IN_CODE, IN_DATA = (5, 6, START_REGISTER), (2, 8, 9, INPUT_REGISTER)
 FREE = [number for number in range(32) if number not in (NUMBER_REGISTER, *IN_CODE, *IN_DATA)]
@@ -39,37 +34,8 @@ class Arm:
 
 @dataclass(frozen=True)
 class RandomProgram:
-    """A program file, and how many random words it has."""
-
     file: bytes
     count: int
-
-
-def word_of_r(funct7: int, rs2: int, rs1: int, funct3: int, rd: int, opcode: int) -> int:
-    """An instruction of the form R."""
-    return funct7 << 25 | rs2 << 20 | rs1 << 15 | funct3 << 12 | rd << 7 | opcode
-
-
-def word_of_i(immediate: int, rs1: int, funct3: int, rd: int, opcode: int) -> int:
-    """An instruction of the form I."""
-    return (immediate & 0xFFF) << 20 | rs1 << 15 | funct3 << 12 | rd << 7 | opcode
-
-
-def word_of_s(immediate: int, rs2: int, rs1: int, funct3: int) -> int:
-    """A store."""
-    return word_of_r((immediate & 0xFFF) >> 5, rs2, rs1, funct3, immediate & 31, STORE)
-
-
-def word_of_b(offset: int, rs2: int, rs1: int, funct3: int) -> int:
-    """A branch."""
-    high = (offset >> 12 & 1) << 6 | offset >> 5 & 63
-    return word_of_r(high, rs2, rs1, funct3, (offset >> 1 & 15) << 1 | offset >> 11 & 1, BRANCH)
-
-
-def word_of_j(offset: int, rd: int) -> int:
-    """A jump."""
-    top = (offset >> 20 & 1) << 19 | (offset >> 1 & 1023) << 9 | (offset >> 11 & 1) << 8 | offset >> 12 & 255
-    return top << 12 | rd << 7 | JAL
 
 
 class Words:
@@ -78,13 +44,13 @@ class Words:
     def __init__(self, choice: Random) -> None:
         self.choice = choice
         self.arms = [
-            *(Arm(self.computed, (OP, funct3, funct7)) for funct3 in range(8) for funct7 in (0, 1)),
-            Arm(self.computed, (OP, 0, 32)), Arm(self.computed, (OP, 5, 32)),
+            *(Arm(self.computed, (code.OP, funct3, funct7)) for funct3 in range(8) for funct7 in (0, 1)),
+            Arm(self.computed, (code.OP, 0, 32)), Arm(self.computed, (code.OP, 5, 32)),
             *(Arm(self.immediate, (funct3,)) for funct3 in (0, 2, 3, 4, 6, 7)),
-            Arm(self.computed, (OP_IMM, 1, 0)), Arm(self.computed, (OP_IMM, 5, 0)), Arm(self.computed, (OP_IMM, 5, 32)),
+            Arm(self.computed, (code.OP_IMM, 1, 0)), Arm(self.computed, (code.OP_IMM, 5, 0)), Arm(self.computed, (code.OP_IMM, 5, 32)),
             *(Arm(self.load, (funct3,)) for funct3 in (0, 1, 2, 4, 5)), *(Arm(self.store, (funct3,)) for funct3 in (0, 1, 2)),
             *(Arm(self.branch, (funct3,)) for funct3 in (0, 1, 4, 5, 6, 7)),
-            Arm(self.upper, (LUI,)), Arm(self.upper, (AUIPC,)), Arm(self.jump), Arm(self.jump_to_register), Arm(self.fence),
+            Arm(self.upper, (code.LUI,)), Arm(self.upper, (code.AUIPC,)), Arm(self.jump), Arm(self.jump_to_register), Arm(self.fence),
             Arm(self.neighbour), Arm(self.any_word),
         ]
 
@@ -105,10 +71,10 @@ class Words:
         return self.choice.randrange(32)
 
     def computed(self, _place: int, opcode: int, funct3: int, funct7: int) -> int:
-        return word_of_r(funct7, self.source(), self.source(), funct3, self.destination(), opcode)
+        return code.word_of_r(funct7, self.source(), self.source(), funct3, self.destination(), opcode)
 
     def immediate(self, _place: int, funct3: int) -> int:
-        return word_of_i(self.choice.randrange(4096), self.source(), funct3, self.destination(), OP_IMM)
+        return code.word_of_i(self.choice.randrange(4096), self.source(), funct3, self.destination(), code.OP_IMM)
 
     def access(self) -> Access:
         """Mostly within what may be loaded and stored to."""
@@ -119,11 +85,11 @@ class Words:
 
     def load(self, _place: int, funct3: int) -> int:
         access = self.access()
-        return word_of_i(access.offset, access.base, funct3, self.destination(), LOAD)
+        return code.word_of_i(access.offset, access.base, funct3, self.destination(), code.LOAD)
 
     def store(self, _place: int, funct3: int) -> int:
         access = self.access()
-        return word_of_s(access.offset, self.source(), access.base, funct3)
+        return code.word_of_s(access.offset, self.source(), access.base, funct3)
 
     def distance(self, place: int) -> int:
         """To a word nearby or anywhere in the page, to its edges, or to no word."""
@@ -138,30 +104,28 @@ class Words:
 
     def branch(self, place: int, funct3: int) -> int:
         distance = max(-4096, min(4094, self.distance(place)))
-        return word_of_b(distance, self.source(), self.source(), funct3)
+        return code.word_of_b(distance, self.source(), self.source(), funct3)
 
     def jump(self, place: int) -> int:
         distance = self.choice.randrange(-(2**20), 2**20, 2) if self.is_one_in(64) else self.distance(place)
-        return word_of_j(distance, self.destination())
+        return code.jal(self.destination(), distance)
 
     def jump_to_register(self, _place: int) -> int:
         base = self.source() if self.is_one_in(16) else self.choice.choice(IN_CODE)
-        return word_of_i(self.choice.randrange(-256, 256, 1 if self.is_one_in(8) else 4), base, 0, self.destination(), JALR)
+        return code.word_of_i(self.choice.randrange(-256, 256, 1 if self.is_one_in(8) else 4), base, 0, self.destination(), code.JALR)
 
     def upper(self, _place: int, opcode: int) -> int:
         return self.choice.randrange(2**20) << 12 | self.destination() << 7 | opcode
 
     def fence(self, _place: int) -> int:
-        """A fence, an ECALL or an EBREAK."""
         if self.is_one_in(4):
-            return self.choice.choice((SYSTEM, SYSTEM, SYSTEM, 1 << 20 | SYSTEM))
-        return word_of_i(self.choice.randrange(4096), self.source(), 0, self.destination(), FENCE)
+            return self.choice.choice((code.SYSTEM, code.SYSTEM, code.SYSTEM, 1 << 20 | code.SYSTEM))
+        return code.word_of_i(self.choice.randrange(4096), self.source(), 0, self.destination(), code.MISC_MEM)
 
     def neighbour(self, _place: int) -> int:
-        """An opcode with functs that it may not have."""
-        opcode = self.choice.choice((JALR, BRANCH, LOAD, STORE, OP_IMM, OP, FENCE, SYSTEM))
+        opcode = self.choice.choice((code.JALR, code.BRANCH, code.LOAD, code.STORE, code.OP_IMM, code.OP, code.MISC_MEM, code.SYSTEM))
         functs = self.choice.choice((0, 1, 2, 16, 32, 64, 127)), self.choice.randrange(8)
-        return word_of_r(functs[0], self.source(), self.source(), functs[1], self.destination(), opcode)
+        return code.word_of_r(functs[0], self.source(), self.source(), functs[1], self.destination(), opcode)
 
     def any_word(self, _place: int) -> int:
         return self.choice.randrange(2**32)
@@ -169,27 +133,23 @@ class Words:
 
 def launcher() -> list[int]:
     """Loads x1 to x31 from the input, and jumps to the address in x31."""
-    loads = [word_of_i(4 * number, INPUT_REGISTER, 2, number, LOAD) for number in range(1, 32) if number != INPUT_REGISTER]
-    loads.append(word_of_i(4 * INPUT_REGISTER, INPUT_REGISTER, 2, INPUT_REGISTER, LOAD))
-    return loads + [word_of_i(0, START_REGISTER, 0, 0, JALR)]
-
-
-def bytes_of(words: Sequence[int]) -> bytes:
-    return struct.pack(f"<{len(words)}I", *words)
+    loads = [code.word_of_i(4 * number, INPUT_REGISTER, 2, number, code.LOAD) for number in range(1, 32) if number != INPUT_REGISTER]
+    loads.append(code.word_of_i(4 * INPUT_REGISTER, INPUT_REGISTER, 2, INPUT_REGISTER, code.LOAD))
+    return loads + [code.word_of_i(0, START_REGISTER, 0, 0, code.JALR)]
 
 
 def program_of(choice: Random, words: Words) -> RandomProgram:
     """A program of one or two pages of random words, after a page that launches them."""
     count = WORDS_A_PAGE * choice.choice((1, 1, 2))
-    code = bytes_of([words.word(place * 4 % PAGE) for place in range(count)])
-    first = bytes_of(launcher()).ljust(PAGE, b"\0")
-    rights = EXECUTABLE | choice.choice((0, READABLE, READABLE, READABLE))
+    text = code.text_of([words.word(place * 4 % PAGE) for place in range(count)])
+    first = code.text_of(launcher()).ljust(PAGE, b"\0")
+    rights = code.EXECUTE | choice.choice((0, code.READ, code.READ, code.READ))
     segments = [
-        Part(LAUNCHER, first, EXECUTABLE),
-        Part(CODE, code, rights),
-        Part(DATA, choice.randbytes(PAGE), READABLE | WRITABLE),
+        Part(LAUNCHER, first, code.EXECUTE),
+        Part(CODE, text, rights),
+        Part(DATA, choice.randbytes(PAGE), code.READ | code.WRITE),
     ]
-    return RandomProgram(elf_of(*segments), count)
+    return RandomProgram(code.elf_of(*segments), count)
 
 
 def input_of(choice: Random, count: int) -> bytes:
@@ -200,4 +160,4 @@ def input_of(choice: Random, count: int) -> bytes:
     for number, first in zip(IN_DATA, (STACK, DATA, DATA, INPUT)):
         registers[number] = first + 2048 + 4 * choice.randrange(-16, 16)
     registers[NUMBER_REGISTER] = choice.choice((*CALL_NUMBERS, choice.randrange(2**32)))
-    return bytes_of(registers)
+    return code.text_of(registers)

@@ -5,8 +5,8 @@ from collections.abc import Callable, Iterable, Mapping
 from typing import NamedTuple
 
 from rvstm_developers.large.blocks import COUNT, LONGEST_PROGRAM, MOST_GAS, count
-from rvstm_developers.models import machine
-from rvstm_developers.models.machine import Block, Part, elf_of
+from rvstm_developers.machine_code import EXECUTE, READ, Part, elf_of
+from rvstm_developers.models.machine import TEXT, Block
 from rvstm_developers.texts import HEADS, head_of
 from rvstm_tools.sessions import answers, frames, requests
 from rvstm_tools.sessions.answers import Answer, Done
@@ -51,7 +51,6 @@ class BadBlock(NamedTuple):
 
 
 def refused(words: list[str], told: str, **files: bytes) -> Trial:
-    """A command that is refused by this area, name and number."""
     return Trial(words, b"", f"rvstm: {told}\n".encode(), REFUSED, files=files)
 
 
@@ -104,7 +103,6 @@ def block_refused(command: str, name: str) -> Trial:
 
 
 def frame_refused(name: str) -> Trial:
-    """The same block as a frame and as a try."""
     bad = BLOCKS[name]
     asked = [Request(word, (), bad.make()) for word in (Word.FRAME, Word.TRY)]
     return session([], asked, [answers.refused(bad.words.encode())] * 2)
@@ -116,7 +114,6 @@ def frame_refused(name: str) -> Trial:
 def session(
     words: list[str], asked: Iterable[Request], wanted: Iterable[Answer], after: bytes = b"", errors: bytes = b""
 ) -> Trial:
-    """A session of some requests and their answers, with some bytes after them."""
     text = b"".join(request.text() for request in asked) + after
     return Trial(["chain", *words], b"".join(answer.text() for answer in wanted), errors, int(bool(errors)), text)
 
@@ -126,7 +123,6 @@ def ended(after: bytes, fault: Fault = Fault.BAD_LINE) -> Trial:
 
 
 def framed(block: Block, word: Word = Word.FRAME) -> Request:
-    """A block of COUNT as a request."""
     return Request(word, (), block.text([frames.name_of(COUNT.file)]))
 
 
@@ -197,7 +193,7 @@ def program_refused(file: bytes, told: str, command: str = "seq") -> Trial:
 def with_headers(number: int) -> bytes:
     """A program file of COUNT with more program headers, of no kind."""
     extra = number - 1
-    headers = bytearray(elf_of(Part(machine.TEXT, COUNT.text, machine.READ | machine.EXECUTE)))
+    headers = bytearray(elf_of(Part(TEXT, COUNT.text, READ | EXECUTE)))
     headers[44:46] = number.to_bytes(2, "little")
     headers[56:60] = (84 + 32 * extra).to_bytes(4, "little")
     return bytes(headers[:84]) + bytes(32 * extra) + COUNT.text
@@ -206,7 +202,7 @@ def with_headers(number: int) -> bytes:
 def with_image_to(end: int) -> bytes:
     """A program file of COUNT whose segment ends at an address, with zeros after its bytes."""
     file = bytearray(COUNT.file)
-    file[72:76] = (end - machine.TEXT).to_bytes(4, "little")
+    file[72:76] = (end - TEXT).to_bytes(4, "little")
     return bytes(file)
 
 

@@ -81,18 +81,15 @@ class Model(sessions.Model):
 
 
 def program(made: Program) -> Request:
-    """The request that hands in a program."""
     return Request(Word.PROGRAM, (), made.file)
 
 
 def framed(block: Block, word: Word = Word.FRAME) -> Request:
-    """The request of a block, whose programs are handed in before."""
     names = [frames.name_of(made.file) for made in block.programs]
     return Request(word, (), block.text(names))
 
 
 def asked(*blocks: Block) -> list[Request]:
-    """The requests that hand in the programs of blocks, and their frames."""
     return [program(made) for block in blocks for made in block.programs] + [framed(block) for block in blocks]
 
 
@@ -106,7 +103,6 @@ def begun(store: Storage, rules: int) -> Request:
 
 
 def programs_of(number: int) -> list[Program]:
-    """Different programs: COUNT with data."""
     return [Program(COUNT.source, large_blocks.filled(8, each_one)) for each_one in range(number)]
 
 

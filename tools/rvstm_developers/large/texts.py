@@ -8,8 +8,9 @@ from rvstm_developers import texts
 from rvstm_developers.large import blocks
 from rvstm_developers.large.blocks import COUNT, LONGEST_PROGRAM, count
 from rvstm_developers.large.limits import Make, Trial
+from rvstm_developers.machine_code import EXECUTE, READ, WRITE, Part, elf_of
 from rvstm_developers.models import machine
-from rvstm_developers.models.machine import DATA, EXECUTE, READ, TEXT, WRITE, Block, Call, Instruction, Part, elf_of
+from rvstm_developers.models.machine import DATA, TEXT, Block, Call, Instruction
 from rvstm_tools.texts.keys import numbered_key as key
 
 TEXT_WORDS, DATA_BYTES = 16_384, 61_440  # of a source at most
@@ -24,7 +25,6 @@ LISTED = {
 
 
 def migrated(keys: int) -> Trial:
-    """A block file of format 1, and the same of format 2."""
     block = blocks.of_file_keys(keys=keys).text(["missing"])
     wanted = b"rvblock 2\ngas 1\n" + block.removeprefix(b"rvblock 1\n")
     return Trial(["migrate", "block", "--out", "made"], wanted, files={"block": block}, file="made")
@@ -43,7 +43,6 @@ def assembled() -> Trial:
 
 
 def listed() -> Trial:
-    """A program of the greatest size, all of it code."""
     words = [list(LISTED)[number % len(LISTED)] for number in range((LONGEST_PROGRAM - 84) // 4)]
     file = elf_of(Part(TEXT, b"".join(map(texts.word, words)), READ | EXECUTE))
     lines = [f"{TEXT + 4 * place:08x} {word:08x} {LISTED[word]}\n" for place, word in enumerate(words)]
@@ -68,7 +67,6 @@ def replayed(block: Block, number: int, rows: list[Said]) -> Trial:
 
 
 def text_of(row: Instruction) -> str:
-    """An instruction as `debug` prints it."""
     name, *numbers = row
     if name in ("lw", "sw"):
         return f"{name} x{numbers[0]},{numbers[1]}(x{numbers[2]})"
@@ -86,8 +84,6 @@ def registers(call: Call) -> str:
 
 
 class Moments:
-    """A call at moments, each made from the call's start."""
-
     def __init__(self, block: Block, number: int) -> None:
         self.store = Block(block.programs, block.calls[:number], block.store, block.rules).storage()
         self.call, self.rules = block.calls[number], block.rules

@@ -3,11 +3,12 @@
 
 import math
 import re
-import struct
 from collections.abc import Iterable, Mapping, Sequence
 from typing import NamedTuple, Self
 
+from rvstm_developers import machine_code as code
 from rvstm_developers import texts
+from rvstm_developers.machine_code import EXECUTE, PAGE, READ, WRITE, Part, elf_of
 from rvstm_developers.models import waits
 from rvstm_developers.texts import word
 from rvstm_tools.models import charges
@@ -19,13 +20,11 @@ from rvstm_tools.texts.results import Added, Change, End, Receipt, Removed, Writ
 from rvstm_tools.texts.tables import REGISTERS as NAMES
 
 TEXT, DATA, INPUT, MEMORY_END = 0x10000, 0x20000, 0x100000, 0x110000
-PAGE = 4096
-EXECUTE, WRITE, READ = 1, 2, 4
 ABSENT, LONGER = 2**32 - 1, 2**32 - 2
 MOST_WRITES, LONGEST_OUTPUT = 256, 256
 REGISTERS = {name: number for number, name in enumerate(NAMES)}
 SP, A0, A1, A2, A7 = (REGISTERS[name] for name in ("sp", "a0", "a1", "a2", "a7"))
-BRANCHES = {"beq": 0, "bne": 1}
+BRANCHES = ("beq", "bne")
 
 
 # ---- programs: the lines of a source, and the words and the file that they are
@@ -38,14 +37,6 @@ class Instruction(NamedTuple):
     first: int = 0
     second: int = 0
     third: int = 0
-
-
-class Part(NamedTuple):
-    """A segment of a program file: its address, its bytes, and its rights."""
-
-    address: int
-    data: bytes
-    rights: int
 
 
 def number_of(text: str, labels: Mapping[str, int], here: int) -> int:
@@ -80,35 +71,21 @@ def made(row: Sequence[str], labels: Mapping[str, int], here: int) -> Instructio
 
 
 def encoded(row: Instruction) -> int:
-    """The word of an instruction (the tables of the manual)."""
     name, first, second, third = row
     match name:
         case "ecall":
-            return 0x73
+            return code.ECALL
         case "lui":
-            return second << 12 | first << 7 | 0x37
+            return code.lui(first, second)
         case "addi":
-            return (third & 0xFFF) << 20 | second << 15 | first << 7 | 0x13
+            return code.immediate(name, first, second, third)
         case "add":
-            return third << 20 | second << 15 | first << 7 | 0x33
+            return code.computed(name, first, second, third)
         case "lw":
-            return (second & 0xFFF) << 20 | third << 15 | 2 << 12 | first << 7 | 0x03
+            return code.loaded(name, first, third, second)
         case "sw":
-            return (second >> 5 & 0x7F) << 25 | first << 20 | third << 15 | 2 << 12 | (second & 31) << 7 | 0x23
-    low = (third >> 1 & 15) << 8 | (third >> 11 & 1) << 7
-    high = (third >> 12 & 1) << 31 | (third >> 5 & 0x3F) << 25
-    return high | second << 20 | first << 15 | BRANCHES[name] << 12 | low | 0x63
-
-
-def elf_of(*segments: Part) -> bytes:
-    """A program file of some parts; the entry is the address of the first one."""
-    offset, headers = 52 + 32 * len(segments), b""
-    for address, data, rights in segments:
-        headers += struct.pack("<8I", 1, offset, address, address, len(data), len(data), rights, 4)
-        offset += len(data)
-    ident = b"\x7fELF\x01\x01\x01".ljust(16, b"\0")
-    head = struct.pack("<HHIIIIIHHHHHH", 2, 243, 1, segments[0].address, 52, 0, 0, 52, 32, len(segments), 0, 0, 0)
-    return ident + head + headers + b"".join(one.data for one in segments)
+            return code.stored(name, first, third, second)
+    return code.branch(name, first, second, third)
 
 
 class Program:
@@ -142,10 +119,8 @@ class Call:
         self.keys: list[Key] = []
 
     def until(self, steps: float) -> Self:
-        """Makes steps until so many are made, or the call has ended."""
-        code = self.program.code
         while self.end is None and self.steps < steps:
-            self.step(code[(self.pc - TEXT) // 4])
+            self.step(self.program.code[(self.pc - TEXT) // 4])
             self.steps += 1
         return self
 
@@ -232,7 +207,6 @@ class Call:
         self.pc += 4
 
     def read(self, key: Key, buffer: int, capacity: int) -> bool:
-        """A READ. Returns whether the gas was enough."""
         change = self.changes.get(key)
         if change is None or isinstance(change, Added):
             self.keys.append(key)
@@ -280,7 +254,6 @@ def value_after(value: bytes | None, change: Change | None) -> bytes | None:
 
 
 def field_of(change: Change) -> str:
-    """A change as a line `write` has it."""
     match change:
         case Added(amount):
             return f"add {amount}"
@@ -324,7 +297,6 @@ class Block:
         return self.left
 
     def lay(self, changes: Mapping[Key, Change]) -> None:
-        """Puts what a call changed into the storage."""
         for key, change in changes.items():
             value = value_after(self.left.get(key), change)
             if value is None:
@@ -333,7 +305,6 @@ class Block:
                 self.left[key] = value
 
     def receipts_text(self, is_brief: bool = False) -> str:
-        """The lines `call`, `regs` and `write`."""
         lines = []
         for one in self.ran():
             lines.append(f"call {one.number} {one.end} gas {one.gas} pc {one.pc:08x} out {blocks.field_of(one.output)}\n")
@@ -342,14 +313,11 @@ class Block:
         return "".join(lines)
 
     def result(self) -> bytes:
-        """What `seq` prints."""
         return f"{self.receipts_text()}{''.join(blocks.store_lines(self.storage()))}end\n".encode()
 
     def conflicts(self) -> bytes:
-        """What `conflicts` prints."""
         return waits.text_of_reads(self.ran(), map(set, self.keys)).encode()
 
     def steps_by_one(self) -> int:
-        """How many steps one worker makes."""
         receipts = self.ran()
         return sum(5 + 2 * len(keys) + len(receipt.changes) for keys, receipt in zip(self.keys, receipts))

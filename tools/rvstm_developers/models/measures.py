@@ -2,13 +2,13 @@
 
 from collections.abc import Callable, Sequence
 from dataclasses import dataclass
+from typing import NamedTuple
 
 from rvstm_developers.models import scheduler as model
 from rvstm_developers.models.scheduler import Answer, Block, Marking, Moving, Read, Running, State, Status, Step, Task, Validating
 
 
 def need(holds: bool, what: str) -> None:
-    """A check, which fails with these words."""
     if not holds:
         raise AssertionError(what)
 
@@ -18,22 +18,51 @@ def work_by_incarnation(workers: int, calls: int, reads: int, writes: int) -> in
     return (workers + 1) * (reads + 2 * writes + 2) + 2 * (calls * (reads + 3)) + (writes + 1)
 
 
+class Parts(NamedTuple):
+    """What a measure counts: an asking with the checks of a call's reads and a decision; the runs that the end of an execution wakes,
+    and those that a call begins; and marks."""
+
+    check: int
+    runs_woken: int
+    runs_begun: int
+    marks: int
+
+
+@dataclass(frozen=True)
+class Smaller:
+    """A measure that has less of something: what becomes of it, and whether some block has to tell it from a right one."""
+
+    name: str
+    change: Callable[[Parts], Parts]
+    has_to_fail: bool = True
+
+
+SMALLER = (
+    Smaller("no run for a call that begins", lambda parts: parts._replace(runs_begun=0)),
+    Smaller("half of each check", lambda parts: parts._replace(check=parts.check // 2)),
+    Smaller("no marks", lambda parts: parts._replace(marks=0)),
+    Smaller(
+        "no run for who ends an execution, and for one who waits", lambda parts: parts._replace(runs_woken=max(parts.runs_woken - 2, 0))
+    ),
+    Smaller(
+        "no run for who ends an execution, and so does not wait", lambda parts: parts._replace(runs_woken=parts.runs_woken - 1), False
+    ),
+)
+
+
 class Measure:
     """How many steps of work are left at most if no call is readied again; and the cost, which each incarnation brings."""
 
-    def __init__(self, block: Block, workers: int, smaller: "Smaller | None" = None) -> None:
+    def __init__(self, block: Block, workers: int, smaller: Smaller | None = None) -> None:
         self.calls, self.reads, self.writes = len(block.calls), block.reads, block.writes
-        self.check = block.reads + 2  # an asking, the checks of a call's reads, and a decision
         self.run = block.reads + 2 * block.writes + 2  # the reads of a run, its record and its keys
-        self.runs_woken = workers  # by the end of an execution
-        self.runs_begun = 1
-        self.marks = block.writes + 1
-        if smaller:
-            smaller.change(self)
+        parts = Parts(block.reads + 2, workers, 1, block.writes + 1)
+        parts = smaller.change(parts) if smaller else parts
+        self.check = parts.check
         both_indices = self.check * self.calls + self.calls
-        executing = self.marks + both_indices + self.runs_woken * self.run
-        ready = executing + self.runs_begun * self.run
-        self.stages = {Status.READY: ready, Status.EXECUTING: executing, Status.EXECUTED: self.marks, Status.ABORTING: 0}
+        executing = parts.marks + both_indices + parts.runs_woken * self.run
+        ready = executing + parts.runs_begun * self.run
+        self.stages = {Status.READY: ready, Status.EXECUTING: executing, Status.EXECUTED: parts.marks, Status.ABORTING: 0}
         self.cost = ready + both_indices
 
     def of_task(self, task: Task, state: State) -> int:
@@ -58,55 +87,11 @@ class Measure:
         return self.left(state) - self.cost * incarnations(state)
 
     def most_work(self, state: State) -> int:
-        """The bound of the work up to a state."""
         return (self.calls + incarnations(state)) * self.cost
 
 
 def incarnations(state: State) -> int:
     return sum(call.incarnation for call in state.calls)
-
-
-@dataclass(frozen=True)
-class Smaller:
-    """A measure that has less of something: what becomes of it, and whether some block has to tell it from a right one."""
-
-    name: str
-    change: Callable[["Measure"], None]
-    has_to_fail: bool = True
-
-
-def without_runs_begun(measure: Measure) -> None:
-    """No run for a call that begins."""
-    measure.runs_begun = 0
-
-
-def with_half_checks(measure: Measure) -> None:
-    """Half of each check."""
-    measure.check //= 2
-
-
-def without_marks(measure: Measure) -> None:
-    """No marks."""
-    measure.marks = 0
-
-
-def without_two_runs(measure: Measure) -> None:
-    """Two runs fewer at the end of an execution."""
-    measure.runs_woken = max(measure.runs_woken - 2, 0)
-
-
-def without_one_run(measure: Measure) -> None:
-    """One run fewer at the end of an execution."""
-    measure.runs_woken -= 1
-
-
-SMALLER = (
-    Smaller("no run for a call that begins", without_runs_begun),
-    Smaller("half of each check", with_half_checks),
-    Smaller("no marks", without_marks),
-    Smaller("no run for who ends an execution, and for one who waits", without_two_runs),
-    Smaller("no run for who ends an execution, and so does not wait", without_one_run, has_to_fail=False),
-)
 
 
 @dataclass(frozen=True)

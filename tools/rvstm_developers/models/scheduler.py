@@ -20,8 +20,6 @@ Item = TypeVar("Item")
 
 
 class Status(enum.Enum):
-    """What a call is waiting for."""
-
     READY = enum.auto()
     EXECUTING = enum.auto()
     EXECUTED = enum.auto()
@@ -33,7 +31,6 @@ class LimitMet(Exception):
 
 
 def put(key: str, value: int | None) -> Run:
-    """Writes a value, or removes the key."""
     return {key: value}
     yield  # is not reached: it makes this a generator
 
@@ -44,7 +41,6 @@ def get(key: str) -> Run:
 
 
 def copy(source: str, target: str) -> Run:
-    """Writes to a key what another one has."""
     return {target: (yield source)}
 
 
@@ -139,7 +135,6 @@ def pause_of(run: Run, values: Sequence[Value]) -> Pause:
 
 
 def writes_in_order(block: Block) -> Iterator[Writes]:
-    """The writes of each call if the calls run one after another."""
     storage: dict[str, Value] = {}
     for index in range(len(block.calls)):
         answers: tuple[Answer, ...] = ()
@@ -165,8 +160,6 @@ class Call(NamedTuple):
 
 
 class Entry(NamedTuple):
-    """What a writer has at a key."""
-
     key: str
     writer: int
     incarnation: int | None
@@ -183,8 +176,6 @@ Versions = tuple[Entry, ...]
 
 @dataclass(frozen=True, slots=True)
 class Running:
-    """A run, and the call that blocks it, if one does."""
-
     call: int
     answers: tuple[Answer, ...] = ()
     blocked: int | None = None
@@ -211,14 +202,13 @@ class Validating:
 
 @dataclass(frozen=True, slots=True)
 class Marking:
-    """The keys of a run that have to become estimates."""
-
     call: int
     keys: tuple[str, ...]
 
 
 Task = Running | Moving | Validating | Marking | None
 """None if a worker has no task."""
+AnyTask = TypeVar("AnyTask", Running, Moving, Validating, Marking)
 
 
 class Counts(NamedTuple):
@@ -262,27 +252,10 @@ def with_task(worker: int, task: Task, state: State) -> State:
     return state._replace(tasks=replaced(state.tasks, worker, task))
 
 
-def running(state: State, worker: int) -> Running:
+def task_of(kind: type[AnyTask], state: State, worker: int) -> AnyTask:
+    """The task of a worker, which is of this kind."""
     task = state.tasks[worker]
-    assert isinstance(task, Running)
-    return task
-
-
-def moving(state: State, worker: int) -> Moving:
-    task = state.tasks[worker]
-    assert isinstance(task, Moving)
-    return task
-
-
-def validating(state: State, worker: int) -> Validating:
-    task = state.tasks[worker]
-    assert isinstance(task, Validating)
-    return task
-
-
-def marking_of(state: State, worker: int) -> Marking:
-    task = state.tasks[worker]
-    assert isinstance(task, Marking)
+    assert isinstance(task, kind)
     return task
 
 
@@ -326,7 +299,6 @@ def ask(block: Block, state: State, worker: int) -> State:
 
 
 def ask_validation(worker: int, state: State) -> State:
-    """The next validation, if its call is EXECUTED."""
     index = state.validation
     call = state.calls[index]
     state = state._replace(validation=index + 1)
@@ -336,7 +308,6 @@ def ask_validation(worker: int, state: State) -> State:
 
 
 def ask_execution(worker: int, state: State) -> State:
-    """The next execution, if its call is READY."""
     index = state.execution
     call = state.calls[index]
     is_ready = call.status == Status.READY
@@ -346,7 +317,7 @@ def ask_execution(worker: int, state: State) -> State:
 
 def read_key(block: Block, state: State, worker: int) -> State:
     """The run is given its answer, or it is blocked on the writer of an estimate."""
-    task = running(state, worker)
+    task = task_of(Running, state, worker)
     key = block.pause(task.call, task.answers).asked
     assert key is not None
     entry = reading(state.versions, key, task.call)
@@ -361,7 +332,7 @@ def read_key(block: Block, state: State, worker: int) -> State:
 
 def park(block: Block, state: State, worker: int) -> State:
     """The run starts again if the call that blocked it is EXECUTED by now; otherwise its call is parked on that call."""
-    task = running(state, worker)
+    task = task_of(Running, state, worker)
     call = state.calls[task.call]
     assert task.blocked is not None
     if call.incarnation >= INCARNATION_LIMIT:
@@ -373,7 +344,7 @@ def park(block: Block, state: State, worker: int) -> State:
 
 def record(block: Block, state: State, worker: int) -> State:
     """The run is kept, and its keys have to move: those that it wrote, and then those that only the run before it wrote."""
-    task = running(state, worker)
+    task = task_of(Running, state, worker)
     call = state.calls[task.call]
     writes = block.pause(task.call, task.answers).writes
     if state.record_count + len(writes) > RECORD_LIMIT:
@@ -394,7 +365,7 @@ def keys_of(writes: Writes) -> tuple[str, ...]:
 
 def move_key(block: Block, state: State, worker: int) -> State:
     """The next key is published or withdrawn."""
-    task = moving(state, worker)
+    task = task_of(Moving, state, worker)
     call, key = state.calls[task.call], task.keys[0]
     writes = dict(last_of(call).writes)
     entry = Entry(key, task.call, call.incarnation, writes[key]) if key in writes else None
@@ -405,7 +376,7 @@ def move_key(block: Block, state: State, worker: int) -> State:
 def finish_execution(block: Block, state: State, worker: int) -> State:
     """The call is EXECUTED, and the calls that are parked on it are readied. If its run wrote a new key, all calls from it on are
     validated again; otherwise it alone is, by this worker."""
-    task = moving(state, worker)
+    task = task_of(Moving, state, worker)
     index = task.call
     state = resume_dependents(index, with_call(index, state, state.calls[index]._replace(status=Status.EXECUTED)))
     if state.validation <= index:
@@ -424,18 +395,16 @@ def resume_dependents(index: int, state: State) -> State:
 
 
 def next_incarnation(call: Call) -> Call:
-    """A call that is readied."""
     return call._replace(status=Status.READY, incarnation=call.incarnation + 1, parked=None)
 
 
 def is_executed_at(incarnation: int, call: Call) -> bool:
-    """Whether a call has this run."""
     return call.status == Status.EXECUTED and call.incarnation == incarnation
 
 
 def check_read(block: Block, state: State, worker: int) -> State:
     """The task ends if the call has no such run any more; otherwise its next read is checked."""
-    task = validating(state, worker)
+    task = task_of(Validating, state, worker)
     call = state.calls[task.call]
     if not is_executed_at(task.incarnation, call):
         return with_task(worker, None, state)
@@ -448,7 +417,7 @@ def check_read(block: Block, state: State, worker: int) -> State:
 
 def decide(block: Block, state: State, worker: int) -> State:
     """The call is taken back if a read did not stand and the run is still its last one; otherwise the task ends."""
-    task = validating(state, worker)
+    task = task_of(Validating, state, worker)
     call = state.calls[task.call]
     if not (task.failed and is_executed_at(task.incarnation, call)):
         return with_task(worker, None, state)
@@ -457,8 +426,7 @@ def decide(block: Block, state: State, worker: int) -> State:
 
 
 def mark_estimate(block: Block, state: State, worker: int) -> State:
-    """The next key becomes an estimate."""
-    task = marking_of(state, worker)
+    task = task_of(Marking, state, worker)
     estimate = Entry(task.keys[0], task.call, None, None)
     state = state._replace(versions=changed(state.versions, estimate.key, task.call, estimate))
     return with_task(worker, Marking(task.call, task.keys[1:]), state)
@@ -466,7 +434,7 @@ def mark_estimate(block: Block, state: State, worker: int) -> State:
 
 def finish_abort(block: Block, state: State, worker: int) -> State:
     """The call is readied, and those above it are validated again. The worker runs it if the execution index is past it."""
-    index = marking_of(state, worker).call
+    index = task_of(Marking, state, worker).call
     state = state._replace(validation=min(state.validation, index + 1))
     call = next_incarnation(state.calls[index])
     state = with_call(index, state, call)

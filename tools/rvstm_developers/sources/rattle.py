@@ -43,7 +43,6 @@ def blank(text: str) -> str:
 
 
 def end_of_group(text: str, start: int) -> int:
-    """The place after the bracket that closes the one at a place."""
     depth = 0
     for place in range(start, len(text)):
         depth += (text[place] in OPEN) - (text[place] in CLOSE)
@@ -96,7 +95,6 @@ def tree(text: str) -> Group:
 
 
 def words(items: Sequence[Item]) -> str:
-    """Items as one line of text."""
     parts = []
     for item in items:
         if isinstance(item, Group):

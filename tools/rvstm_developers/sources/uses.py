@@ -119,7 +119,6 @@ class Uses:
                 self.words[item.text].append(Use(self.path, items, index, inner))
 
     def enter(self, group: Group, head: Sequence[Item], around: tuple[Around, ...], here: tuple[Around, ...]) -> None:
-        """Notes the words of a group that follows the items of `head`."""
         text = words(head)
         if group.kind == "{" and re.search(r"(?:^|[^.] )\bmatch [^{}]*$", text):
             self.arms(group.items, text.split("match ", 1)[1], (*here, *let_around(head)))
@@ -138,7 +137,6 @@ class Uses:
             self.walk(group.items, (*here, *around_of(group, head, text)))
 
     def arms(self, items: Sequence[Item], scrutinee: str, around: tuple[Around, ...]) -> None:
-        """Notes the words of the right sides of the arms of a `match`."""
         start = 0
         while start < len(items):
             arrow = next((index for index in range(start, len(items)) if is_token(items[index], "=>")), None)
@@ -152,7 +150,6 @@ class Uses:
             start = end + 1 if end < len(items) and is_token(items[end], ",") else end
 
     def note_function(self, items: Sequence[Item], index: int, around: tuple[Around, ...]) -> None:
-        """Notes a function whose `fn` is at an index."""
         name_item = items[index + 1]
         place = next((at for at in range(index, len(items)) if is_group(items[at], "(")), None)
         if place is None or isinstance(name_item, Group):
@@ -227,7 +224,6 @@ def let_around(head: Sequence[Item]) -> list[Around]:
 
 
 def around_after_loop(text: str, group: Group) -> list[Around]:
-    """What a loop says of what follows it."""
     if ENDLESS.search(text):
         return [Around(How.ENDLESS, "all numbers of 64 bits")]
     return [Around(How.AFTER, words(group.items))] if re.search(r"\bfor .* in ", text) else []
@@ -246,12 +242,10 @@ def is_pattern(items: Sequence[Item]) -> bool:
 
 
 def in_generics(head: Sequence[Item]) -> bool:
-    """Whether a comma after these items is one between types."""
     return sum(is_token(item, "<") for item in head) > sum(is_token(item, ">") for item in head)
 
 
 def is_import(head: Sequence[Item], around: Sequence[Around]) -> bool:
-    """Whether a word is one of a `use`."""
     texts = [words(head), *(one.text for one in around if one.how is How.BLOCK)]
     return any(re.match(r"(?:pub (?:\(crate\) )?)?use ", text) for text in texts)
 
@@ -273,7 +267,6 @@ def ends_statement(items: Sequence[Item], index: int) -> bool:
 
 
 def end_of_arm(items: Sequence[Item], start: int) -> int:
-    """The place after the right side of an arm."""
     if is_group(items[start], "{"):
         return start + 1
     return next((index for index in range(start, len(items)) if is_token(items[index], ",")), len(items))

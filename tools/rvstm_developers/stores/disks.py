@@ -29,7 +29,6 @@ class Step(NamedTuple):
 
 
 def steps_of(path: Path) -> list[Step]:
-    """The steps of a list that store_recorder.c writes."""
     text, place, steps = path.read_bytes() if path.exists() else b"", 0, []
     while place < len(text):
         what, whose, first, length = ENTRY.unpack_from(text, place)
@@ -78,7 +77,6 @@ def write(content: bytearray, place: int, data: bytes) -> None:
 
 
 def change(choice: Random, content: bytearray, step: Step, way: Way) -> None:
-    """Makes a change, or the part of it that is left."""
     if step.what == TRUNCATED:
         if way(choice, b"", TRUNCATED):
             content.extend(bytes(max(step.place - len(content), 0)))
@@ -134,7 +132,6 @@ class Disk:
         return Both(*(content or choice.choice((None, b"")) for content in parts))
 
     def images(self, choice: Random) -> Iterator[Both]:
-        """Some images of a cut here."""
         yield self.image(choice, all_of)
         number = max(len(changes) for changes in self.changes.values())
         if number:

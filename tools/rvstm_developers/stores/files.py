@@ -68,8 +68,6 @@ class Rows:
 
 @dataclass(frozen=True)
 class Read:
-    """What stock SQLite reads in a file, and what its integrity check says."""
-
     rows: Rows
     check: str
 
@@ -119,7 +117,6 @@ def answers_of(text: bytes) -> Written:
 
 class Asked(Session):
     def need(self, request: Request) -> Answer:
-        """The answer of a session that does not die."""
         answer = self.ask(request)
         if answer is None:
             raise UserError(f"a session does not answer {request.text()[:60]!r}: {self.end().said()}")
@@ -129,7 +126,6 @@ class Asked(Session):
         return [self.need(question) for question in QUESTIONS]
 
     def held(self) -> bytes:
-        """The same as one text."""
         return b"".join(answer.text() for answer in self.asked())
 
 
@@ -160,12 +156,10 @@ def put(path: Path, both: Both) -> None:
 
 
 def kept(prefix: str, path: Path) -> Path:
-    """A new folder that stays, with copies of a file and its log."""
     return texts.kept_folder(prefix, [place for place in (path, log_of(path)) if place.is_file()])
 
 
 def copied(path: Path, folder: Path) -> Path:
-    """A copy of a file and its log in a folder."""
     copy = folder / "copy"
     put(copy, contents(path))
     Path(f"{copy}-shm").unlink(missing_ok=True)
@@ -196,7 +190,6 @@ class Statement(NamedTuple):
 
 
 def changed(path: Path, *statements: Statement) -> None:
-    """Changes a file with stock SQLite."""
     base = sqlite3.connect(path)
     for text, values in statements:
         base.execute(text, values)
@@ -248,7 +241,6 @@ def first_requests(choice: Random) -> list[Request]:
 
 
 def great_begin(choice: Random) -> Request:
-    """A `begin` of many keys, in a session that keeps a digest."""
     store = {Key(choice.randbytes(32)): choice.randbytes(choice.choice((8, 40, 64))) for _ in range(MANY_KEYS)}
     return requests.begin(7, b"\x55" * 32, frames.dump_of(1, store))
 

@@ -18,7 +18,6 @@ def add_options(parser: argparse.ArgumentParser) -> None:
 
 
 def build(checkout: Checkout, name: str) -> None:
-    """Proves and builds the program, if that is not done yet."""
     crates, made = checkout.crates_of("rvstm"), checkout.top / finding.BUILT
     sources = checkout.sum_of_sources(crates)
     if checkouts.is_built(made, sources):

@@ -63,7 +63,6 @@ def words_of_tools() -> str:
 
 
 def make_files(folder: Path, files: dict[str, str]) -> None:
-    """Makes the folder and its files, and prints their names."""
     folder.mkdir(parents=True, exist_ok=True)
     if any(folder.iterdir()):
         raise UserError(f"{folder}: it is there, and is not empty")
@@ -75,7 +74,6 @@ def make_files(folder: Path, files: dict[str, str]) -> None:
 
 
 def build(folder: Path, name: str) -> None:
-    """Builds the contract, without its lines and with them."""
     words = ["make", "-s", f"{name}.elf", f"{name}.lines.elf"]
     environment = {key: value for key, value in os.environ.items() if key not in ("MAKEFLAGS", "MAKELEVEL")}
     done = subprocess.run(words, cwd=folder, env=environment, stdin=subprocess.DEVNULL, stdout=subprocess.DEVNULL, check=False)

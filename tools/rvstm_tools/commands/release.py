@@ -117,7 +117,6 @@ class Release:
         return packing.deb_of(fields, package.control, placed, self.seconds)
 
     def archive(self, folder: str) -> bytes:
-        """The bytes of the archive, which may be unpacked anywhere."""
         entries = self.parts.program() | self.parts.library("${pcfiledir}/../..", "lib") | self.parts.sdk()
         for package in parts.PAGES:
             entries |= self.parts.pages(package, is_packed=False) | self.notes(package)

@@ -37,7 +37,6 @@ def length(word: str) -> int:
 
 
 def number_in(word: str, least: int, most: int) -> int:
-    """A number of the command line, within bounds."""
     number = numbers.at_most(word, most) if numbers.is_decimal(word) else None
     if number is None or number < least:
         raise argparse.ArgumentTypeError(f"{word}: it is a number of {least} to {most}")
@@ -66,8 +65,6 @@ def run(given: argparse.Namespace) -> int:
 
 
 def continuation(runner: Runner, block: str, workers: int, begun: str) -> Sequence[int]:
-    """What must follow a list of a block."""
-
     def refusal(added: Sequence[int]) -> str:
         with running.temporary_file(begun + schedules.text_of(added), ".schedule") as path:
             words = ["drive", block, "--workers", str(workers), "--schedule", path]

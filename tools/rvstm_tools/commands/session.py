@@ -59,7 +59,6 @@ def list_of(word: str) -> Asked:
 
 
 def frame_of(path: Path) -> Asked:
-    """What a LIST asks for."""
     return Asked(f"frame {path}", lambda client: client.run(Word.FRAME, path))
 
 
@@ -114,7 +113,6 @@ def add_options(parser: argparse.ArgumentParser) -> None:
 
 
 def settings_of(given: argparse.Namespace) -> Settings:
-    """The settings of the session. It keeps a digest."""
     return Settings(given.frame_limit, given.frame_gas, True, given.brief, given.workers, given.store)
 
 
@@ -134,7 +132,6 @@ def run(given: argparse.Namespace) -> int:
 
 
 def answer_all(client: Client, given: argparse.Namespace) -> int:
-    """Runs what the command line asks for. Returns the status."""
     if not (given.lists or given.asked or given.replay):
         return answer_typed(client)
     if given.replay:

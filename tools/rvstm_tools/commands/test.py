@@ -77,7 +77,6 @@ class Options:
 
 
 def percent(word: str) -> float:
-    """A number of percent, which may have a fraction."""
     try:
         number = float(word)
     except ValueError:
@@ -139,7 +138,6 @@ def run(given: argparse.Namespace) -> int:
 
 
 def ended(options: Options, tried: Sequence[Tried], table: GasTable | None, rows: Gas) -> Status:
-    """Prints and writes what all tests are needed for."""
     sums = reports.sums_of(tried)
     notes = list(testers.updated(tried)) if options.is_update else []
     differences: list[GasDifference] = []

@@ -33,7 +33,6 @@ def add_options(parser: argparse.ArgumentParser) -> None:
 
 
 def build(products: Products, product: Product, is_asked: bool) -> None:
-    """Proves and builds a product, after the user agreed if he is asked."""
     if not shutil.which("rt"):
         raise UserError(f"{product.value} is not built here, and there is no rt, which proves it: compare with --sums")
     proving.tell(f"{product.value} is proved and built first; {COST}")

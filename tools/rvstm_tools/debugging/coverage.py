@@ -61,7 +61,6 @@ class Steps:
         self.total = 0
 
     def add(self, call: CallOf) -> None:
-        """Replays a call."""
         with Debugger(call) as session:
             total = session.run_to_end()
         self.total += total
@@ -76,7 +75,6 @@ class Steps:
                 branch = AtBranch(address, mnemonic) if mnemonic in BRANCHES else None
 
     def ways(self, branch: AtBranch) -> Ways:
-        """How often a branch went each way."""
         taken, passed = self.taken[branch], self.passed[branch]
         return Ways(taken, passed) if BRANCHES[branch.mnemonic].is_taken_if_true else Ways(passed, taken)
 
@@ -95,7 +93,6 @@ class SourceFile:
     branches: dict[BranchOfSource, Ways] = field(default_factory=dict)
 
     def add_branch(self, branch: BranchOfSource, ways: Ways) -> None:
-        """Adds what a copy of a branch did."""
         before = self.branches.get(branch, Ways(0, 0))
         self.branches[branch] = Ways(before.true + ways.true, before.false + ways.false)
 
@@ -107,7 +104,6 @@ class SourceFile:
         return {line for line, count in self.lines.items() if count}
 
     def ways_taken(self) -> int:
-        """How many ways of branches were taken."""
         return sum(bool(count) for ways in self.branches.values() for count in ways.both())
 
     def one_way(self) -> set[int]:
@@ -131,7 +127,6 @@ Copy = tuple[InChain, ...]
 
 
 def lines_program(path: str, tool: str | None) -> ElfFile:
-    """The program with the lines of its source that is beside a program."""
     beside = sources.lines_file_of(path)
     try:
         file = ElfFile(beside)
@@ -145,7 +140,6 @@ def lines_program(path: str, tool: str | None) -> ElfFile:
 
 
 def add_program(covered: Covered, path: str, steps: Steps) -> None:
-    """Adds what calls of a program ran to its source files."""
     tool = sources.address_tool()
     file = lines_program(path, tool)
     words = file.words()
@@ -175,7 +169,6 @@ def share(part: int, whole: int) -> str:
 
 
 def rows_of(numbers: Iterable[int]) -> list[str]:
-    """Numbers, and spans of them, in rows."""
     rows = [""]
     for word in spans_of(sorted(numbers)):
         if len(rows[-1]) + len(word) > LONGEST_ROW:
@@ -201,7 +194,6 @@ def source_lines(path: str, source: SourceFile) -> Iterator[str]:
 
 
 def lcov_lines(path: str, source: SourceFile) -> Iterator[str]:
-    """What ran of a source file, in the format of lcov."""
     yield "TN:"
     yield f"SF:{path}"
     number, last = 0, None

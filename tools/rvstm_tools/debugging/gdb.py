@@ -29,7 +29,6 @@ class Signal(enum.IntEnum):
 
     @property
     def packet(self) -> str:
-        """How the packet of a stop by it begins."""
         return f"T{self.value:02x}"
 
 
@@ -51,7 +50,6 @@ MOST_DIGITS = 16  # of a number in a packet
 
 
 def description() -> str:
-    """The registers of the machine, for gdb."""
     registers = [f'<reg name="{name}" bitsize="32" type="{TYPES.get(name, "int")}"/>' for name in NAMES]
     registers.append('<reg name="pc" bitsize="32" type="code_ptr"/>')
     # Without an ABI gdb takes a file that has no notes for one of Linux.
@@ -68,7 +66,6 @@ class WrongPacketError(Exception):
 
 
 def number_of(word: str) -> int:
-    """A number of a packet, in hex."""
     try:
         return int(word, 16) if len(word) <= MOST_DIGITS and "_" not in word else -1
     except ValueError as error:
@@ -76,8 +73,6 @@ def number_of(word: str) -> int:
 
 
 class Numbers(NamedTuple):
-    """The two numbers of a packet or an action."""
-
     first: int
     second: int
 
@@ -92,15 +87,11 @@ def numbers_of(text: str) -> Numbers:
 
 
 class Breakpoint(NamedTuple):
-    """A breakpoint: its kind, `0` or `1`, and its address."""
-
     kind: str
     address: int
 
 
 class Server:
-    """Answers the packets of gdb for a call."""
-
     def __init__(self, wire: Wire, open_call: Callable[[Callable[[], None]], Call]) -> None:
         """`open_call` opens the call. It is handed what has to be asked often, and stops a move."""
         self.wire = wire
@@ -129,7 +120,6 @@ class Server:
             self.opened.close()
 
     def serve(self) -> None:
-        """Answers packets until gdb leaves."""
         while (packet := self.wire.packet()) is not None:
             if packet.startswith(("k", "vKill", "D")):
                 if packet[0] != "k":
@@ -153,7 +143,6 @@ class Server:
             return ERROR
 
     def refuse(self, _: str) -> str:
-        """The answer to a packet that would change something."""
         return REFUSAL
 
     def query(self, packet: str) -> str:
@@ -167,7 +156,6 @@ class Server:
         return QUERIES.get(name, "")
 
     def command(self, words: Sequence[str]) -> str:
-        """The answer to a line after `monitor`."""
         match words:
             case ["go", moment] if moment.isascii() and moment.isdigit() and len(moment) <= MOST_DIGITS:
                 self.call.now = min(int(moment), self.call.last)
@@ -181,7 +169,6 @@ class Server:
         return COMMANDS
 
     def verbose(self, packet: str) -> str:
-        """The answer to a packet with a name."""
         if packet == "vCont?":
             return "vCont;c;C;s;S;r"
         if not packet.startswith("vCont;"):
@@ -216,7 +203,6 @@ class Server:
     # ---- breakpoints
 
     def insert(self, packet: str) -> str:
-        """Sets a breakpoint, or a watchpoint for changes."""
         address, length = numbers_of(packet[2:])
         kind = packet[1:2]
         if kind in ("0", "1"):
@@ -269,18 +255,15 @@ class Server:
         return self.stop_for(self.call.step(list(self.watches.values())), self.at_end)
 
     def go_on(self, _: str) -> str:
-        """Goes on to what stops it, or to the end."""
         return self.stop_for(self.call.go_on(self.searches()), self.at_end)
 
     def backward(self, packet: str) -> str:
-        """Goes back a step, or to what stops it."""
         if packet == "bs":
             return self.stop_for(self.call.step_back(list(self.watches.values())), self.at_start)
         return self.stop_for(self.call.go_back(self.searches()), self.at_start) if packet == "bc" else ""
 
 
 def words_of_hex(text: str) -> list[str]:
-    """The command and its argument, by their bytes in hex."""
     try:
         return bytes.fromhex(text).decode(errors="replace").strip().split(None, 1)
     except ValueError as error:

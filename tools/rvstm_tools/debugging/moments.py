@@ -42,7 +42,6 @@ REACH = Reach()
 
 
 def is_watchable(start: int, length: int) -> bool:
-    """Whether some bytes are in memory, and one line of `debug` accepts them."""
     return 0 < length <= MOST_BYTES and FIRST_ADDRESS <= start <= END_ADDRESS - length
 
 
@@ -59,7 +58,6 @@ class AnyMoment(Debugger):
         self.take(self.answer_bytes("w"))
 
     def take(self, answer: bytes) -> None:
-        """Takes over the place that an answer says."""
         self.moment, self.pc, _ = place_of(answer)
 
     def go(self, moment: int) -> None:
@@ -85,7 +83,6 @@ class Search:
         self.begin(0)
 
     def begin(self, moment: int) -> None:
-        """Forgets all, and looks from a moment on."""
         if self.place:
             self.take(self.place)
         self.first = self.end = moment  # all from the first one to the end are known
@@ -159,8 +156,6 @@ class Search:
 
 
 class Hits(Search):
-    """The moments at which the pc is an address."""
-
     def __init__(self, call: "Call", address: int) -> None:
         super().__init__(call, f"g {address:08x}")
         self.address = address
@@ -180,7 +175,6 @@ class Changes(Search):
         self.start = start
 
     def back(self, moment: int) -> int:
-        """The moment before the last change."""
         return self.before(moment + 1) - 1
 
 
@@ -218,7 +212,6 @@ class EndOfCall:
 
 
 def end_of(answer: str) -> EndOfCall:
-    """How a call ends, by the answer to `e`."""
     try:
         _, end, output, gas, steps = answer.split(" ")
         return EndOfCall(End(end), bytes.fromhex(output.replace("-", "")), int(gas), int(steps))
@@ -227,8 +220,6 @@ def end_of(answer: str) -> EndOfCall:
 
 
 class Call:
-    """The replay of a call, and the moment that is looked at."""
-
     def __init__(self, subject: CallOf, view: View, hear: Callable[[], None]) -> None:
         """`hear` is asked often, and raises `InterruptedMove` if the user asks to stop."""
         self.subject = subject
@@ -284,7 +275,6 @@ class Call:
         return self.hits[address]
 
     def changes_of(self, watched: Watched) -> Changes:
-        """The moments at which some bytes of memory have changed."""
         if watched not in self.changes:
             self.changes[watched] = Changes(self, *watched)
         return self.changes[watched]

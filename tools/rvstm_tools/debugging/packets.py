@@ -36,7 +36,6 @@ class Wire:
         """When the last interrupt came that did not stop a move yet."""
 
     def read(self) -> None:
-        """Waits for more bytes, or for the end."""
         part = os.read(self.ends.input, PART)
         self.is_open = bool(part)
         self.data += part

@@ -26,8 +26,6 @@ OUTPUTS = (StorageCall.RETURN, StorageCall.REVERT)
 
 
 class Turn(enum.Enum):
-    """What an instruction does to the functions that a call is in."""
-
     PLAIN = enum.auto()
     CALL = enum.auto()
     RETURN = enum.auto()
@@ -54,7 +52,6 @@ class Frame:
         self.counts = defaultdict[int, int](int)
 
     def callee(self, call_pc: int) -> "Frame":
-        """The frame of what is called from an address."""
         if call_pc not in self.callees:
             self.callees[call_pc] = Frame(self, call_pc)
         return self.callees[call_pc]
@@ -93,14 +90,12 @@ class StorageStep:
     """What is in a0 after a READ; None if the call ended before."""
 
     def is_known(self) -> bool:
-        """Whether the machine has a storage call of this number."""
         return self.number < len(charges.NAMES)
 
     def name(self) -> str:
         return charges.NAMES[self.number] if self.is_known() else f"ECALL {self.number}"
 
     def text(self, view: View) -> str:
-        """Its name, what it is given, and what it answers."""
         return f"{self.name()} {self._words(view)}".rstrip()
 
     def _words(self, view: View) -> str:
@@ -132,7 +127,6 @@ def shown_data(data: bytes | None) -> str:
 
 
 def asked(session: Debugger, moment: int, pc: int) -> StorageStep:
-    """The storage call at which a session is, before it is answered."""
     registers = session.registers()
     number, a0, a1, a2 = registers[A7], registers[A0], registers[A1], registers[A2]
     is_output = number in OUTPUTS
@@ -158,7 +152,6 @@ class Progress:
         self.next = time.monotonic() + SECONDS_BETWEEN_REPORTS
 
     def report(self, done: int) -> None:
-        """Reports after so many steps, if it is time to."""
         if time.monotonic() >= self.next:
             print(f"trace: {done:,} steps are done, {self.total - done:,} are left", file=sys.stderr, flush=True)
             self.next = time.monotonic() + SECONDS_BETWEEN_REPORTS
@@ -174,8 +167,6 @@ class Fact(NamedTuple):
 
 
 class Replay:
-    """What a call does from its first step to its last."""
-
     def __init__(self, call: CallOf, rules: int) -> None:
         self.rules = rules
         self.gas = 0
@@ -223,7 +214,6 @@ class Replay:
         return last
 
     def _fact_of(self, line: bytes) -> Fact:
-        """What is known of the instruction of a line."""
         _, pc, text = line.split(b" ", 2)
         fact = self.facts.get(pc)
         if fact is None:
@@ -242,7 +232,6 @@ class Replay:
         return call
 
     def _take_storage_call(self, places: Debugger, moment: int, pc: int, frame: Frame) -> None:
-        """Takes over a storage call with its answer, and adds its gas."""
         call = self._asked(places, moment, pc, frame)
         if call.number == StorageCall.READ:
             take_answer(places, call)

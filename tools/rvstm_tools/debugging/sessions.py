@@ -26,7 +26,6 @@ class CallOf:
     folder: Path = Path()
 
     def words(self, *options: str) -> list[str | Path]:
-        """The words of a command line that replays the call."""
         return [self.program, "debug", self.file, "--call", str(self.number), *options]
 
 
@@ -46,8 +45,6 @@ def place_of(answer: bytes) -> Place:
 
 
 class Debugger(Pipes):
-    """A session of `rvstm debug` at a call."""
-
     def __init__(self, call: CallOf, *options: str) -> None:
         super().__init__(call.words(*options), folder=call.folder)
 
@@ -64,7 +61,6 @@ class Debugger(Pipes):
             raise UserError(self.wait().said() or "rvstm debug ended before it answered")
 
     def answers(self, line: str, count: int) -> Iterator[bytes]:
-        """The answers to a line that is given so many times."""
         for first in range(0, count, LINES_AT_ONCE):
             part = min(LINES_AT_ONCE, count - first)
             self.say(f"{line}\n" * part)

@@ -33,12 +33,10 @@ Chains = dict[int, list[Inlined]]
 
 
 def address_tool() -> str | None:
-    """The path of a program that finds the lines of addresses."""
     return next(filter(None, map(shutil.which, ADDRESS_TOOLS)), None)
 
 
 def lines_file_of(path: str) -> str:
-    """The path of the program with lines that is beside a program."""
     return f"{path.removesuffix('.elf')}.lines.elf"
 
 

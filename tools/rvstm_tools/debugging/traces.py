@@ -19,8 +19,6 @@ OUTPUT_ENDS = (End.RETURNED, End.REVERTED)
 
 
 class Places:
-    """The functions and lines of the addresses of a program."""
-
     def __init__(self, path: str, lines: str | None, addresses: Sequence[int]) -> None:
         """Reads them from `lines`, or from the program with lines beside the program, or from the program."""
         beside = sources.lines_file_of(path)
@@ -75,7 +73,6 @@ def bars_of(replay: Replay, places: Places, title: str) -> Bar:
 
 
 def chain_text(chain: Sequence[Inlined]) -> str:
-    """Functions and lines; of many the first and the last ones."""
     words = [f"{inlined.function} {sources.short_place(inlined.line)}".rstrip() for inlined in chain]
     left_out = len(words) - MOST_OUTER - MOST_INNER
     if left_out > 0:
@@ -84,7 +81,6 @@ def chain_text(chain: Sequence[Inlined]) -> str:
 
 
 def storage_lines(replay: Replay, places: Places, receipt: Receipt, view: View) -> Iterator[str]:
-    """The storage calls, each with the functions that it is in."""
     if not replay.storage_calls:
         yield "no storage calls"
         return

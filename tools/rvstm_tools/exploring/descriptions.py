@@ -27,8 +27,6 @@ OF_RULES = ("always", "returned", "reverted", "holds")
 
 @dataclass(frozen=True)
 class Method:
-    """A line `method`: its number, and the name of the model's method."""
-
     line: int
     name: str
 
@@ -51,7 +49,6 @@ class Kind:
     """What a model is asked for."""
 
     def words_with(self, values: Mapping[str, Value]) -> list[str]:
-        """The words of the input with these values in their places."""
         return [word.format_map(values) for word in self.words]
 
     def data(self, values: Mapping[str, Value]) -> bytes:
@@ -162,7 +159,6 @@ class Description:
         self.lets[name] = Rule("let", number, text, code)
 
     def _known(self) -> frozenset[str]:
-        """The names that all expressions may have."""
         return OF_STORAGE | set(self.lets) | ({MODEL} if self.model else set())
 
     def _code_of(self, text: str, known: frozenset[str]) -> CodeType:

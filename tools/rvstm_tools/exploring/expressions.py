@@ -29,7 +29,6 @@ class Loaded(NamedTuple):
 
 
 def loaded_names(tree: ast.AST) -> Iterator[Loaded]:
-    """The names that an expression has from outside."""
     nodes = list(ast.walk(tree))
     bound = {node.arg for node in nodes if isinstance(node, ast.arg)}
     bound |= {node.id for node in nodes if isinstance(node, ast.Name) and isinstance(node.ctx, ast.Store)}
@@ -56,7 +55,6 @@ def code_of(text: str, path: str, known: Mapping[str, Iterable[str]]) -> CodeTyp
 
 
 def new_name(name: str) -> str:
-    """A name that a description may give."""
     if not name.isidentifier() or keyword.iskeyword(name):
         raise UserError(f"{name}: a name has letters, digits and _, and is not a word of Python")
     if name in OF_STORAGE | OF_CALLS | {MODEL}:
@@ -74,7 +72,6 @@ class Rule:
     code: CodeType
 
     def said(self) -> str:
-        """The line, as it is reported."""
         return f"line {self.line}: {self.when} {self.text}"
 
 

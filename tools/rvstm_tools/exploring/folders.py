@@ -15,8 +15,6 @@ STATE, LIST = "explored.json", "found.list"
 
 @dataclass(frozen=True)
 class State:
-    """What a run leaves for the next one."""
-
     description: str
     """The SHA-256 of its text."""
     programs: str
@@ -30,7 +28,6 @@ class State:
 
 
 def digest_of(*parts: bytes) -> str:
-    """The SHA-256 of some bytes, part by part."""
     return hashlib.sha256(b"".join(hashlib.sha256(part).digest() for part in parts)).hexdigest()
 
 

@@ -72,7 +72,6 @@ def list_lines(description: Description, view: View, finding: Finding, limits: L
 
 
 def count_lines(description: Description, search: Search) -> Iterator[str]:
-    """How many calls were made, and how they ended."""
     made = f"{search.calls:,} calls in {search.seconds:.1f} s, {search.speed():,.0f} a second"
     yield f"{description.path}: {made}, seed {search.limits.seed}"
     for kind in description.kinds:

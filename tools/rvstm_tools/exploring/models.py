@@ -95,8 +95,6 @@ class ModelClass:
 
 
 class Model:
-    """A model of one sequence."""
-
     def __init__(self, of: ModelClass, state: object) -> None:
         self.of = of
         self.state = state
@@ -138,7 +136,6 @@ class Model:
 
 
 def is_met(answer: object, end: End, output: bytes) -> bool:
-    """Whether a call that returned or reverted answered as a model says."""
     if isinstance(answer, str):
         return end is End.REVERTED and answer.encode() in (b"", output)
     if end is not End.RETURNED:

@@ -39,8 +39,6 @@ class Span(NamedTuple):
 
 @dataclass(frozen=True)
 class Words:
-    """A place for one of some words."""
-
     words: tuple[str, ...]
 
     def drawn(self, random: Random, _: Sequence[int]) -> Value:
@@ -55,8 +53,6 @@ class Words:
 
 @dataclass(frozen=True)
 class Numbers:
-    """A place for a number of some ranges."""
-
     spans: tuple[Span, ...]
 
     def has(self, number: int) -> bool:
@@ -75,7 +71,6 @@ class Numbers:
         return first + random.randrange(last - first + 1)
 
     def samples(self) -> list[Value]:
-        """The ends of the ranges."""
         return [end for span in self.spans for end in span]
 
     def simpler(self, value: Value) -> list[Value]:
@@ -88,8 +83,6 @@ class Numbers:
 
 @dataclass(frozen=True)
 class AnyBytes:
-    """A place for bytes, as many as a range says."""
-
     lengths: Span
 
     def drawn(self, random: Random, _: Sequence[int]) -> Value:
@@ -97,11 +90,9 @@ class AnyBytes:
         return DrawnBytes(random.randrange(256) for _ in range(length))
 
     def samples(self) -> list[Value]:
-        """The shortest and the longest zeros."""
         return [DrawnBytes(self.lengths.first), DrawnBytes(self.lengths.last)]
 
     def simpler(self, value: Value) -> list[Value]:
-        """Shorter bytes, and bytes with more zeros."""
         assert isinstance(value, DrawnBytes)
         spare = len(value) - self.lengths.first
         shorter = [value[: len(value) - (spare >> shift)] for shift in range(len(value).bit_length() + 1)]
@@ -113,7 +104,6 @@ Place = Words | Numbers | AnyBytes
 
 
 def span_of(found: re.Match[str], most: int) -> Span:
-    """The numbers of a word FIRST..LAST, or N."""
     ends = [numbers.at_most(digits, most) for digits in (found[1], found[2] or found[1])]
     first, last = ends
     if first is None or last is None:

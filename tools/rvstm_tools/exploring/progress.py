@@ -50,7 +50,6 @@ class Progress:
             print(CLEAR, end="", file=self.output, flush=True)
 
     def _is_due(self) -> bool:
-        """Whether it is time to write the line again."""
         return self.is_shown and time.monotonic() - self.last >= EACH
 
     def _say(self, text: str) -> None:

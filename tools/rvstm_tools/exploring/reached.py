@@ -58,7 +58,6 @@ class Sampler:
 
     @classmethod
     def of_nothing(cls) -> "Sampler":
-        """One that takes nothing."""
         return cls(None)
 
     def see(self, call: Call, outcome: Receipt) -> None:
@@ -74,7 +73,6 @@ class Sampler:
         self.samples.append(Sample(way, call.kind.program, call.kind.gas, call.kind.data(call.values), storage))
 
     def taken(self) -> list[Sample]:
-        """The samples since it was asked before."""
         samples, self.samples = self.samples, []
         return samples
 
@@ -93,7 +91,6 @@ class Reached:
         self.thread.start()
 
     def add(self, samples: Iterable[Sample]) -> None:
-        """Adds samples to those that are replayed."""
         for sample in samples:
             if sample.way not in self.ways:
                 self.ways.add(sample.way)

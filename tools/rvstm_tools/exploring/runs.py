@@ -31,7 +31,6 @@ class Call:
     values: dict[str, Value]
 
     def words(self) -> str:
-        """Its line in a list."""
         return " ".join(["call", self.kind.program, str(self.kind.gas), *filter(None, self.kind.words_with(self.values))])
 
 
@@ -45,7 +44,6 @@ class Broken:
     changes: Sequence[str]
 
     def is_as(self, other: "Broken | None") -> bool:
-        """Whether another one breaks the same rule."""
         return other is not None and self.rule == other.rule
 
 
@@ -67,14 +65,11 @@ class Finding:
 
 
 def drawn_call(random: Random, kinds: Sequence[Kind], seen: Sequence[int]) -> Call:
-    """A random call of one of some kinds."""
     kind = kinds[random.randrange(len(kinds))]
     return Call(kind, {name: place.drawn(random, seen) for name, place in kind.places.items()})
 
 
 class Run:
-    """A session in which sequences run, one after another."""
-
     def __init__(self, rvstm: Path, description: Description) -> None:
         self.rvstm = rvstm
         self.description = description
@@ -173,7 +168,6 @@ class Run:
         return self.finding_at(calls, broken) if broken else None
 
     def finding_at(self, calls: Sequence[Call], broken: Broken) -> Finding:
-        """What the calls of this sequence break."""
         return Finding(list(calls[: broken.at + 1]), self.outcomes[: broken.at + 1], broken)
 
     def _line_of(self, call: Call) -> str:
@@ -190,7 +184,6 @@ class Run:
         return None
 
     def _keep_lets(self) -> None:
-        """Keeps what the lines `let` are for `before`."""
         self.before.__dict__.update({name: self.names[name] for name in self.description.lets})
 
     def _after(self, call: Call, outcome: Receipt) -> Broken | None:
@@ -217,7 +210,6 @@ class Run:
         return self._first_broken(self.description.always + rules) or self._broken_invariant()
 
     def _other_answer(self, call: Call, outcome: Receipt) -> Broken | None:
-        """What a call answered in place of what the model's method says."""
         method = call.kind.method
         if not self.model or not method or outcome.end not in ENDS_WITH_OUTPUT:
             return None
@@ -227,12 +219,10 @@ class Run:
         return Broken(self.done, f"line {method.line}", f"line {method.line}: method {method.name}: {difference}", self._changes())
 
     def _broken_invariant(self) -> Broken | None:
-        """What does not hold of model and storage."""
         text = self.model.broken_invariant(self.view) if self.model else None
         return Broken(self.done, "the invariant", text, self._changes()) if text else None
 
     def _see(self, values: Iterable[bytes]) -> None:
-        """Keeps numbers to draw from."""
         self.seen.extend(storages.number_of(data) for data in values if len(data) in words.NUMBER_SIZES)
 
     def _first_broken(self, rules: Iterable[Rule]) -> Broken | None:

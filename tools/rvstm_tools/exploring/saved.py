@@ -12,8 +12,6 @@ from rvstm_tools.texts import numbers, words
 
 @dataclass(frozen=True)
 class SavedCall:
-    """A call: the line of its kind, and the words in its places."""
-
     line: int
     values: dict[str, str]
 

@@ -48,7 +48,6 @@ class Limits:
         return math.ceil(self.calls / self.length)
 
     def place_of(self, sequence: int, at: int) -> int:
-        """The number of a call among all calls."""
         return (sequence - self.first) * self.length + at + 1
 
 
@@ -80,8 +79,6 @@ class Refused:
 
 
 class Sequence:
-    """A sequence that is drawn, run and checked, part by part."""
-
     def __init__(self, run: Run, limits: Limits, number: int) -> None:
         self.run = run
         self.number = number
@@ -241,7 +238,6 @@ class Search:
             self.found = made.found
 
     def _merge(self, end: int) -> None:
-        """Counts the calls of the sequences below a number."""
         for number in [number for number in self._waiting if number < end]:
             made = self._waiting.pop(number)
             self.calls += made.calls

@@ -167,7 +167,6 @@ class Shorter:
         return False
 
     def lower_together(self) -> bool:
-        """Whether two numbers could be lowered by the same amount."""
         if len(self.calls) > MOST_FOR_TWO_NUMBERS:
             return False
         kinds = [call.kind.places for call in self.calls]
@@ -194,5 +193,4 @@ def with_value(calls: Sequence[Call], at: int, name: str, value: Value) -> list[
 
 
 def renamed(call: Call, place: Place, old: Value, new: Value) -> dict[str, Value]:
-    """The values of a call, with another word of a place."""
     return {name: new if value == old and call.kind.places[name] is place else value for name, value in call.values.items()}

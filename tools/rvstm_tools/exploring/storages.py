@@ -88,7 +88,6 @@ class StorageByReceipts:
                 data[key] = new
 
     def keys(self) -> list[Key]:
-        """All keys, ascending."""
         return sorted(self.data)
 
     def value(self, key: str | bytes) -> bytes | None:
@@ -103,11 +102,9 @@ class StorageByReceipts:
         return SimpleNamespace(**self.readers_of(self.value), keys=self.keys)
 
     def before(self) -> Names:
-        """What expressions call to read it as it was before the last call."""
         return self.readers_of(self.value_before)
 
     def readers_of(self, value: "Reader") -> Names:
-        """What expressions call to read it."""
         numbers = {kind: functools.partial(number_at, value, kind) for kind in NUMBERS}
         return {"value": value, "fields": functools.partial(self.fields_of, value), **numbers}
 
@@ -137,7 +134,6 @@ def number_at(value: Reader, kind: str, key: str | bytes) -> int:
 
 
 def shown_word(key: str | bytes) -> str:
-    """A key as an expression has it."""
     return key if isinstance(key, str) else key.hex()
 
 
@@ -151,7 +147,6 @@ def change_lines(name: str, old: object, new: object) -> Iterator[str]:
 
 
 def number_of(data: bytes) -> int:
-    """The number in bytes, the lowest first."""
     return int.from_bytes(data, "little")
 
 

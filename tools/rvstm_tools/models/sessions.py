@@ -51,8 +51,6 @@ Known = dict[Asked, Seq]
 
 @dataclass(frozen=True)
 class Left:
-    """The rules and the storage that a frame leaves."""
-
     rules: int
     storage: Storage
 
@@ -121,7 +119,6 @@ class Model:
     # ---- frames
 
     def answer_frame(self, block: bytes) -> Answer:
-        """The answer to a frame, which counts."""
         ran = self.run(block)
         if ran.left:
             self.rules, self.store = ran.left.rules, ran.left.storage
@@ -150,7 +147,6 @@ class Model:
         return self.text_fault(block) or self.fault_of_sound(block)
 
     def fault_of_sound(self, block: bytes) -> Refusal | None:
-        """The first fault of a frame whose text has none."""
         fields = [line.split() for line in frames.lines_of(block)]
         gas = sum(int(field[2]) for field in fields if field[0] == b"call")
         if self.settings.frame_gas is not None and gas > self.settings.frame_gas:

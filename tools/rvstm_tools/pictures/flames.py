@@ -35,13 +35,10 @@ class Bar:
         return bar
 
     def most_first(self) -> list["Bar"]:
-        """The bars of what it calls, that with the most gas first."""
         return sorted(self.callees.values(), key=lambda bar: (-bar.total, bar.name))
 
 
 class Visit(NamedTuple):
-    """A bar, and whether all that it calls was visited before."""
-
     bar: Bar
     is_end: bool
 
@@ -73,7 +70,6 @@ def visits(root: Bar) -> Iterator[Visit]:
 
 
 def add_totals(root: Bar) -> None:
-    """Computes the gas with what is called."""
     for bar, is_end in visits(root):
         if is_end:
             bar.total = bar.own + sum(callee.total for callee in bar.callees.values())
@@ -107,13 +103,11 @@ def drawn_of(root: Bar) -> Iterator[Drawn]:
 
 
 def colour_of(name: str, is_blue: bool) -> str:
-    """The colour of a function: one name has one colour."""
     shade = zlib.crc32(name.encode()) % SHADES
     return f"rgb({90 + shade},{150 + shade},230)" if is_blue else f"rgb({215 + shade // 2},{120 + shade},{60 + shade})"
 
 
 def label_of(name: str, width: float) -> str:
-    """As much of a name as a bar has room for."""
     letters = int((width - 4) / LETTER)
     if len(name) <= letters:
         return name

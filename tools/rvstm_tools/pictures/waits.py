@@ -83,7 +83,6 @@ def counted(count: int, noun: str) -> str:
 
 
 def name_of(key: Key, view: View) -> str:
-    """A key for people; of a long one the beginning and the end."""
     name = view.key(key)
     return name if len(name) <= LONGEST_NAME else f"{name[:NAME_END]}..{name[-NAME_END:]}"
 
@@ -104,7 +103,6 @@ class Picture:
         return HEAD + (box.row + 0.5) * self.row
 
     def curve(self, start: Box, end: Box) -> str:
-        """A line from the end of one box to the beginning of another."""
         x, y, to_x, to_y = start.right, self.middle(start), end.left, self.middle(end)
         bend = (to_x - x) / 2
         return f"M{x:.1f} {y:.1f}C{x + bend:.1f} {y:.1f} {to_x - bend:.1f} {to_y:.1f} {to_x:.1f} {to_y:.1f}"
@@ -131,7 +129,6 @@ class Picture:
         )
 
     def bar(self, place: int) -> str:
-        """A call, with its number and its gas if there is room."""
         call, box, is_marked = self.conflicts.calls[place], self.boxes[place], place in self.chain
         height, width = max(self.row * 0.72, 1), max(box.right - box.left, LEAST_WIDTH)
         title = f"call {place}: {call.gas:,} gas, path {call.path:,}"
@@ -147,7 +144,6 @@ class Picture:
         )
 
     def heading(self) -> list[str]:
-        """The lines above the calls."""
         conflicts = self.conflicts
         times = f"{conflicts.gas / conflicts.path:.2f}" if conflicts.path else "1.00"
         return [

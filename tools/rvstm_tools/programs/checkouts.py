@@ -21,7 +21,6 @@ class Checkout:
 
     @functools.cached_property
     def needs(self) -> dict[str, list[str]]:
-        """The crates that each crate is built on, by its name."""
         lines = (self.top / "crates.txt").read_text().splitlines()
         rows = [line.split(":") for line in lines if not line.startswith("#")]
         below = {row[0].split()[0]: row[1].split() for row in rows if len(row) == 2 and row[0].strip()}
@@ -85,6 +84,5 @@ def kit_of(made: Path) -> str:
 
 
 def note_built(made: Path, sources: str) -> None:
-    """Notes of which sources a file was built."""
     kit = subprocess.run(["rt", "version"], capture_output=True, text=True, check=False).stdout.strip()
     stamp_of(made).write_text(f"{stamp(made, sources)}{kit}\n")

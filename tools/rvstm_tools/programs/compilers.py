@@ -11,13 +11,10 @@ OF_LIBRARIES = "rust-src and librust-compiler-builtins-dev"
 
 @dataclass(frozen=True)
 class Need:
-    """A program that a build runs, and the package that has it."""
-
     program: str
     package: str
 
     def is_there(self) -> bool:
-        """Whether the program is on the path."""
         return shutil.which(self.program) is not None
 
 
@@ -41,7 +38,6 @@ def lack(sdk: Path, *, is_rust: bool) -> str | None:
 
 
 def has_libraries() -> bool:
-    """Whether Rust's own libraries are there for the machine of contracts."""
     words = ["rustc", "--print", "target-libdir", "--target", TARGET]
     done = subprocess.run(words, capture_output=True, text=True, check=False)
     return done.returncode == 0 and any(Path(done.stdout.strip()).glob("libcore*.rlib"))

@@ -28,7 +28,6 @@ class Segment(NamedTuple):
 
     @property
     def is_code(self) -> bool:
-        """Whether it may be executed."""
         return bool(self.rights & PF_X)
 
 
@@ -107,7 +106,6 @@ class ElfFile:
         return Path(self.path).name
 
     def words(self) -> dict[int, int]:
-        """The words that may be executed, by their addresses."""
         return {
             part.address + at: int.from_bytes(part.data[at : at + 4], "little")
             for part in self.segments

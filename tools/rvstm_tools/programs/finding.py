@@ -53,7 +53,6 @@ def home() -> Home:
 
 
 def sdk() -> Path:
-    """The folder of the SDK, which is there."""
     path = home().top / "sdk"
     if not (path / "Makefile").is_file():
         raise UserError(f"{path}: no SDK; the package rvstm-sdk has it, and pip installs it with these tools from a checkout")
@@ -70,7 +69,6 @@ def is_program(path: Path) -> bool:
 
 
 def find(choice: ProgramChoice, place: Home, environment: Mapping[str, str]) -> Path:
-    """The path of the program, which is there."""
     path, cure = candidate(choice, place, environment)
     if not is_program(path):
         raise UserError(f"{path}: no program; {cure}")

@@ -62,7 +62,6 @@ class Pipes:
         return islice(self.output, count)
 
     def wait(self) -> Ended:
-        """Waits for a process that ends without more input."""
         assert self.process.stderr is not None
         errors = self.process.stderr.read()
         return Ended(b"", errors, self.process.wait())

@@ -24,7 +24,6 @@ NO_RT = "there is no rt: install Rattle's kit, rattle-kit-13f, and put its bin/r
 
 
 def tell(text: str) -> None:
-    """Reports how far a long run is, on standard error."""
     print(text, file=sys.stderr, flush=True)
 
 
@@ -68,8 +67,6 @@ def most_at_once(memory: str, processors: int) -> int:
 
 
 class Prover:
-    """Proves a crate and those that it is built on."""
-
     def __init__(self, checkout: Checkout, crate: str, words: Sequence[str], at_once: int | None = None) -> None:
         """`words` are those for rt that prove the crate itself."""
         self.checkout = checkout

@@ -61,7 +61,6 @@ def temporary_file(text: str, suffix: str) -> Iterator[str]:
 
 
 def run_block(runner: Runner, command: str, text: str, folder: Path, *options: str) -> Printed:
-    """Runs a command of rvstm that takes a block file."""
     with temporary_file(text, ".block") as path:
         return runner.run([command, path, *options], folder)
 

@@ -22,8 +22,6 @@ LONGEST_CONTENT = 1 << 30  # bytes of all files of a package that are read
 
 @dataclass(frozen=True)
 class File:
-    """A file: its bytes and its rights."""
-
     data: bytes
     mode: int = PLAIN
 
@@ -85,7 +83,6 @@ def ar_members(data: bytes) -> Iterator[Member]:
 
 
 def is_package(data: bytes) -> bool:
-    """Whether bytes begin as a package or an archive does."""
     return data.startswith((AR_HEAD, GZIP_HEAD))
 
 

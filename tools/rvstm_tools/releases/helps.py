@@ -36,8 +36,6 @@ both into /usr/share/doc/rvstm.
 
 
 class Item(NamedTuple):
-    """A command, an argument or an option, and what is said of it."""
-
     name: str
     text: str
 
@@ -85,7 +83,6 @@ def item_lines(items: Iterable[Item]) -> Iterator[str]:
 
 
 def page_lines(program: Path) -> Iterator[str]:
-    """The lines of the page; the commands in the order of the help."""
     whole = help_of(said(program, "--help"), "rvstm")
     commands = [item.name for item in whole.parts["Commands"] if item.name != "help"]
     helps = {command: help_of(said(program, command, "--help"), f"rvstm {command}") for command in commands}

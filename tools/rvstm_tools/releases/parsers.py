@@ -39,7 +39,6 @@ def all_parsed() -> list[Parsed]:
 
 
 def shown(action: argparse.Action) -> str:
-    """An argument or an option, as a man page names it."""
     place = f"<{action.metavar}>" if action.metavar else ""
     if not action.option_strings:
         return f"[{place}]" if action.nargs == "?" else f"{place}.." if action.nargs in ("*", "+") else place

@@ -39,8 +39,6 @@ LINKED_PROGRAM = re.compile(r"^bin/rvstm$|\.so\.")
 
 
 class Parts:
-    """The parts of the packages, of a checkout."""
-
     def __init__(self, products: Products) -> None:
         self.products = products
         self.top = products.checkout.top
@@ -74,7 +72,6 @@ class Parts:
         return found
 
     def program(self) -> Entries:
-        """The program, its man page and its completion."""
         return {
             "bin/rvstm": File(self.products.built(Product.PROGRAM), EXECUTABLE),
             "share/man/man1/rvstm.1.gz": self.packed(helps.PAGE),

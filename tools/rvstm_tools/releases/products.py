@@ -31,7 +31,6 @@ class Product(enum.Enum):
 
     @property
     def way(self) -> str:
-        """The command that builds it."""
         return "rvstm-tools example counter" if self is Product.PROGRAM else "rvstm-tools library"
 
     @property
@@ -40,7 +39,6 @@ class Product(enum.Enum):
 
 
 def version_of(text: str) -> str:
-    """The version in the text of the program's commands."""
     found = VERSION.findall(text)
     if len(found) != 1:
         raise UserError(f"{VERSION_FILE} has {len(found)} versions, and needs one")
@@ -84,11 +82,9 @@ class Products:
         return self.checkout.top / product.value
 
     def sources(self, product: Product) -> str:
-        """The checksum of the sources of a product."""
         return self.checkout.sum_of_sources(self.checkout.crates_of(product.crate))
 
     def is_built(self, product: Product) -> bool:
-        """Whether a product is there as the sources of the checkout make it."""
         return checkouts.is_built(self.path(product), self.sources(product))
 
     def built(self, product: Product) -> bytes:
@@ -106,7 +102,6 @@ class Products:
         return f"every function of {crate} and of the {below} crates below it, by {kit}; SHA-256 of the sources {sources}"
 
     def check_versions(self) -> None:
-        """The program and the library say the version."""
         program, shared = self.path(Product.PROGRAM), self.path(Product.SHARED)
         said = subprocess.run([program, "--version"], capture_output=True, text=True, check=False).stdout.strip()
         if said != f"rvstm {self.version()}":

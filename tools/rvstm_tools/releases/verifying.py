@@ -54,8 +54,6 @@ class Part:
 
 @dataclass(frozen=True)
 class Comparison:
-    """The line of a comparison, and whether both are equal."""
-
     text: str
     is_same: bool
 
@@ -83,7 +81,6 @@ def is_loaded_so(data: bytes, without: bytes) -> bool:
 
 
 def bare(name: str, data: bytes) -> bytes:
-    """The bytes of a program without symbols and build id."""
     if not data.startswith(ELF_HEAD):
         raise UserError(f"{name}: NOT a program of 64 bits")
     try:
@@ -97,7 +94,6 @@ def bare(name: str, data: bytes) -> bytes:
 
 
 def parts_of(path: str, data: bytes) -> list[Part]:
-    """What is compared of a file."""
     if not archives.is_package(data):
         if not data.startswith(ELF_HEAD):
             raise UserError(f"{path}: neither a program nor a package")
@@ -119,7 +115,6 @@ def parts_of(path: str, data: bytes) -> list[Part]:
 
 
 def parted(came: bytes, right: bytes) -> str:
-    """Where bytes differ from those that are right."""
     at = next((at for at, (one, other) in enumerate(zip(came, right)) if one != other), min(len(came), len(right)))
     return f"{len(came):,} bytes and {len(right):,}; they differ from byte {at:,} on"
 
@@ -164,7 +159,6 @@ class Entry(NamedTuple):
 
 
 def entries_of(path: str, data: bytes, sums: Mapping[str, str]) -> Iterator[Entry]:
-    """What is compared with checksums."""
     if archives.is_package(data):
         yield Entry(path, AS_IT_IS, data, Path(path).name)
     for part in parts_of(path, data):
@@ -175,7 +169,6 @@ def entries_of(path: str, data: bytes, sums: Mapping[str, str]) -> Iterator[Entr
 
 
 def by_sums(path: str, data: bytes, file: str) -> Iterator[Comparison]:
-    """Compares with the checksums of a release."""
     sums = sums_of(file)
     for entry in entries_of(path, data, sums):
         if entry.listed not in sums:

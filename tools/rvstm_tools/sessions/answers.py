@@ -13,8 +13,6 @@ SHOWN_OF_WRONG_LINE = 200  # bytes
 
 
 class Kind(Bytes):
-    """The first word of an answer."""
-
     OK = b"ok"
     REFUSED = b"refused"
     FAILED = b"failed"
@@ -33,12 +31,10 @@ class Done:
 
     @property
     def kind(self) -> Kind:
-        """The first word."""
         return Kind.OK
 
     @property
     def line(self) -> bytes:
-        """The line before the bytes."""
         return b"ok %d\n" % len(self.body)
 
     @property
@@ -82,8 +78,6 @@ Answer = Done | Refusal
 
 
 class Lines(Protocol):
-    """A stream of bytes that has lines."""
-
     def readline(self) -> bytes:
         """The next line, with its LF if it has one."""
 
@@ -120,8 +114,6 @@ def refused(words: bytes, kind: Kind = Kind.REFUSED) -> Refusal:
 
 @dataclass(frozen=True)
 class State:
-    """What a session answers to `state`."""
-
     rules: int
     height: int
     keys: int

@@ -43,8 +43,6 @@ class FrameFile:
 
 
 class Client:
-    """A session, and what is known of its keys."""
-
     def __init__(self, session: Session, view: View) -> None:
         self.session = session
         self.view = view
@@ -107,7 +105,6 @@ class Client:
             yield f"      there may be more: list {next_key(last).hex()}"
 
     def rows(self, body: bytes) -> Iterator[str]:
-        """Some lines `store`, by the words and shapes of the lists."""
         rows = dict(frames.stored_rows(body))
         self.keys |= rows.keys()
         return iter([f"      {self.view.key(key)}: {self.view.value(key, value)}" for key, value in rows.items()] or [NONE])
@@ -121,7 +118,6 @@ class Client:
         return iter([f"      {body.count(b'store '):,} keys written to {out}"])
 
     def lines(self, word: Word) -> Iterator[str]:
-        """The lines that answer `state` or `programs`, as they come."""
         return iter([f"      {line}" for line in self.body(Request(word)).decode().splitlines()] or [NONE])
 
     def program(self, path: Path) -> Iterator[str]:
@@ -132,7 +128,6 @@ class Client:
         return iter([f"      {name}"])
 
     def begin(self, height: int, digest: bytes, path: Path) -> Iterator[str]:
-        """Puts a dump in place of the storage."""
         self.body(requests.begin(height, digest, path.read_bytes()))
         return self.lines(Word.STATE)
 

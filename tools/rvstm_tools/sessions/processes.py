@@ -34,8 +34,6 @@ class Settings(NamedTuple):
 
 
 class Session(Pipes):
-    """A process that answers requests."""
-
     def __init__(self, rvstm: str | Path, settings: Settings = Settings(), *, is_as_here: bool = False) -> None:
         super().__init__([rvstm, *settings.words()], is_as_here=is_as_here)
 

@@ -20,7 +20,6 @@ class Replay:
     folder: Path
 
     def files(self, *endings: str) -> list[Path]:
-        """The files with one of some endings, by their names."""
         return sorted(path for path in self.folder.iterdir() if path.suffix in endings)
 
     def frames(self) -> list[Path]:

@@ -57,7 +57,6 @@ class Request(NamedTuple):
     body: bytes = b""
 
     def text(self) -> bytes:
-        """The bytes that ask for it."""
         length = (b"%d" % len(self.body),) if self.word in WITH_BODY else ()
         return b" ".join((self.word, *self.fields, *length)) + b"\n" + self.body
 
@@ -69,8 +68,6 @@ def begin(height: int, digest: bytes | None, dump: bytes) -> Request:
 
 @dataclass(frozen=True)
 class Found:
-    """A request of an input, and the place after it."""
-
     request: Request
     after: int
 

@@ -37,11 +37,9 @@ class Form:
 
     @property
     def text(self) -> str:
-        """The line as help has it."""
         return f"{self.word} {self.arguments}".rstrip()
 
     def check(self, given: Sequence[str]) -> None:
-        """Refuses a wrong number of words."""
         names = self.arguments.split()
         least = sum(not name.startswith("[") for name in names)
         if not least <= len(given) <= len(names):
@@ -49,12 +47,10 @@ class Form:
 
 
 def path_of(word: str) -> Path:
-    """A path, which may be in quotes."""
     return Path(word[1:-1] if words.is_text(word) else word)
 
 
 def run_list(client: Client, given: Sequence[str]) -> Iterator[str]:
-    """`list`: all keys, or some from one on."""
     first = words.key_of(given[0]) if given else FIRST_KEY
     return client.list(first, numbers.number_of(given[1], 1, MOST_KEYS, "COUNT") if len(given) > 1 else MOST_KEYS)
 
@@ -69,7 +65,6 @@ def run_begin(client: Client, given: Sequence[str]) -> Iterator[str]:
 
 
 def run_forget(client: Client, given: Sequence[str]) -> Iterator[str]:
-    """`forget`: a program by its hash or its file."""
     if HASH.fullmatch(given[0]):
         return client.forget(given[0])
     return client.forget(frames.name_of(path_of(given[0]).read_bytes()))
@@ -116,8 +111,6 @@ def answer_lines(client: Client, line: str) -> Iterator[str]:
 
 
 class Completion:
-    """Completes words as readline asks for them."""
-
     def __init__(self, client: Client) -> None:
         self.client = client
         self.found: list[str] = []
@@ -149,7 +142,6 @@ class Completion:
 
 
 def set_readline(client: Client) -> None:
-    """Turns on completion; readline keeps the history of this run."""
     readline.set_completer_delims(" \t\n")
     readline.set_completer(Completion(client).complete)
     readline.parse_and_bind("tab: complete")

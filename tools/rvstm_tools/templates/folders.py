@@ -32,8 +32,6 @@ OF_LANGUAGE = {
 
 @dataclass(frozen=True)
 class Places:
-    """What is put in the places of a template."""
-
     name: str
     """Of the contract and its files."""
     sdk: str

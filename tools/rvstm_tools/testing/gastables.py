@@ -50,7 +50,6 @@ class GasTable:
         self.folder = path.absolute().parent
 
     def read(self) -> Gas:
-        """The rows. A line that is none is refused."""
         gas: Gas = {}
         with open(self.path, encoding="utf-8", errors="surrogateescape") as file:
             for number, line in enumerate(file, 1):
@@ -79,6 +78,5 @@ class GasTable:
                 yield GasDifference(of, was, now)
 
     def name_of(self, run: Tried) -> str:
-        """What the table calls a list."""
         path = os.path.relpath(run.test.path.absolute(), self.folder)
         return f"{path}, {run.planned.variant}" if run.planned.variant else path

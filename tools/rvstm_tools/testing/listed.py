@@ -24,7 +24,6 @@ class CallPart:
         return frozenset(line.key for line in self.expectations.values() if isinstance(line, Changes))
 
     def gas_lines(self) -> list[int]:
-        """The numbers of the lines `gas at most`."""
         return [number for number, line in self.expectations.items() if isinstance(line, CostsAtMost)]
 
 
@@ -40,8 +39,6 @@ class StoragePart:
 
 @dataclass
 class ListedTest:
-    """A list with its expectations."""
-
     path: Path
     block: Block
     calls: list[CallPart]

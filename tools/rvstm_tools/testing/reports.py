@@ -49,7 +49,6 @@ def counted(number: int, what: str) -> str:
 
 
 def lines_of_run(run: Tried) -> Iterator[str]:
-    """The lines of a run: how it ended, and what is not met."""
     test, missed = run.test, run.missed
     of = f"{missed} of {test.count()} not met" if missed else f"{test.count()}"
     calls = counted(len(test.block.calls), "call")

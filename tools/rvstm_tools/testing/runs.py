@@ -31,8 +31,6 @@ class Miss:
 
 
 class Run:
-    """A run of a test's block, in order, by some programs."""
-
     def __init__(self, runner: Runner, test: ListedTest, programs: Sequence[ProgramFile]) -> None:
         self.runner = runner
         self.test = test
@@ -55,7 +53,6 @@ class Run:
         return result
 
     def misses(self) -> list[Miss]:
-        """The lines that are not met, in the order of the list."""
         found = [miss for part in self.test.calls for miss in self._misses_of_call(part)]
         if self.test.storage:
             found += self._misses_of(self.test.storage, self.test.storage.expectations, self.result.storage)

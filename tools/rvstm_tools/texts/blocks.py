@@ -56,8 +56,6 @@ class CallLine(NamedTuple):
 
 @dataclass
 class Block:
-    """A block as a list says it."""
-
     storage: Storage = field(default_factory=dict)
     rules: Rules = Rules.ONE
     programs: dict[str, ProgramFile] = field(default_factory=dict)
@@ -65,7 +63,6 @@ class Block:
     calls: list[Call] = field(default_factory=list)
 
     def paths(self) -> list[str]:
-        """The paths of the programs, in the order of their numbers."""
         return [program.path for program in self.programs.values()]
 
     def longest_value(self) -> int:

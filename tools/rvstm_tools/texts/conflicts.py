@@ -84,7 +84,6 @@ def conflicts_of(text: str) -> Conflicts:
 
 
 def wrong(number: int, line: str) -> UserError:
-    """What is reported of a line that the text does not have."""
     return UserError(f"line {number} of the conflicts is not one of theirs: {line[:SHOWN_OF_WRONG_LINE]}")
 
 

@@ -37,7 +37,6 @@ def dots(start: int, end: int, length: int) -> tuple[str, str]:
 
 
 def piece_of_bytes(data: bytes, place: int) -> str:
-    """Some bytes around a place, and how many there are in all."""
     start = max(0, place - BYTES_BEFORE)
     part = data[start : start + PIECE_BYTES]
     before, after = dots(start, start + PIECE_BYTES, len(data))
@@ -48,7 +47,6 @@ def piece_of_bytes(data: bytes, place: int) -> str:
 
 
 def piece_of_text(text: str, place: int) -> str:
-    """Some letters around a place, and how many there are in all."""
     start = max(0, place - TEXT_BEFORE)
     before, after = dots(start, start + PIECE_TEXT, len(text))
     return f"{before}{text[start:start + PIECE_TEXT]}{after}  ({len(text)} letters)"
@@ -60,7 +58,6 @@ def cut(text: str) -> str:
 
 
 def short_bytes(data: bytes) -> str:
-    """Bytes for people; of many the beginning."""
     return piece_of_bytes(data, 0) if len(data) > LONGEST_BYTES else shown.shown_bytes(data)
 
 

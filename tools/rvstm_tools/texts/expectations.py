@@ -57,7 +57,6 @@ def end_text(end: End, output: str = "") -> str:
 
 
 def end_of_receipt(receipt: Receipt) -> str:
-    """How a call ended, with its output."""
     return end_text(receipt.end, differences.short_bytes(receipt.output))
 
 
@@ -80,8 +79,6 @@ class EndsBy:
 
 @dataclass(frozen=True)
 class CostsAtMost:
-    """The call uses no more gas."""
-
     most: int
 
     def miss(self, receipt: Receipt, _: Scene) -> Difference | None:
@@ -177,7 +174,6 @@ OF_RECEIPTS = ("returned", "reverted", "out-of-gas", "trapped", "gas")
 
 
 def of_call(given: list[str]) -> CallExpectation:
-    """The expectation of the words after `expect`, in a line after a call."""
     if common := of_both(given):
         return common
     if given[:2] == ["no", "other"]:
@@ -190,7 +186,6 @@ def of_call(given: list[str]) -> CallExpectation:
 
 
 def of_storage(given: list[str]) -> StorageExpectation:
-    """The expectation of the words after `expect`, in a line after `storage`."""
     if common := of_both(given):
         return common
     if given[:2] == ["no", "other"]:

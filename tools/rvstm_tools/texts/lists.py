@@ -30,7 +30,6 @@ class Line:
 
     @property
     def kind(self) -> str:
-        """The first word, which says what the line is."""
         return self.words[0]
 
 
@@ -60,7 +59,6 @@ def lines_of(path: str) -> Iterator[Line]:
 
 
 def check_encoding(text: str) -> None:
-    """Refuses a line of a file that is not UTF-8."""
     try:
         text.encode()
     except UnicodeEncodeError as error:
@@ -158,7 +156,6 @@ class BlockReader:
         self.block.calls.append(Call(name, gas, words.joined(data, blocks.LONGEST_INPUT, "an input"), line))
 
     def gas_of(self, name: str, word: str) -> int:
-        """The gas of a call of a program that a line above names."""
         if name not in self.block.programs:
             raise UserError(f"{name}: no program line above has this name")
         return gas_of(word)

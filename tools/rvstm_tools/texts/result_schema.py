@@ -9,7 +9,6 @@ REGISTERS = 32
 
 
 def reference(name: str) -> Object:
-    """The form of this name in `$defs`."""
     return {"$ref": f"#/$defs/{name}"}
 
 

@@ -103,7 +103,6 @@ def key_of(text: str) -> Key:
 
 
 def wrong(number: int, text: str) -> UserError:
-    """What is reported of a line that no result has."""
     return UserError(f"line {number} of the result is cut, or not one of a result: {text.strip()[:SHOWN_OF_WRONG_LINE]}")
 
 

@@ -137,7 +137,6 @@ class View:
         return with_reason(shown.shown_bytes(data), parts) if isinstance(parts, Misfit) else self.fields(parts)
 
     def short_value(self, key: Key, data: bytes) -> str:
-        """The same in a line: of a long value the beginning."""
         shape = self.shape_at(key)
         if not shape:
             return differences.short_bytes(data)
@@ -174,7 +173,6 @@ class View:
         return self.value(key, change.value) if isinstance(change, Written) else shown.shown_change(change)
 
     def short_change(self, key: Key, change: Change) -> str:
-        """The same in a line."""
         return self.short_value(key, change.value) if isinstance(change, Written) else shown.shown_change(change)
 
     def difference(self, key: Key, wanted: Change, came: Change) -> Difference:
@@ -233,7 +231,6 @@ class View:
         return name_of(key) or self.names.get(key) or self._row_word(key) or numbered(key) or key.hex()
 
     def _words_of_part(self, part: Part) -> list[str]:
-        """Words of a list that say a field."""
         data, kind = part.data, part.field.kind
         if kind in (Kind.UNSIGNED, Kind.SIGNED):
             return [word_of_number(part)]
@@ -281,14 +278,12 @@ def number_of(part: Part) -> int:
 
 
 def value_of(part: Part) -> FieldValue:
-    """The value of a field, for expressions."""
     if part.field.kind in (Kind.UNSIGNED, Kind.SIGNED):
         return number_of(part)
     return part.data.rstrip(b"\0").decode() if part.field.kind is Kind.TEXT else part.data
 
 
 def word_of_number(part: Part) -> str:
-    """A word that says the number of a field."""
     return f"{'i' if part.field.kind is Kind.SIGNED else 'u'}{8 * len(part.data)}:{number_of(part)}"
 
 
@@ -317,7 +312,6 @@ def numbered(key: Key) -> str:
 
 
 def word_in_row(part: Part) -> str:
-    """A word that says a part of a row."""
     match part.field.kind:
         case Kind.UNSIGNED | Kind.SIGNED:
             return word_of_number(part)

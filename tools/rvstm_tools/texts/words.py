@@ -35,7 +35,6 @@ def words_of(line: str) -> list[str]:
 
 
 def is_text(word: str) -> bool:
-    """Whether a word is a text in quotes."""
     return word.startswith('"')
 
 
@@ -65,7 +64,6 @@ def bytes_of(word: str) -> bytes:
 
 
 def bytes_of_number(word: str, found: re.Match[str]) -> bytes:
-    """A number in as many bytes as its word says, the lowest first."""
     of_unsigned, unsigned, of_signed, sign, signed = found.groups()
     bits = int(of_unsigned or of_signed)
     most = 2**bits - 1 if of_unsigned else 2 ** (bits - 1) - (0 if sign else 1)
@@ -94,7 +92,6 @@ def row_of(word: str) -> Row:
 
 
 def bytes_in_row(word: str, part: str) -> bytes:
-    """The bytes of a part of a row."""
     if not part:
         raise UserError(f"{word}: a part of the row is empty")
     if part.startswith("key:"):
@@ -125,7 +122,6 @@ def is_text_in_row(data: bytes) -> bool:
 
 
 def word_of_number(data: bytes) -> str:
-    """The word of a number, by its bytes."""
     return f"u{8 * len(data)}:{int.from_bytes(data, 'little')}"
 
 
@@ -154,7 +150,6 @@ def key_of(word: str) -> keys.Key:
 
 
 def name_of(word: str) -> str:
-    """A word that names something."""
     if is_text(word):
         raise UserError(f"{word}: a name has no quotes")
     return word
