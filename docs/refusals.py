@@ -17,10 +17,8 @@ NAME = re.compile(r'\b(?P<variant>\w+::\w+) => "(?P<name>\w+)"')
 PARTS = re.compile(r'\b(?P<variant>\w+::\w+) => \w*\(?LineParts::without_line\("(?P<area>\w+)", "(?P<name>\w+)", (?P<number>\d+)\)')
 AREA = re.compile(r'(?:without_line|block_parts)\(\s*"(\w+)"|\barea: "(\w+)"')
 ROW = re.compile(r"^\| `(?P<message>[^`]+ [A-Z]\w+ \d+)` \| (?P<when>.*?) \|", re.M)
-WITHOUT_LINE = "Memory"
-"""The name that is printed without a line's number, in each area."""
-ANSWERS_OF_DEBUG = ("AtEnd", "AtStart", "BadRange")
-"""The names that `debug` prints as an answer to a line, `refused` in place of the area."""
+WITHOUT_LINE = "Memory"  # the name that is printed without a line's number, in each area
+ANSWERS_OF_DEBUG = ("AtEnd", "AtStart", "BadRange")  # the names that `debug` prints as an answer to a line, `refused` in place of the area
 
 
 @dataclass(frozen=True)
@@ -29,8 +27,7 @@ class Enumeration:
 
     name: str
     file: str
-    before: str
-    """The area, with `N` if a line's number follows. If the source has the area beside each name, the word before it."""
+    before: str  # The area, with `N` if a line's number follows. If the source has the area beside each name, the word before it.
 
 
 @dataclass(frozen=True)
@@ -50,8 +47,7 @@ class Parts:
     number: str
 
 
-SCHEDULE = "schedule"
-"""The area of a schedule file. Its refusals are two of `Cause`."""
+SCHEDULE = "schedule"  # the area of a schedule file. Its refusals are two of `Cause`
 ENUMERATIONS = (
     Enumeration("FileFault", "engines/src/fault.rt", "file"),
     Enumeration("WriteFault", "byte_streams/src/fault.rt", "output"),

@@ -33,15 +33,12 @@ class Call:
     """A public call, or a public type, of a crate."""
 
     crate: str
-    name: str
-    """Its path in the crate, such as `MvMap::read`."""
+    name: str  # its path in the crate, such as `MvMap::read`
     path: Path
     line: int
     is_function: bool
-    comment: list[str] = field(default_factory=list)
-    """The `///` lines above it, without the slashes."""
-    head: str = ""
-    """What comes before its body: its arguments, its result and its contract."""
+    comment: list[str] = field(default_factory=list)  # the `///` lines above it, without the slashes
+    head: str = ""  # what comes before its body: its arguments, its result and its contract
 
     @property
     def full_name(self) -> str:

@@ -19,8 +19,7 @@ from checks.definitions import GHOST_FIELD, Kind, Type, definitions, types
 WORD = re.compile(r"(?:^|(?<=[\s(){}\[\];,λ]))[^\s(){}\[\];,.λ]+", re.M)
 FIELD_NAME = re.compile(r"(?<=[{;])\s*\w+ = |^ +(?:pub )?[^\s({]+ : ", re.M)
 MEMBER_OF = re.compile(r"(?<![\w.])(\w+)\.([^\s(){}\[\];,.]+)")
-BIND = "◌>>=◌"
-"""What puts the steps of `do` together."""
+BIND = "◌>>=◌"  # what puts the steps of `do` together
 
 
 class Place(enum.Enum):
@@ -36,8 +35,7 @@ class Cited:
     """What a name refers to: a definition of a file below crates/, a type of a crate's code, or a name of a module of the kit."""
 
     kind: Place
-    place: str
-    """The file, the crate, or the module."""
+    place: str  # the file, the crate, or the module
     name: str
 
     @property
@@ -45,8 +43,7 @@ class Cited:
         return types(self.place)[self.name]
 
 
-Names = Mapping[str, frozenset[Cited]]
-"""What each name in a text refers to."""
+Names = Mapping[str, frozenset[Cited]]  # what each name in a text refers to
 
 
 def target(taken: sources.Taken) -> Cited | None:

@@ -21,19 +21,15 @@ class Definition:
     """A definition of a file, with the comment and the `infix` lines above it."""
 
     name: str
-    start: int
-    """Its first line, from 0."""
-    count: int
-    """How many lines it has."""
-    code: str
-    """Its text without comments."""
+    start: int  # its first line, from 0
+    count: int  # how many lines it has
+    code: str  # its text without comments
 
 
 @dataclass(frozen=True)
 class Definitions:
     by_name: dict[str, Definition]
-    owner: dict[str, str]
-    """The definition of each name that a definition gives, such as a constructor of its data."""
+    owner: dict[str, str]  # the definition of each name that a definition gives, such as a constructor of its data
 
 
 class Kind(enum.Enum):
@@ -53,10 +49,8 @@ class Type:
     name: str
     kind: Kind
     path: Path
-    line: int
-    """The line of its keyword, from 1."""
-    text: str
-    """Its declaration, with the comments in it."""
+    line: int  # the line of its keyword, from 1
+    text: str  # its declaration, with the comments in it
 
     @property
     def code(self) -> str:

@@ -30,8 +30,7 @@ class Printer:
 
     option: str
     metavar: str
-    count: str
-    """How many words come after it: any number (`*`), at least one (`+`), or none (empty)."""
+    count: str  # how many words come after it: any number (`*`), at least one (`+`), or none (empty)
     help: str
     lines: Callable[[Sequence[str]], Iterable[str]]
 

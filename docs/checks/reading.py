@@ -16,10 +16,8 @@ from checks.citations import Cited, Place, citations, cited_by_call, closure
 from checks.definitions import Type, definitions
 from rvstm_tools.errors import MisuseError
 
-AFTER = "after"
-"""The word after which calls are named whose lists were read before."""
-CORE = ("core", "std_alloc", "std_collections", "std_io")
-"""The folders of the kit that `std` passes names on from."""
+AFTER = "after"  # the word after which calls are named whose lists were read before
+CORE = ("core", "std_alloc", "std_collections", "std_io")  # the folders of the kit that `std` passes names on from
 
 
 @dataclass
@@ -37,13 +35,10 @@ class Asked:
 @dataclass(frozen=True)
 class Row:
     file: str
-    read: int
-    """How many of its lines to read: those of definitions that are not cited are left out."""
-    lines: int
-    """How many lines it has."""
+    read: int  # how many of its lines to read: those of definitions that are not cited are left out
+    lines: int  # how many lines it has
     cited: tuple[str, ...]
-    rest: tuple[str, ...]
-    """The names of its definitions: those that are cited, and the others."""
+    rest: tuple[str, ...]  # the names of its definitions: those that are cited, and the others
 
 
 @dataclass(frozen=True)
@@ -82,8 +77,7 @@ class Reading:
     """What a reader of some clauses must read."""
 
     asked: list[Asked]
-    cited: set[Cited]
-    """The definitions and types, and the names of the kit, without what was read before."""
+    cited: set[Cited]  # the definitions and types, and the names of the kit, without what was read before
     before: set[Cited]
 
     @functools.cached_property

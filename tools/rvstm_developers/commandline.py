@@ -10,8 +10,7 @@ from pathlib import Path
 from rvstm_tools import errors
 from rvstm_tools.options import Command
 
-FOLDERS = {"commands": "tools/developers", "bench": "bench"}
-"""The folder that has a script for each command of each sub-package."""
+FOLDERS = {"commands": "tools/developers", "bench": "bench"}  # the folder that has a script for each command of each sub-package
 
 
 def command_of(name: str) -> Command:

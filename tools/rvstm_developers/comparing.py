@@ -17,8 +17,7 @@ from rvstm_tools.sessions.requests import Request, Word
 
 SECONDS_A_SESSION = 60
 SECONDS_A_BLOCK = 60
-SHOWN = 200
-"""Bytes of an answer that a message has."""
+SHOWN = 200  # bytes of an answer that a message has
 
 
 def model_of(rvstm: Path, settings: Settings = Settings()) -> Model:

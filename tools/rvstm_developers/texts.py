@@ -9,8 +9,7 @@ from rvstm_tools.texts import blocks
 from rvstm_tools.texts.blocks import CallLine, Rules
 from rvstm_tools.texts.keys import Storage
 
-TOP = Path(__file__).resolve().parents[2]
-"""The checkout."""
+TOP = Path(__file__).resolve().parents[2]  # the checkout
 
 HEADS = (Rules.ONE.head, "rvblock 2\ngas 1\n", Rules.TWO.head, Rules.THREE.head)
 """What a block file may begin with: rules one in the first format, and rules one to three in the second."""

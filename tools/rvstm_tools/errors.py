@@ -16,10 +16,8 @@ from types import FrameType
 
 class Status(enum.IntEnum):
     DONE = 0
-    FAILED = 1
-    """What was asked for does not hold, or the command cannot continue."""
-    MISUSED = 2
-    """The command line is wrong; in `test` and `explore`, a list is."""
+    FAILED = 1  # what was asked for does not hold, or the command cannot continue
+    MISUSED = 2  # the command line is wrong; in `test` and `explore`, a list is
     INTERRUPTED = 130
 
 

@@ -48,8 +48,7 @@ class Command:
     example: str
     add_options: Callable[[argparse.ArgumentParser], None]
     run: Callable[[argparse.Namespace], int]
-    shared: tuple[Callable[[], argparse.ArgumentParser], ...] = ()
-    """The parsers of the options that it shares with others."""
+    shared: tuple[Callable[[], argparse.ArgumentParser], ...] = ()  # the parsers of the options that it shares with others
 
 
 @dataclass(frozen=True)

@@ -17,10 +17,8 @@ FOLDER = TOP / "bench"
 ACCOUNTS = 1900
 CALLS = 1000
 ROUNDS = 100_000
-RULES = {"bump": 3}
-"""Of programs that want later rules than one."""
-SPEED_PROGRAMS = ("sha256", "sieve", "crc32")
-"""The programs of speed.block, by their numbers."""
+RULES = {"bump": 3}  # of programs that want later rules than one
+SPEED_PROGRAMS = ("sha256", "sieve", "crc32")  # the programs of speed.block, by their numbers
 
 
 class Input(NamedTuple):

@@ -25,15 +25,12 @@ from rvstm_tools.texts.keys import Storage
 from rvstm_tools.texts.keys import numbered_key as key
 
 SIZES = (100, 1_000, 10_000, 100_000, 1_000_000)
-FRAME_LIMIT = 1 << 27
-"""Bytes of a frame: the one of a million keys has 88 MB."""
-COMPARED = 1_000
-"""Keys, with whose time that of a block is compared."""
+FRAME_LIMIT = 1 << 27  # bytes of a frame: the one of a million keys has 88 MB
+COMPARED = 1_000  # Keys, with whose time that of a block is compared
 TRANSFERS, GAS = 200, 2_000
 ROUNDS, BLOCKS_A_ROUND, BLOCKS_FOR_MEMORY = 15, 10, 1_000
 WORKERS, ROUNDS_BY_WORKERS, LONGEST_GAS = 4, 25, 10_000_000
-INSTRUCTIONS_A_ROUND, OTHER_INSTRUCTIONS = 5, 9
-"""Of bench/programs/work.s."""
+INSTRUCTIONS_A_ROUND, OTHER_INSTRUCTIONS = 5, 9  # of bench/programs/work.s
 WORKS = (
     (1_000, 1_000, 1_000), (1_000, 3_000, 1_000), (1_000, 10_000, 1_000), (1_000, 30_000, 1_000), (64, 500_000, 1_000),
     (32, 30_000, 1_000), (1_000, 3_000, 100_000), (1_000, 30_000, 100_000),

@@ -16,8 +16,7 @@ from rvstm_tools.options import Command
 from rvstm_tools.texts.keys import numbered_key as key
 
 TIMES = 9
-HEIGHTS = {3: "1 ms", 4: "10 ms", 5: "100 ms", 6: "1 s"}
-"""Powers of ten of microseconds that are marked."""
+HEIGHTS = {3: "1 ms", 4: "10 ms", 5: "100 ms", 6: "1 s"}  # powers of ten of microseconds that are marked
 
 
 @dataclass(frozen=True)

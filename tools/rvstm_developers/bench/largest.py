@@ -17,8 +17,7 @@ from rvstm_tools.texts.blocks import CallLine
 FILE_BYTES, HEADERS = 131_072, 52 + 2 * 32
 PROGRAMS, CALLS, KEYS, FEW_CALLS = 64, 1024, 256, 251
 GAS = 1_000_000
-LONG_LIST, SHORT_LIST = 20_000_000, 65_535
-"""Entries of the schedules."""
+LONG_LIST, SHORT_LIST = 20_000_000, 65_535  # entries of the schedules
 
 
 def program_of(text: bytes, number: int) -> bytes:

@@ -24,12 +24,9 @@ PEAK = re.compile(rb"^VmHWM:\s+([0-9]+) kB$", re.M)
 @dataclass(frozen=True)
 class Spent:
     seconds: float
-    processor: float
-    """Seconds of all processors."""
-    mebibytes: float
-    """0 if it was so short that no look found it."""
-    fault: str = ""
-    """What it said if it was refused."""
+    processor: float  # seconds of all processors
+    mebibytes: float  # 0 if it was so short that no look found it
+    fault: str = ""  # what it said if it was refused
 
 
 def peak_of(process: int) -> int:

@@ -19,16 +19,14 @@ from rvstm_tools.texts.keys import numbered_key
 
 GAS = 10_000_000
 LONG_CALLS, LONG_ROUNDS = 16, 5
-POOL, ALIKE = 40, 3
-"""The worst programs, which are changed, and how many of them are of one kind."""
+POOL, ALIKE = 40, 3  # the worst programs, which are changed, and how many of them are of one kind
 AFRESH = 1 / 3
 UNITS = sum(slow_programs.GROUPS.values(), ())
 
 
 @dataclass(frozen=True, order=True)
 class Found:
-    ratio: float
-    """Its processor time for a unit of gas beside that of `work`."""
+    ratio: float  # its processor time for a unit of gas beside that of `work`
     name: str
 
     def line(self) -> str:

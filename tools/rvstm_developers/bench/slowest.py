@@ -117,8 +117,7 @@ def time_of(seconds: float) -> str:
     return f"{seconds * 1e9:.1f} ns" if seconds < 1e-6 else f"{seconds * 1e6:,.1f} µs"
 
 
-NOTES = {block.name: block.what for block in BLOCKS} | SESSIONS
-"""Each row, and what it is."""
+NOTES = {block.name: block.what for block in BLOCKS} | SESSIONS  # each row, and what it is
 
 
 def prepare(options: Options) -> None:

@@ -19,17 +19,14 @@ from rvstm_tools.sessions.requests import Request, Word
 from rvstm_tools.texts.keys import ACCOUNT_LENGTH, Key, numbered_key
 
 SIZES = (1_000, 100_000, 1_000_000)
-COMPARED = SIZES[0]
-"""Keys, with whose time that of a block is compared."""
+COMPARED = SIZES[0]  # Keys, with whose time that of a block is compared
 FRAME_LIMIT = 1 << 27
 CALLS, GAS, ROUNDS, BLOCKS_A_ROUND = 200, 2_000, 15, 5
 GROWTH_CALLS = 1_000
 VALUE = word(1_000_000)
-GROUP = 16
-"""Keys of one hash."""
+GROUP = 16  # keys of one hash
 WORDS = 2**64
-ODD = 0x9E3779B97F4A7C15
-"""Spreads the sums of the groups."""
+ODD = 0x9E3779B97F4A7C15  # spreads the sums of the groups
 SOURCES = ("transfer", "put", "remove")
 ACTS = ("transfers", "writes", "removals", "dump", "begin")
 SHOWN_ACTS = ("transfers", "writes", "removals", "begin", "dump")
@@ -39,8 +36,7 @@ COLUMNS = (
     "200 keys removed", "`begin`", "`dump`", "bytes a key",
 )
 
-KeyOf = Callable[[int], Key]
-"""The key of a number."""
+KeyOf = Callable[[int], Key]  # the key of a number
 
 
 def digest_key(number: int) -> Key:

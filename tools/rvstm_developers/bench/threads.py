@@ -17,8 +17,7 @@ from rvstm_tools.options import Command
 WORKERS = (1, 2, 4, 32)
 TIMES = 45
 PROGRAM_CALLS, PROGRAM_GAS, PROGRAM_TIMES = 64, 1_000_000, 9
-MARGIN, BETWEEN = 60, 110
-"""Pixels before the first number of workers, and between two."""
+MARGIN, BETWEEN = 60, 110  # pixels before the first number of workers, and between two
 
 
 @dataclass(frozen=True)

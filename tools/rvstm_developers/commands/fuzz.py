@@ -167,10 +167,8 @@ class Runs:
         self.rvstm, self.place = rvstm, place
         self.damaged, self.second, self.out, self.migrated = (place / name for name in ("damaged", "second", "out.elf", "migrated"))
         self.count = self.failed = 0
-        self.largest = 0
-        """Of all runs, in KiB."""
-        self.given = b""
-        """The input of the last run."""
+        self.largest = 0  # of all runs, in KiB
+        self.given = b""  # the input of the last run
 
     def run(self, folder: Path, words: Sequence[Word], data: bytes = b"") -> bytes | None:
         """What the program prints if it is done; None if it refuses, or if the run fails."""

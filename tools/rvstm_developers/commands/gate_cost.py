@@ -14,8 +14,7 @@ from rvstm_tools.options import Command
 
 TICKS = os.sysconf("SC_CLK_TCK")
 INTERVAL = 0.5
-PARENT, BEGAN, USER_TIME, SYSTEM_TIME = 1, 19, 11, 12
-"""Fields of /proc/N/stat after the name."""
+PARENT, BEGAN, USER_TIME, SYSTEM_TIME = 1, 19, 11, 12  # fields of /proc/N/stat after the name
 
 
 class Kind(enum.Enum):

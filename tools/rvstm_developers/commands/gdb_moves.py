@@ -30,8 +30,7 @@ class Reason(enum.Enum):
     END = "end"
 
 
-MARKS = {"replaylog:end": Reason.END, "replaylog:begin": Reason.START, "watch:": Reason.WATCH}
-"""What the packet of a stop has for a reason."""
+MARKS = {"replaylog:end": Reason.END, "replaylog:begin": Reason.START, "watch:": Reason.WATCH}  # what the packet of a stop has for a reason
 
 
 class Stop(NamedTuple):
@@ -66,10 +65,8 @@ class Trace:
                 self.rows.append(Row(session.registers(), int(line.split(" ")[1], 16), stack))
                 line = session.answer("s")
         self.addresses = sorted({row.pc for row in self.rows})
-        self.words: list[int] = []
-        """Words of the stack that change."""
-        self.meetings: list[int] = []
-        """The addresses after these changes, where a breakpoint meets a watchpoint."""
+        self.words: list[int] = []  # words of the stack that change
+        self.meetings: list[int] = []  # the addresses after these changes, where a breakpoint meets a watchpoint
         for before, row in zip(self.rows, self.rows[1:]):
             for at in changed_words(before.stack, row.stack):
                 self.words.append(at)

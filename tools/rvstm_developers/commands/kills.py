@@ -25,16 +25,11 @@ from rvstm_tools.sessions.requests import Fault, Request, Word
 
 WORKER_NUMBERS = (None, None, 2, 8)
 ROUNDS_A_FILE = 25
-ONE_IN = 8
-"""Of so many sessions one ends by itself, and after one of so many rounds stock SQLite folds the log."""
-ONE_IN_GREAT = 20
-"""Of so many rounds one has a `begin` of 10,000 keys."""
-GROUPS = 4
-"""Of random requests in a round, each of up to fourteen."""
-DELAYS = (0, 0.0003, 0.001, 0.003, 0.01, 0.05)
-"""Seconds at most after an answer."""
-LONGEST_OPENING = 0.3
-"""Seconds until which a session is killed before its first answer, while it is not known how long that takes."""
+ONE_IN = 8  # of so many sessions one ends by itself, and after one of so many rounds stock SQLite folds the log
+ONE_IN_GREAT = 20  # of so many rounds one has a `begin` of 10,000 keys
+GROUPS = 4  # of random requests in a round, each of up to fourteen
+DELAYS = (0, 0.0003, 0.001, 0.003, 0.01, 0.05)  # seconds at most after an answer
+LONGEST_OPENING = 0.3  # seconds until which a session is killed before its first answer, while it is not known how long that takes
 LAST_BYTES = (b"q\n", b"", b"what\n", b"frame 9\nrv", b"get 00")
 
 
@@ -103,10 +98,8 @@ class KilledFile:
         self.settings = sessions.settings_of(choice, self.made.fill().requests, True, choice.choice(WORKER_NUMBERS))
         self.path, self.input = place / "file", place / "input"
         self.plain = files.Plain(rvstm, self.settings)
-        self.unsure: Request | None = None
-        """The request that may be kept."""
-        self.begun = b""
-        """What there was of its answer."""
+        self.unsure: Request | None = None  # the request that may be kept
+        self.begun = b""  # what there was of its answer
         self.opening, self.is_there = LONGEST_OPENING, False
 
     def batch(self) -> list[Request]:

@@ -19,17 +19,13 @@ from rvstm_tools.options import Command
 from rvstm_tools.texts import differences
 
 WORKERS = (1, 5, 32)
-IN_TURN = ("300 calls on seven keys", "1,024 calls on one key")
-"""Blocks that `drive` also runs with workers in turn."""
-BY_WORKERS = ("1,024 calls on one key", "frames of many calls and of few")
-"""Sessions that threads run, too."""
-BY_PARTS = ("frames of many calls and of few",)
-"""Those whose file is taken over with other numbers of workers."""
+IN_TURN = ("300 calls on seven keys", "1,024 calls on one key")  # blocks that `drive` also runs with workers in turn
+BY_WORKERS = ("1,024 calls on one key", "frames of many calls and of few")  # sessions that threads run, too
+BY_PARTS = ("frames of many calls and of few",)  # those whose file is taken over with other numbers of workers
 PARTS_WORKERS = ("32", "1", "5", "")
 MANY_SECONDS = 600
 LEAST_STACK, STACK_STEP = 16, 4  # KiB
-SHOWN_BEFORE = 80
-"""Bytes that are shown before and after the place where an output differs."""
+SHOWN_BEFORE = 80  # bytes that are shown before and after the place where an output differs
 
 # Started again for each run: a process that Python starts begins with the most memory that its parent had.
 LAUNCHER = """import json, os, resource, signal, sys, time

@@ -20,12 +20,9 @@ from rvstm_tools.options import Command
 from rvstm_tools.sessions.requests import Request, Word
 
 RECORDER = Path(files.__file__).with_name("store_recorder.c")
-REQUESTS, FRAMES = 40, 400
-"""Of the first two sessions, and of the third."""
-OTHER_CUTS, AROUND = 60, 6
-"""Cuts of the third session, and calls around those on the file."""
-ONE_IN, MOST_AGAIN = 50, 100
-"""One image in so many is recorded as it is opened, and the images of each of these."""
+REQUESTS, FRAMES = 40, 400  # of the first two sessions, and of the third
+OTHER_CUTS, AROUND = 60, 6  # cuts of the third session, and calls around those on the file
+ONE_IN, MOST_AGAIN = 50, 100  # one image in so many is recorded as it is opened, and the images of each of these
 NOTHING = Both(None, None)
 
 Item = TypeVar("Item")

@@ -94,8 +94,7 @@ class Room(NamedTuple):
 
     path: Path
     make: Callable[[Popen[bytes] | None], None]
-    is_bounded: bool = False
-    """Whether this process, and so each that it starts, may write short files alone."""
+    is_bounded: bool = False  # whether this process, and so each that it starts, may write short files alone
 
 
 class Trial:

@@ -7,13 +7,11 @@ from random import Random
 from rvstm_developers import running, texts
 from rvstm_tools.texts.keys import Key
 
-KEYS = 3
-"""How many keys the input of such a program has, 32 bytes each."""
+KEYS = 3  # how many keys the input of such a program has, 32 bytes each
 
 BUFFER = "addi a1,sp,-256"
 AMOUNTS = (0, 1, 7, 2**32 - 1, 2**32, 2**64 - 1)
-MOST_ROUNDS = 8_000
-"""Rounds of the loop that a program may begin with, of two instructions each."""
+MOST_ROUNDS = 8_000  # rounds of the loop that a program may begin with, of two instructions each
 
 
 def storage_call(choice: Random) -> list[str]:

@@ -119,8 +119,7 @@ class RandomSession:
         self.keeps_digest, self.most_rules = choice.randrange(2) == 0, choice.randrange(1, 4)
         self.rules = 1
         self.files: dict[str, bytes] = {}
-        self.given: set[str] = set()
-        """The names of the programs that the session has."""
+        self.given: set[str] = set()  # the names of the programs that the session has
         self.requests: list[Request] = []
 
     def add(self, word: bytes, *fields: bytes, body: bytes = b"") -> None:

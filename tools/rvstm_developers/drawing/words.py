@@ -13,8 +13,7 @@ INPUT, STACK = 0x0010_0000, 0x0010_f000
 INPUT_REGISTER, NUMBER_REGISTER, START_REGISTER = 10, 17, 31
 IN_CODE, IN_DATA = (5, 6, START_REGISTER), (2, 8, 9, INPUT_REGISTER)
 FREE = [number for number in range(32) if number not in (NUMBER_REGISTER, *IN_CODE, *IN_DATA)]
-CALL_NUMBERS = (0, 2, 3, 4, 6)
-"""Of storage calls whose gas depends on registers alone."""
+CALL_NUMBERS = (0, 2, 3, 4, 6)  # of storage calls whose gas depends on registers alone
 EDGES = (0, 1, 2, 31, 32, 2**31 - 1, 2**31, 2**32 - 1)
 
 

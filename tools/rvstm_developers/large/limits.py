@@ -26,8 +26,7 @@ def key_field(number: int) -> bytes:
     return key(number).hex().encode()
 
 
-Make = Callable[[], "Trial"]
-"""How a trial is made, if it is asked for."""
+Make = Callable[[], "Trial"]  # how a trial is made, if it is asked for
 
 
 class Trial(NamedTuple):

@@ -27,8 +27,7 @@ QUESTIONS = [Request(word) for word in (Word.STATE, Word.PROGRAMS, Word.LAST, Wo
 QUESTIONS += [Request(Word.LIST, (key_field(0), b"1024")), Request(Word.GET, (key_field(1),))]
 FRAME_KEYS, DUMP_KEYS, REQUESTS, SESSION_PROGRAMS = 100_000, 100_000, 10_000, 1_000
 HIGHEST_LIMIT = 9_999_999_999
-Parts = list[list[Request]]
-"""A session in parts. A file keeps it from part to part."""
+Parts = list[list[Request]]  # A session in parts. A file keeps it from part to part.
 
 
 @dataclass(frozen=True)

@@ -272,8 +272,7 @@ class Block:
     ) -> None:
         self.programs, self.calls, self.store, self.rules = programs, list(calls), store or {}, rules
         self.receipts: list[Receipt] | None = None
-        self.keys: list[list[Key]] = []
-        """Of each call the keys that it read."""
+        self.keys: list[list[Key]] = []  # of each call the keys that it read
         self.left: Storage = {}
 
     def text(self, paths: Iterable[str], store: Storage | None = None) -> bytes:

@@ -12,10 +12,8 @@ from typing import NamedTuple, TypeVar
 
 RECORD_LIMIT, INCARNATION_LIMIT = 1_048_576, 65_535
 
-Value = int | None
-"""Of a key; None if it has none."""
-Run = Generator[str, Value, dict[str, Value]]
-"""A run of a contract."""
+Value = int | None  # of a key; None if it has none
+Run = Generator[str, Value, dict[str, Value]]  # a run of a contract
 Item = TypeVar("Item")
 
 
@@ -96,8 +94,7 @@ class Write(NamedTuple):
     value: Value
 
 
-Writes = tuple[Write, ...]
-"""By ascending key."""
+Writes = tuple[Write, ...]  # by ascending key
 
 
 @dataclass(frozen=True)
@@ -162,13 +159,11 @@ class Call(NamedTuple):
 class Entry(NamedTuple):
     key: str
     writer: int
-    incarnation: int | None
-    """None in an estimate."""
+    incarnation: int | None  # none in an estimate
     value: Value
 
 
-Versions = tuple[Entry, ...]
-"""By ascending key and writer."""
+Versions = tuple[Entry, ...]  # by ascending key and writer
 
 
 # Tasks are no named tuples: two tasks of different kinds are never equal.
@@ -206,8 +201,7 @@ class Marking:
     keys: tuple[str, ...]
 
 
-Task = Running | Moving | Validating | Marking | None
-"""None if a worker has no task."""
+Task = Running | Moving | Validating | Marking | None  # none if a worker has no task
 AnyTask = TypeVar("AnyTask", Running, Moving, Validating, Marking)
 
 
@@ -231,8 +225,7 @@ class State(NamedTuple):
     record_count: int
 
 
-Step = Callable[[Block, State, int], State]
-"""What makes a step: of a block, a state and the number of a worker."""
+Step = Callable[[Block, State, int], State]  # what makes a step: of a block, a state and the number of a worker
 
 
 def start(block: Block, workers: int) -> State:

@@ -57,10 +57,8 @@ AREAS = {
 """The calls whose want of memory an area reports: of the requests of a session, of a run in order, with threads and along a schedule,
 of a debugged call, of the file of a session, and of texts, sources, blocks and programs."""
 
-SIZE = re.compile(r":: try_from \(|\. checked_\w+ \(")
-"""Calls that fail if a size does not fit a word of the machine."""
+SIZE = re.compile(r":: try_from \(|\. checked_\w+ \(")  # calls that fail if a size does not fit a word of the machine
 NEVER = re.compile(r"$^")
 RULES = {Kind.MEMORY: NEVER, Kind.FILE: re.compile(r"\bstr :: from_utf8 \(|\. is_one_file \("), Kind.THREAD: NEVER}
 """Calls after which the rules name a cause of a kind."""
-CAUSE = re.compile(r"\w*(?:Fault|Refusal|Error|Failure|Answer)\b")
-"""Types of causes."""
+CAUSE = re.compile(r"\w*(?:Fault|Refusal|Error|Failure|Answer)\b")  # types of causes

@@ -17,35 +17,26 @@ ENDLESS = re.compile(r"\bfor _\w* in 0 \.\. u64 :: MAX$")
 class How(enum.Enum):
     PATTERN = enum.auto()
     """An arm, an `if let`, a closure of `map_err` or a function, with its pattern or parameters; perhaps with what is matched."""
-    RULE = enum.auto()
-    """An arm `Ok(true)` of a call."""
-    BACK = enum.auto()
-    """An arm of a call whose error has a name."""
-    ARGUMENT = enum.auto()
-    """An argument of a call."""
-    CALL = enum.auto()
-    """The `else` of a `let`, or what follows `.is_err()`, of a call."""
+    RULE = enum.auto()  # an arm `Ok(true)` of a call
+    BACK = enum.auto()  # an arm of a call whose error has a name
+    ARGUMENT = enum.auto()  # an argument of a call
+    CALL = enum.auto()  # the `else` of a `let`, or what follows `.is_err()`, of a call
     IMPL = enum.auto()
     FN = enum.auto()
     BLOCK = enum.auto()
     LET = enum.auto()
     CONST = enum.auto()
-    ENDLESS = enum.auto()
-    """What follows a loop over all numbers of 64 bits."""
-    AFTER = enum.auto()
-    """What follows a loop."""
+    ENDLESS = enum.auto()  # what follows a loop over all numbers of 64 bits
+    AFTER = enum.auto()  # what follows a loop
 
 
 @dataclass(frozen=True)
 class Around:
     how: How
     text: str
-    scrutinee: str = ""
-    """What a pattern is compared with."""
-    number: int = 0
-    """Of an argument."""
-    count: int = 0
-    """Of the arguments of its call."""
+    scrutinee: str = ""  # what a pattern is compared with
+    number: int = 0  # of an argument
+    count: int = 0  # of the arguments of its call
 
 
 @dataclass(frozen=True)

@@ -12,11 +12,9 @@ ENTRY = struct.Struct("<ccQQ")
 SECTOR = 512
 FILE, LOG, OUTPUT = b"d", b"l", b"o"
 SYNCED, UNLINKED, TRUNCATED = b"s", b"u", b"t"
-TIMES = 3
-"""Images of each cut by sectors, by bytes and with garbage."""
+TIMES = 3  # images of each cut by sectors, by bytes and with garbage
 
-Way = Callable[[Random, bytes, bytes], bytes]
-"""What is left of a piece: a draw, what was there, and what was written."""
+Way = Callable[[Random, bytes, bytes], bytes]  # what is left of a piece: a draw, what was there, and what was written
 
 
 class Step(NamedTuple):

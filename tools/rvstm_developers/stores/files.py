@@ -20,8 +20,7 @@ from rvstm_tools.sessions.requests import Request, Word
 from rvstm_tools.texts.blocks import CallLine
 from rvstm_tools.texts.keys import Key, Storage, numbered_key
 
-LOG = "-wal"
-"""What follows the name of a file in the name of its log."""
+LOG = "-wal"  # what follows the name of a file in the name of its log
 QUESTIONS = [Request(word) for word in (Word.STATE, Word.LAST, Word.PROGRAMS, Word.DUMP)]
 QUESTIONS += [Request(Word.LIST, (numbered_key(0).hex().encode(), b"1024"))]
 NAMES = ("Busy 1", "HotJournal 2", "Unreadable 3", "NotASession 4", "OtherVersion 5", "OtherSettings 6", "Damaged 7", "Full 8", "Memory 9")
@@ -31,8 +30,7 @@ PLAIN = Settings(digest=True)
 SECONDS_A_SESSION = 120
 COUNTER = TOP / "examples/counter/counter.elf"
 MANY_KEYS, MOST_LISTED = 10_000, 1024
-FRAMES, KEYS_A_FRAME = 6, 100
-"""Of a session whose file has each kind of row."""
+FRAMES, KEYS_A_FRAME = 6, 100  # of a session whose file has each kind of row
 NO_FRAME = answers.refused(b"frame NoFrame 7")
 
 

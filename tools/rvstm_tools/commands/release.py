@@ -53,10 +53,8 @@ class Package:
     text: str
     entries: Entries
     depends: str
-    more: Mapping[str, str] = field(default_factory=dict)
-    """Further fields."""
-    control: Entries = field(default_factory=dict)
-    """Further files of its control."""
+    more: Mapping[str, str] = field(default_factory=dict)  # further fields
+    control: Entries = field(default_factory=dict)  # further files of its control
 
 
 class Release:

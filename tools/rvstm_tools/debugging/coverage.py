@@ -111,8 +111,7 @@ class SourceFile:
         return {branch.line for branch, ways in self.branches.items() if 0 in ways.both()} & self.ran()
 
 
-Covered = defaultdict[str, SourceFile]
-"""Source files by their paths."""
+Covered = defaultdict[str, SourceFile]  # source files by their paths
 
 
 class InChain(NamedTuple):
@@ -122,8 +121,7 @@ class InChain(NamedTuple):
     line: SourceLine
 
 
-Copy = tuple[InChain, ...]
-"""A line of a function, in one of the places where that is inlined: what is around it, and itself."""
+Copy = tuple[InChain, ...]  # a line of a function, in one of the places where that is inlined: what is around it, and itself
 
 
 def lines_program(path: str, tool: str | None) -> ElfFile:

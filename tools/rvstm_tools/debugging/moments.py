@@ -29,12 +29,9 @@ FEW_STEPS = 64  # that are made one by one, before many are asked for at once
 class Reach:
     """How far searches look. Tests set other numbers."""
 
-    far: int = 100_000
-    """Steps ahead from which on a search begins again, and does not meet all that is between."""
-    span: int = 8192
-    """Steps that are looked through at first for what is before."""
-    times_more: int = 8
-    """How many times more are looked through then."""
+    far: int = 100_000  # steps ahead from which on a search begins again, and does not meet all that is between
+    span: int = 8192  # steps that are looked through at first for what is before
+    times_more: int = 8  # how many times more are looked through then
     few_steps: int = FEW_STEPS
 
 
@@ -72,14 +69,12 @@ class AnyMoment(Debugger):
 class Search:
     """The moments that a line of `debug` leads to, one after another, as far as they were looked for."""
 
-    address: int | None = None
-    """The address that the pc has there, if the search is for one."""
+    address: int | None = None  # the address that the pc has there, if the search is for one
 
     def __init__(self, call: "Call", line: str) -> None:
         self.call = call
         self.line = line
-        self.place: AnyMoment | None = None
-        """The session that was asked, and whose answers are not read yet."""
+        self.place: AnyMoment | None = None  # the session that was asked, and whose answers are not read yet
         self.begin(0)
 
     def begin(self, moment: int) -> None:
@@ -231,8 +226,7 @@ class Call:
         self.changes: dict[Watched, Changes] = {}
         self.end = end_of(self.here_at(0).answer("e"))
         self.now = 0
-        self.last = self.end.steps - 1
-        """The last instruction changes nothing, so the moment after it is not shown."""
+        self.last = self.end.steps - 1  # the last instruction changes nothing, so the moment after it is not shown
         self.seen: State | None = None
 
     def close(self) -> None:

@@ -32,8 +32,7 @@ class Wire:
         self.data = b""
         self.acknowledges = True
         self.is_open = True
-        self.interrupted: float | None = None
-        """When the last interrupt came that did not stop a move yet."""
+        self.interrupted: float | None = None  # when the last interrupt came that did not stop a move yet
 
     def read(self) -> None:
         part = os.read(self.ends.input, PART)

@@ -46,8 +46,7 @@ class Frame:
 
     def __init__(self, caller: "Frame | None" = None, call_pc: int = 0) -> None:
         self.caller = caller
-        self.call_pc = call_pc
-        """The address of the call in the caller."""
+        self.call_pc = call_pc  # the address of the call in the caller
         self.callees: dict[int, Frame] = {}
         self.counts = defaultdict[int, int](int)
 
@@ -72,22 +71,15 @@ class StorageStep:
 
     moment: int
     pc: int
-    number: int
-    """Of the storage call; it may be one that the machine does not have."""
-    key: Key | None
-    """None if it is outside memory."""
-    length: int
-    """The capacity of a READ, the length of a value or of an output."""
-    data: bytes | None
-    """The value or the output, or what a READ copied; None if it is outside memory."""
-    amount: int
-    """Of an ADD."""
+    number: int  # of the storage call; it may be one that the machine does not have
+    key: Key | None  # none if it is outside memory
+    length: int  # the capacity of a READ, the length of a value or of an output
+    data: bytes | None  # the value or the output, or what a READ copied; None if it is outside memory
+    amount: int  # of an ADD
     frame: Frame = field(default_factory=Frame)
-    gas: int = 0
-    """Before it."""
+    gas: int = 0  # before it
     cost: int = 0
-    answer: int | None = None
-    """What is in a0 after a READ; None if the call ended before."""
+    answer: int | None = None  # what is in a0 after a READ; None if the call ended before
 
     def is_known(self) -> bool:
         return self.number < len(charges.NAMES)
@@ -172,10 +164,8 @@ class Replay:
         self.gas = 0
         self.storage_calls: list[StorageStep] = []
         self.entry = self.last_frame = Frame()
-        self.facts: dict[bytes, Fact] = {}
-        """By the addresses, as `debug` prints them."""
-        self.last_cost = 0
-        """What the last instruction costs, which ends the call."""
+        self.facts: dict[bytes, Fact] = {}  # by the addresses, as `debug` prints them
+        self.last_cost = 0  # what the last instruction costs, which ends the call
         with Debugger(call) as session:
             self.total = session.run_to_end()
         with Debugger(call) as steps, Debugger(call) as places:

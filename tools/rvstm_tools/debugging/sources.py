@@ -12,8 +12,7 @@ from rvstm_tools.programs.elf import ElfFile, plain_name
 ADDRESS_TOOLS = ("llvm-addr2line", "riscv64-unknown-elf-addr2line", "riscv32-unknown-elf-addr2line")
 NO_TOOL = f"there is none of {', '.join(ADDRESS_TOOLS)}; install the package llvm"
 UNKNOWN = "??"
-LOCAL_LABEL = ".L"
-"""How a label begins that a compiler made for a jump. A tool takes it for a function if no line is known."""
+LOCAL_LABEL = ".L"  # How a label begins that a compiler made for a jump. A tool takes it for a function if no line is known.
 
 
 class Inlined(NamedTuple):
@@ -28,8 +27,7 @@ class SourceLine(NamedTuple):
     number: int
 
 
-Chains = dict[int, list[Inlined]]
-"""Of addresses the functions that are there, each inlined in the one before it."""
+Chains = dict[int, list[Inlined]]  # of addresses the functions that are there, each inlined in the one before it
 
 
 def address_tool() -> str | None:

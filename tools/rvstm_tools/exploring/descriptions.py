@@ -40,13 +40,10 @@ class Kind:
     program: str
     gas: int
     words: list[str]
-    places: Mapping[str, Place]
-    """What may be there, by the names that calls give it."""
+    places: Mapping[str, Place]  # what may be there, by the names that calls give it
     rules: list[Rule] = field(default_factory=list)
-    ends: set[End] = field(default_factory=lambda: {End.RETURNED, End.REVERTED})
-    """How it may end."""
-    method: Method | None = None
-    """What a model is asked for."""
+    ends: set[End] = field(default_factory=lambda: {End.RETURNED, End.REVERTED})  # how it may end
+    method: Method | None = None  # what a model is asked for
 
     def words_with(self, values: Mapping[str, Value]) -> list[str]:
         return [word.format_map(values) for word in self.words]
@@ -78,14 +75,10 @@ class Description:
         self.always: list[Rule] = []
         self.at_end: list[Rule] = []
         self.kinds: list[Kind] = []
-        self.stores: list[str] = []
-        """The lines `store`."""
-        self.shapes: list[str] = []
-        """The lines `shape`."""
-        self.dump: str | None = None
-        """The file of the storage that they are put over."""
-        self.folder = Path(os.path.abspath(path)).parent
-        """Where paths are taken from."""
+        self.stores: list[str] = []  # the lines `store`
+        self.shapes: list[str] = []  # the lines `shape`
+        self.dump: str | None = None  # the file of the storage that they are put over
+        self.folder = Path(os.path.abspath(path)).parent  # where paths are taken from
         self.model: ModelClass | None = None
         self.is_over = False
         with open(path, encoding="utf-8", errors="surrogateescape") as file:

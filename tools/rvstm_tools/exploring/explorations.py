@@ -23,10 +23,8 @@ class Plan:
     rvstm: Path
     description: Description
     limits: Limits
-    jobs: int
-    """How many processes search."""
-    out: Path | None
-    """The file for the list of the finding."""
+    jobs: int  # how many processes search
+    out: Path | None  # the file for the list of the finding
     folder: Folder | None
 
 

@@ -17,8 +17,7 @@ MODEL = "model"
 OF_BEFORE = frozenset({"value", "fields", *NUMBERS})
 OWNERS = ("before", "every")
 
-Names = dict[str, object]
-"""What expressions see, by its names."""
+Names = dict[str, object]  # what expressions see, by its names
 
 
 class Loaded(NamedTuple):

@@ -15,16 +15,12 @@ STATE, LIST = "explored.json", "found.list"
 
 @dataclass(frozen=True)
 class State:
-    description: str
-    """The SHA-256 of its text."""
-    programs: str
-    """The SHA-256 of the files."""
+    description: str  # the SHA-256 of its text
+    programs: str  # the SHA-256 of the files
     seed: int
     length: int
-    next: int
-    """All sequences below this one were made, and broke nothing."""
-    found: list[SavedCall] | None
-    """The shortest sequence that breaks something."""
+    next: int  # all sequences below this one were made, and broke nothing
+    found: list[SavedCall] | None  # the shortest sequence that breaks something
 
 
 def digest_of(*parts: bytes) -> str:

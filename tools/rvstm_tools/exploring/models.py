@@ -97,8 +97,7 @@ class ModelClass:
 class Model:
     def __init__(self, of: ModelClass, state: object) -> None:
         self.of = of
-        self.state = state
-        """The instance of the author's class."""
+        self.state = state  # the instance of the author's class
 
     def difference(self, method: str, values: Mapping[str, Value], end: End, output: bytes) -> str | None:
         """What a call should have answered by a method, and what it did; None if the two agree."""

@@ -19,11 +19,9 @@ class OutputOf(NamedTuple):
     call: int
 
 
-Source = Key | OutputOf
-"""Where a number comes from."""
+Source = Key | OutputOf  # where a number comes from
 
-FromSources = dict[Source, int]
-"""The numbers that a sequence changed or returned so far, those of the last call first."""
+FromSources = dict[Source, int]  # the numbers that a sequence changed or returned so far, those of the last call first
 
 
 def add(numbers: FromSources, at: int, outcome: Receipt, run: Run) -> FromSources:

@@ -28,8 +28,7 @@ class DrawnBytes(bytes):
         return self.hex()
 
 
-Value = str | int | DrawnBytes
-"""What is in a place of a call."""
+Value = str | int | DrawnBytes  # what is in a place of a call
 
 
 class Span(NamedTuple):

@@ -75,16 +75,12 @@ class Run:
         self.description = description
         self.storage = StorageByReceipts(description.blocks.view)
         self.counts = collections.Counter[Counted]()
-        self.calls = 0
-        """How many calls were made in all."""
-        self.done = 0
-        """How many calls of the sequence broke nothing."""
-        self.outcomes: list[Receipt] = []
-        """Of the sequence."""
+        self.calls = 0  # how many calls were made in all
+        self.done = 0  # how many calls of the sequence broke nothing
+        self.outcomes: list[Receipt] = []  # of the sequence
         self.seen = collections.deque[int](maxlen=MOST_SEEN)
         self.model: Model | None = None
-        self.watch: Callable[[Call, Receipt], None] | None = None
-        """What sees each call that was made."""
+        self.watch: Callable[[Call, Receipt], None] | None = None  # what sees each call that was made
         self.numbers = {name: number for number, name in enumerate(description.programs)}
         for text in description.stores:
             self.storage.new_key(words.words_of(text)[1])

@@ -37,8 +37,7 @@ class Limits:
     length: int
     seconds: float | None
     seed: int
-    first: int = 0
-    """The number of the first sequence."""
+    first: int = 0  # the number of the first sequence
 
     def length_of(self, sequence: int) -> int:
         """How many calls a sequence has at most; none if the search ends before it."""
@@ -69,8 +68,7 @@ class Made:
     counts: collections.Counter[Counted]
     is_whole: bool
     found: Found | None
-    samples: list[Sample]
-    """Calls that ended in a new way."""
+    samples: list[Sample]  # calls that ended in a new way
 
 
 @dataclass(frozen=True)
@@ -149,8 +147,7 @@ class Task:
 class Worker:
     def __init__(self, task: Task) -> None:
         self.output, to = FORK.Pipe(duplex=False)
-        self.next = task.first
-        """All of its sequences below this one are made."""
+        self.next = task.first  # all of its sequences below this one are made
         self.step = task.step
         task.others = [*task.others, self.output]
         self.process: ForkProcess = FORK.Process(target=task.do, args=(to,), daemon=True)
@@ -184,18 +181,14 @@ class Search:
 
     def __init__(self, limits: Limits, watch: Callable[["Search", list[Sample]], None] | None = None) -> None:
         self.limits = limits
-        self.watch = watch
-        """What sees it while it lasts, with calls that ended in a new way."""
+        self.watch = watch  # what sees it while it lasts, with calls that ended in a new way
         self.begun = time.monotonic()
-        self.seconds = 0.0
-        """How long it lasted."""
+        self.seconds = 0.0  # how long it lasted
         self.calls = 0
         self.counts = collections.Counter[Counted]()
-        self.next = limits.first
-        """All sequences below this one are made, and break nothing."""
+        self.next = limits.first  # all sequences below this one are made, and break nothing
         self.found: Found | None = None
-        self._waiting: dict[int, Made] = {}
-        """Those above it."""
+        self._waiting: dict[int, Made] = {}  # those above it
 
     def search(self, rvstm: Path, description: Description, jobs: int) -> None:
         seconds = math.inf if self.limits.seconds is None else self.limits.seconds

@@ -27,8 +27,7 @@ class Shorter:
 
     def __init__(self, run: Run, finding: Finding, seconds: float, watch: Callable[["Shorter"], None] | None = None) -> None:
         self.run = run
-        self.finding = finding
-        """The best so far."""
+        self.finding = finding  # the best so far
         self.watch = watch
         self.begun = time.monotonic()
         self.deadline = self.begun + seconds

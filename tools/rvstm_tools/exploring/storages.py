@@ -59,10 +59,8 @@ class StorageByReceipts:
     def __init__(self, shapes: View) -> None:
         self.shapes = shapes
         self.data: Storage = {}
-        self.changed: dict[Key, bytes | None] = {}
-        """What the keys had that the last call changed."""
-        self.words: dict[Key, str] = {}
-        """The words by which keys are called."""
+        self.changed: dict[Key, bytes | None] = {}  # what the keys had that the last call changed
+        self.words: dict[Key, str] = {}  # the words by which keys are called
         self.key_of = functools.lru_cache(maxsize=1 << 14)(self.new_key)
 
     def new_key(self, word: str | bytes) -> Key:

@@ -21,8 +21,7 @@ INSTRUCTIONS = {
     **dict.fromkeys(("lb", "lh", "lw", "lbu", "lhu", "sb", "sh", "sw"), 2),
 }
 OF_ALL_OTHERS = 1
-FREE_ENDS = (End.FETCH_FAULT, End.ILLEGAL, End.UNKNOWN_CALL, End.BAD_LENGTH)
-"""These ends come before the instruction is charged."""
+FREE_ENDS = (End.FETCH_FAULT, End.ILLEGAL, End.UNKNOWN_CALL, End.BAD_LENGTH)  # these ends come before the instruction is charged
 
 
 def of_instruction(text: str) -> int:

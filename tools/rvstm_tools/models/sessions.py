@@ -17,8 +17,7 @@ from rvstm_tools.texts.keys import Key, Storage
 
 HIGHEST = 9_999_999_999
 LONGEST_PROGRAM = 131_072
-NO_DIGEST = bytes(32)
-"""The digest of a new session that keeps one."""
+NO_DIGEST = bytes(32)  # the digest of a new session that keeps one
 
 NO_PROGRAM = answers.refused(b"frame NoProgram 3")
 TOO_LONG_FRAME = answers.refused(b"frame TooLong 4")

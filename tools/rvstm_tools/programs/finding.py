@@ -28,11 +28,9 @@ PREFIXES = (Path(sys.prefix), Path("/usr/local"), Path("/usr"))
 
 @dataclass(frozen=True)
 class Home:
-    top: Path
-    """The folder that has the examples and the SDK: a checkout, or share/rvstm-sdk of a package or of an archive."""
+    top: Path  # the folder that has the examples and the SDK: a checkout, or share/rvstm-sdk of a package or of an archive
     is_checkout: bool = True
-    beside: Path | None = None
-    """The program of the same archive."""
+    beside: Path | None = None  # the program of the same archive
 
 
 def home_of(package: Path, prefixes: Sequence[Path] = PREFIXES) -> Home:

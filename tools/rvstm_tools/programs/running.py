@@ -35,8 +35,7 @@ class Runner(Protocol):
 @dataclass(frozen=True)
 class Program:
     path: Path
-    seconds: float | None = None
-    """How long a run may last."""
+    seconds: float | None = None  # how long a run may last
 
     def run(self, words: Sequence[str], folder: Path) -> Printed:
         try:

@@ -31,8 +31,7 @@ class Link:
     target: str
 
 
-Entries = dict[str, File | Link]
-"""Files and links by their paths."""
+Entries = dict[str, File | Link]  # files and links by their paths
 
 
 class Member(NamedTuple):

@@ -15,8 +15,7 @@ SHOWN_OF_WRONG_LINE = 200  # bytes
 class Kind(Bytes):
     OK = b"ok"
     REFUSED = b"refused"
-    FAILED = b"failed"
-    """This machine could not do what was asked for; another one may."""
+    FAILED = b"failed"  # this machine could not do what was asked for; another one may
 
 
 def said(line: bytes) -> str:

@@ -14,10 +14,8 @@ from rvstm_tools.texts import lists, results, tables
 from rvstm_tools.texts.keys import KEY_LENGTH, Key
 from rvstm_tools.texts.views import View
 
-LISTS = ".list"
-"""How the name of a list ends. Every other file of a frame is a block file."""
-MOST_KEYS = 1024
-"""Of one answer to `list`."""
+LISTS = ".list"  # How the name of a list ends. Every other file of a frame is a block file.
+MOST_KEYS = 1024  # of one answer to `list`
 FIRST_KEY = Key(bytes(KEY_LENGTH))
 NONE = "      none"
 
@@ -46,8 +44,7 @@ class Client:
     def __init__(self, session: Session, view: View) -> None:
         self.session = session
         self.view = view
-        self.keys: set[Key] = set()
-        """Those that answers had so far."""
+        self.keys: set[Key] = set()  # those that answers had so far
 
     def answer(self, request: Request) -> Answer:
         """The answer to a request. A session that ended before it is an error, with what it said."""

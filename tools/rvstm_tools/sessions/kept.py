@@ -18,12 +18,10 @@ class KeptSession:
 
     def __init__(self, start: Callable[[], Session], programs: Sequence[Request] = ()) -> None:
         self.start_session = start
-        self.programs = programs
-        """The requests that each process gets first; a program that is there already may be handed in again."""
+        self.programs = programs  # the requests that each process gets first; a program that is there already may be handed in again
         self.deaths = 0
         self.begin()
-        self.height = self.state.height
-        """The last frame that was answered here."""
+        self.height = self.state.height  # the last frame that was answered here
 
     def begin(self) -> None:
         """Starts processes until one has the programs and says its state. A process that ended by itself is an error."""
@@ -43,8 +41,7 @@ class KeptSession:
                 self.session.kill()
                 raise UserError(f"the session does not begin: {'no answer' if answer is None else answer.said}")
         assert isinstance(state, Done)
-        self.state: State = answers.state_of(state.body)
-        """What the process that runs said when it began."""
+        self.state: State = answers.state_of(state.body)  # what the process that runs said when it began
 
     def look_how_it_ended(self) -> None:
         """Reports an end that is no kill."""

@@ -17,8 +17,7 @@ class Settings(NamedTuple):
     digest: bool = False
     brief: bool = False
     workers: int | None = None
-    store: str | None = None
-    """The file that it is kept in."""
+    store: str | None = None  # the file that it is kept in
 
     def words(self) -> list[str]:
         words = ["chain"]

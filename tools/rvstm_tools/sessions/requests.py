@@ -35,15 +35,13 @@ class Word(Bytes):
     QUIT = b"q"
 
 
-WITH_BODY = (Word.PROGRAM, Word.FRAME, Word.TRY, Word.BEGIN)
-"""The words of requests whose line is followed by bytes."""
+WITH_BODY = (Word.PROGRAM, Word.FRAME, Word.TRY, Word.BEGIN)  # the words of requests whose line is followed by bytes
 
 
 class Fault(Bytes):
     """Why an input has no request where one is looked for."""
 
-    NONE = b""
-    """It ends there."""
+    NONE = b""  # it ends there
     BAD_LINE = b"request BadLine 1\n"
     CUT = b"request Cut 2\n"
 
@@ -51,8 +49,7 @@ class Fault(Bytes):
 class Request(NamedTuple):
     """A request: its word, the fields of its line without the length, and the bytes after the line."""
 
-    word: bytes
-    """One of `Word`."""
+    word: bytes  # one of `Word`
     fields: tuple[bytes, ...] = ()
     body: bytes = b""
 

@@ -17,8 +17,7 @@ from rvstm_tools.texts.keys import Key
 
 PROMPT = "rvstm> "
 HASH = re.compile("[0-9a-f]{64}")
-HIGHEST = 9_999_999_999
-"""The greatest height."""
+HIGHEST = 9_999_999_999  # the greatest height
 NO_DIGEST = "0" * 64
 HELP, QUIT = "help", "q"
 
@@ -28,12 +27,10 @@ class Form:
     """A request that may be typed: its words, what it does, and how it is done."""
 
     word: str
-    arguments: str
-    """The names of the words after it; those in brackets may be left out."""
+    arguments: str  # the names of the words after it; those in brackets may be left out
     help: str
     run: Callable[[Client, Sequence[str]], Iterator[str]]
-    completes: str = ""
-    """What the words after it are: `file`, `key`, or nothing."""
+    completes: str = ""  # what the words after it are: `file`, `key`, or nothing
 
     @property
     def text(self) -> str:

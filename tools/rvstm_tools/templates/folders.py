@@ -32,12 +32,9 @@ OF_LANGUAGE = {
 
 @dataclass(frozen=True)
 class Places:
-    name: str
-    """Of the contract and its files."""
-    sdk: str
-    """The folder of the SDK."""
-    tools: str
-    """How a shell runs rvstm-tools."""
+    name: str  # of the contract and its files
+    sdk: str  # the folder of the SDK
+    tools: str  # how a shell runs rvstm-tools
 
 
 def check_name(name: str, language: Language) -> None:

@@ -10,8 +10,7 @@ from rvstm_tools.testing import reports
 from rvstm_tools.testing.gastables import GasDifference
 from rvstm_tools.testing.testers import Tried
 
-NO_LETTERS = re.compile("[^\t\n\r\x20-\ud7ff\ue000-\ufffd\U00010000-\U0010ffff]")
-"""What XML has no letter for."""
+NO_LETTERS = re.compile("[^\t\n\r\x20-\ud7ff\ue000-\ufffd\U00010000-\U0010ffff]")  # what XML has no letter for
 NAME = "rvstm-tools test"
 
 

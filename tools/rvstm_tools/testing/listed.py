@@ -16,8 +16,7 @@ from rvstm_tools.texts.views import View
 class CallPart:
     """The lines `expect` after a call, by their numbers."""
 
-    call: int
-    """Its number in the block."""
+    call: int  # its number in the block
     expectations: dict[int, CallExpectation] = field(default_factory=dict)
 
     def keys(self) -> frozenset[Key]:
@@ -43,10 +42,8 @@ class ListedTest:
     block: Block
     calls: list[CallPart]
     storage: StoragePart | None
-    view: View
-    """What the list says of keys and values."""
-    lines: list[str]
-    """All lines of the file, with what ends them there."""
+    view: View  # what the list says of keys and values
+    lines: list[str]  # all lines of the file, with what ends them there
 
     def count(self) -> int:
         """How many lines `expect` there are."""

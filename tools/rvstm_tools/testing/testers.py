@@ -27,14 +27,10 @@ class Planned:
 @dataclass(frozen=True)
 class Tried:
     planned: Planned
-    refusal: str
-    """Why the block did not run; empty if it ran."""
-    misses: Sequence[Miss]
-    """The lines that are not met, if it ran."""
-    gas: Sequence[int]
-    """Of each call, if it ran."""
-    most_gas: Mapping[int, int]
-    """For each line `gas at most` what came."""
+    refusal: str  # why the block did not run; empty if it ran
+    misses: Sequence[Miss]  # the lines that are not met, if it ran
+    gas: Sequence[int]  # of each call, if it ran
+    most_gas: Mapping[int, int]  # for each line `gas at most` what came
     seconds: float
 
     @property
@@ -50,10 +46,8 @@ class Tried:
 class Tester:
     def __init__(self, runner: Runner, *, is_update: bool = False, jobs: int = 1) -> None:
         self.runner = runner
-        self.is_update = is_update
-        """Whether lines `gas at most` are written again, and never count as not met."""
-        self.jobs = jobs
-        """How many run at once."""
+        self.is_update = is_update  # whether lines `gas at most` are written again, and never count as not met
+        self.jobs = jobs  # how many run at once
 
     def tried(self, tests: Sequence[ListedTest], variants: Sequence[str] = ()) -> Iterator[Tried]:
         """Runs each test by its own programs, and again by each variant that has others. What comes of them is in this order."""

@@ -58,8 +58,7 @@ class CallLine(NamedTuple):
 class Block:
     storage: Storage = field(default_factory=dict)
     rules: Rules = Rules.ONE
-    programs: dict[str, ProgramFile] = field(default_factory=dict)
-    """By their names, in the order of the list."""
+    programs: dict[str, ProgramFile] = field(default_factory=dict)  # by their names, in the order of the list
     calls: list[Call] = field(default_factory=list)
 
     def paths(self) -> list[str]:

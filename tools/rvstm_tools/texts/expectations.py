@@ -17,21 +17,17 @@ MOST_WORKERS = 32
 MOST_AMOUNT = 2**64 - 1
 WRONG_ADD = "add: one amount follows it, and the line follows a call"
 FORMS = "returned, reverted, out-of-gas, trapped, gas at most, same by, no other or a key"
-NEXT_LINE = f"\n{'':16}"
-"""Before each further change that an expectation shows."""
+NEXT_LINE = f"\n{'':16}"  # before each further change that an expectation shows
 
-LineDifference = tuple[str, str]
-"""Two lines that differ: the one of the run in order, and what came in its place."""
+LineDifference = tuple[str, str]  # two lines that differ: the one of the run in order, and what came in its place
 
 
 @dataclass(frozen=True)
 class Scene:
     """What expectations know beside what they are compared with."""
 
-    keys: frozenset[Key]
-    """That the lines of the same part name."""
-    view: View
-    """What the list says of keys and values."""
+    keys: frozenset[Key]  # that the lines of the same part name
+    view: View  # what the list says of keys and values
     difference: Callable[[int], LineDifference | None]
     """Runs the block by so many workers, and returns where that differs from the run in order."""
 

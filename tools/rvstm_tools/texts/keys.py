@@ -6,15 +6,13 @@ from typing import NewType
 from rvstm_tools.errors import UserError
 from rvstm_tools.texts import numbers
 
-Key = NewType("Key", bytes)
-"""A key of the storage: exactly `KEY_LENGTH` bytes."""
+Key = NewType("Key", bytes)  # a key of the storage: exactly `KEY_LENGTH` bytes
 
 Storage = dict[Key, bytes]
 
 KEY_LENGTH = 32
 ACCOUNT_LENGTH = 20
-GREATEST_NUMBER = 255
-"""Of a key `key:N`. Another number is written in hex, since one may expect it in more than the last byte."""
+GREATEST_NUMBER = 255  # Of a key `key:N`. Another number is written in hex, since one may expect it in more than the last byte.
 
 
 def key_of(data: bytes, word: str) -> Key:

@@ -70,8 +70,7 @@ class BlockReader:
 
     def __init__(self, storage: Storage) -> None:
         self.block = Block(storage)
-        self.view = View()
-        """The shapes of the list."""
+        self.view = View()  # the shapes of the list
         self._stored: set[Key] = set()
         self._is_begun = False
         self._has_rules = False

@@ -6,8 +6,7 @@ from collections.abc import Iterable, Iterator
 from rvstm_tools.texts.keys import Key
 from rvstm_tools.texts.results import Added, Change, Receipt, Removed, Stored
 
-Object = dict[str, object]
-"""An object of JSON."""
+Object = dict[str, object]  # an object of JSON
 
 
 def json_lines(items: Iterable[Receipt | Stored], *, has_registers: bool) -> Iterator[str]:

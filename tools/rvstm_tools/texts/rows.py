@@ -11,8 +11,7 @@ from dataclasses import dataclass
 from rvstm_tools.texts.keys import KEY_LENGTH, Key
 
 NAME_LENGTH = 4
-LONG_ROW = KEY_LENGTH - NAME_LENGTH
-"""The length of each row of a table whose keys do not have it."""
+LONG_ROW = KEY_LENGTH - NAME_LENGTH  # the length of each row of a table whose keys do not have it
 LONGEST_SHORT_ROW = LONG_ROW - 1
 TABLE = re.compile("[A-Za-z]{1,4}")
 NAME_OF_KEY = re.compile(rb"([A-Za-z]{1,4})\0*")

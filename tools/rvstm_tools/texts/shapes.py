@@ -12,11 +12,9 @@ TYPE = re.compile("([ui])(8|16|32|64)|(key|account)|(text|bytes)(?::([0-9]+))?")
 NAME = re.compile(r"[A-Za-z_]\w*", re.ASCII)
 TYPE_WORDS = frozenset({"key", "account", "text", "bytes", *(f"{sign}{bits}" for sign in "ui" for bits in (8, 16, 32, 64))})
 TYPES = "u8 .. u64, i8 .. i64, key, account, text, text:N, bytes or bytes:N"
-OF_WORDS = frozenset({"row", "table", "hex"}) | TYPE_WORDS - {"text", "bytes"}
-"""What is before the colon of a word of a list."""
+OF_WORDS = frozenset({"row", "table", "hex"}) | TYPE_WORDS - {"text", "bytes"}  # what is before the colon of a word of a list
 REPEATED = ".."
-LONGEST_FIELD = 4096
-"""Bytes that a text or bytes may have."""
+LONGEST_FIELD = 4096  # bytes that a text or bytes may have
 
 
 class Kind(enum.Enum):
@@ -26,11 +24,9 @@ class Kind(enum.Enum):
     SIGNED = enum.auto()
     KEY = enum.auto()
     ACCOUNT = enum.auto()
-    TEXT = enum.auto()
-    """Printable bytes, and zeros after them."""
+    TEXT = enum.auto()  # printable bytes, and zeros after them
     BYTES = enum.auto()
-    FIXED = enum.auto()
-    """Always the same bytes, such as the number that says what an input asks for."""
+    FIXED = enum.auto()  # always the same bytes, such as the number that says what an input asks for
 
 
 @dataclass(frozen=True)
@@ -40,8 +36,7 @@ class Field:
     name: str
     kind: Kind
     length: int | None
-    word: str
-    """The word of the list that says it."""
+    word: str  # the word of the list that says it
 
     def misfit(self, data: bytes) -> str:
         """Why bytes of the right length are not this field; empty if they are."""

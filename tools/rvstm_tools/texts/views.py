@@ -17,27 +17,21 @@ FieldValue = int | str | bytes
 LONGEST_VALUE = 256
 ROW_TARGET = re.compile(r"row:([^:\[]*)(?:\[(.*)\])?")
 TABLE_TARGET = re.compile("table:[^:]+")
-BARE = re.compile(r"[A-Za-z_][\w.-]*", re.ASCII)
-"""Of a key or an account whose text is shown without quotes."""
-FIELDS_AROUND = 1
-"""How many fields are shown before and after the one that differs, if all are too long for a line."""
+BARE = re.compile(r"[A-Za-z_][\w.-]*", re.ASCII)  # of a key or an account whose text is shown without quotes
+FIELDS_AROUND = 1  # how many fields are shown before and after the one that differs, if all are too long for a line
 
 
 @dataclass
 class View:
     """What a list says of keys, values and inputs."""
 
-    names: dict[Key, str] = field(default_factory=dict)
-    """The words by which keys are called."""
+    names: dict[Key, str] = field(default_factory=dict)  # the words by which keys are called
     of_keys: dict[Key, Shape] = field(default_factory=dict)
     of_tables: dict[str, Shape] = field(default_factory=dict)
     """The shapes of the values of all rows of a table, by the words that begin the names of its keys, such as `row:lots`."""
-    rows: dict[str, tuple[Field, ...]] = field(default_factory=dict)
-    """The fields of the rows of a table, in its keys."""
-    long_tables: set[str] = field(default_factory=set)
-    """The tables whose rows have 28 bytes."""
-    short_tables: set[str] = field(default_factory=set)
-    """The tables whose rows have at most 27 bytes."""
+    rows: dict[str, tuple[Field, ...]] = field(default_factory=dict)  # the fields of the rows of a table, in its keys
+    long_tables: set[str] = field(default_factory=set)  # the tables whose rows have 28 bytes
+    short_tables: set[str] = field(default_factory=set)  # the tables whose rows have at most 27 bytes
     inputs: dict[str, Shape] = field(default_factory=dict)
 
     # ---- lines of a list

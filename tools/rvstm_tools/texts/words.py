@@ -17,8 +17,7 @@ FORMS = (
     'not bytes in hex, "text", u8:N .. u64:N, i8:N .. i64:N, key:text, key:N, account:name, row:TABLE:name, table:TAG:text '
     "or hex:BYTES"
 )
-NUMBER_SIZES = (1, 2, 4, 8)
-"""How many bytes a number may have."""
+NUMBER_SIZES = (1, 2, 4, 8)  # how many bytes a number may have
 
 
 def words_of(line: str) -> list[str]:
