@@ -32,8 +32,6 @@ class Enumeration:
 
 @dataclass(frozen=True)
 class Refusal:
-    """A refusal as it is printed, and when it comes."""
-
     message: str
     when: str
 

@@ -38,8 +38,6 @@ class Names:
 
 @dataclass(frozen=True)
 class Book:
-    """What a reader of some clauses must read."""
-
     reading: Reading
 
     @property

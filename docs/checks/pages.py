@@ -34,8 +34,6 @@ FOLDERS = ("", "crates", "docs", "sdk", "bench", "tests")
 
 @dataclass(frozen=True)
 class Named:
-    """A call that a page names, with the clauses after it."""
-
     call: str
     clauses: tuple[str, ...]
 

@@ -74,8 +74,6 @@ def cited_by(asked: Iterable[Asked]) -> set[Cited]:
 
 @dataclass(frozen=True)
 class Reading:
-    """What a reader of some clauses must read."""
-
     asked: list[Asked]
     cited: set[Cited]  # the definitions and types, and the names of the kit, without what was read before
     before: set[Cited]

@@ -142,8 +142,6 @@ def program_file(entry: int, content: bytes, segments: Sequence[Segment]) -> byt
 
 
 class Part(NamedTuple):
-    """A segment of its own bytes, and its rights."""
-
     address: int
     data: bytes
     rights: int

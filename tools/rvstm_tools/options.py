@@ -40,8 +40,6 @@ def new_file(word: str) -> Path:
 
 @dataclass(frozen=True)
 class Command:
-    """A subcommand: its name, the texts of its help, its options, and what it does."""
-
     name: str
     summary: str
     details: str

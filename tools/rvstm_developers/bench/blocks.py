@@ -22,8 +22,6 @@ SPEED_PROGRAMS = ("sha256", "sieve", "crc32")  # the programs of speed.block, by
 
 
 class Input(NamedTuple):
-    """The most gas of a call, and its input."""
-
     gas: int
     data: bytes
 

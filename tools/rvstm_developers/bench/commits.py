@@ -46,8 +46,6 @@ WAYS = (Way("1", "1"), Way("1", "2"), Way("0", "1"))
 
 
 class SystemCall(NamedTuple):
-    """A call of the system that strace shows: its name, the file, and what it returned."""
-
     name: str
     path: str
     result: int

@@ -21,8 +21,6 @@ WAYS = (("seq",), ("run", "--workers", "1"))
 
 @dataclass(frozen=True)
 class Program:
-    """A program that never ends: its name, its path, and the input of its call."""
-
     name: str
     path: str
     data: bytes = b""

@@ -54,8 +54,6 @@ def begun(rvstm: Path, keys: list[Key], store: str | None = None) -> Session:
 
 @dataclass(frozen=True)
 class Answered:
-    """The bytes of a good answer, and the seconds that the session had of the processors."""
-
     body: bytes
     seconds: float
 

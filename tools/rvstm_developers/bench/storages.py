@@ -67,8 +67,6 @@ def frame(name: str, calls: Sequence[bytes]) -> Request:
 
 
 class Measured:
-    """A session over so many keys of a kind, with what each act took in each round."""
-
     def __init__(self, rvstm: Path, files: Mapping[str, bytes], key: KeyOf, keys: int) -> None:
         self.session = Session(rvstm, Settings(FRAME_LIMIT))
         names = {source: frames.name_of(file) for source, file in files.items()}
@@ -120,8 +118,6 @@ def grown(rvstm: Path, files: Mapping[str, bytes], keys: int) -> str:
 
 @dataclass(frozen=True)
 class Kind:
-    """The sessions over storages of one kind of keys: by their sizes, of each program one."""
-
     name: str
     measured: dict[int, list[Measured]]
 

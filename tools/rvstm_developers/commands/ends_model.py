@@ -42,8 +42,6 @@ class Edge(NamedTuple):
 
 
 class Most(NamedTuple):
-    """The most work of a way, and the bound there."""
-
     work: int
     bound: int
 
@@ -178,8 +176,6 @@ def random_call(choice: Random) -> Contract:
 
 
 class Extreme(NamedTuple):
-    """What walks reach: the share of the bound, the rounds for each call, and the highest incarnation."""
-
     share: float = 0
     rounds: float = 0
     incarnation: int = 0

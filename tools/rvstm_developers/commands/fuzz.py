@@ -49,8 +49,6 @@ class Kind(enum.Enum):
 
 @dataclass(frozen=True)
 class Seed:
-    """A file of the repository, and the folder from where it takes its paths."""
-
     folder: Path
     data: bytes
 

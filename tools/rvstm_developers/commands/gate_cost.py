@@ -43,8 +43,6 @@ class Identity(NamedTuple):
 
 @dataclass(frozen=True)
 class Process:
-    """A process that runs: its parent, and the seconds that it used."""
-
     identity: Identity
     parent: int
     seconds: float

@@ -52,8 +52,6 @@ class Usage(NamedTuple):
 
 @dataclass(frozen=True)
 class StackRow:
-    """A command whose least stack is looked for: its name, what it has to print, and its options."""
-
     command: str
     wanted: Callable[[Block], bytes]
     options: tuple[str, ...] = ()
@@ -122,8 +120,6 @@ class Bench:
 
 
 class Row(NamedTuple):
-    """A row: its name, how its trial is made, and how it is run."""
-
     name: str
     make: Callable[[], Trial]
     tell: Callable[[str, Trial], None]

@@ -11,8 +11,6 @@ KINDS_SHOWN = 8
 
 
 class Module(NamedTuple):
-    """A module that a check kept: when it was written, and its name."""
-
     time: float
     name: str
 

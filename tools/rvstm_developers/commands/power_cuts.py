@@ -33,8 +33,6 @@ Item = TypeVar("Item")
 
 @dataclass(frozen=True)
 class Recorded:
-    """A session that was recorded: what the file and its log were before, and its steps."""
-
     before: Both
     steps: list[Step]
 
@@ -70,8 +68,6 @@ class Image:
 
 @dataclass(frozen=True)
 class Opened:
-    """What an image holds, and what is bad about it; None if nothing is."""
-
     state: bytes
     bad: str | None = None
 

@@ -36,8 +36,6 @@ LENGTH_REGISTER = 11
 
 @dataclass(frozen=True)
 class Moment:
-    """A moment of a replay: the pc, and the text of the instruction there."""
-
     pc: int
     text: str
 

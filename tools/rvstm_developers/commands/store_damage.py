@@ -57,8 +57,6 @@ class BySqlite:
 
 @dataclass(frozen=True)
 class Came:
-    """What came of a session over a damaged file, and whether it may come."""
-
     what: str
     is_allowed: bool = False
 

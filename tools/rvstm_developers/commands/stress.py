@@ -27,8 +27,6 @@ MOST_WRITES = 256
 
 @dataclass(frozen=True)
 class Way:
-    """One way in which a block was run: its name, how it ended, and the number of workers if they counted."""
-
     name: str
     ended: Ended
     counting_workers: int | None = None

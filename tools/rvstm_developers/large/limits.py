@@ -43,8 +43,6 @@ class Trial(NamedTuple):
 
 
 class BadBlock(NamedTuple):
-    """How a block file is made, and by which words it is refused."""
-
     make: Callable[[], bytes]
     words: str
 

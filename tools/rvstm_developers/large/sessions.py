@@ -38,8 +38,6 @@ class Maker:
 
 @dataclass(frozen=True)
 class Exchange:
-    """A part of a session: its input, and what it has to be answered."""
-
     text: bytes
     answers: bytes
 

@@ -89,8 +89,6 @@ def encoded(row: Instruction) -> int:
 
 
 class Program:
-    """A program of one page of text, and its file."""
-
     def __init__(self, source: Sequence[str], data: bytes = b"") -> None:
         self.source, self.data = source, data
         self.code = instructions_of(source)

@@ -148,8 +148,6 @@ class Recorded(NamedTuple):
 
 
 class Call(NamedTuple):
-    """A call: the call that it is parked on, if there is one, and its last run."""
-
     status: Status = Status.READY
     incarnation: int = 0
     parked: int | None = None
@@ -187,8 +185,6 @@ class Moving:
 
 @dataclass(frozen=True, slots=True)
 class Validating:
-    """A validation of a run: how many reads are left, and whether one failed."""
-
     call: int
     incarnation: int
     left: int

@@ -70,8 +70,6 @@ class Parameter(NamedTuple):
 
 @dataclass(frozen=True)
 class Function:
-    """A function: the type that it is of, its parameters, and the type of its result."""
-
     owner: str | None
     name: str
     parameters: Sequence[Parameter]

@@ -45,8 +45,6 @@ The same commit and the same built files give the same bytes. The time of all fi
 
 @dataclass(frozen=True)
 class Package:
-    """A package of Debian: its name, its architecture and section, its text, its files, and what it depends on."""
-
     name: str
     architecture: str
     section: str

@@ -30,8 +30,6 @@ class CallOf:
 
 
 class Place(NamedTuple):
-    """Where a replay is: the moment, the pc, and the text of the instruction there."""
-
     moment: int
     pc: int
     text: str

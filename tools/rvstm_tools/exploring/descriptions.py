@@ -65,8 +65,6 @@ class Kind:
 
 
 class Description:
-    """A file that says which calls there are, and what has to hold."""
-
     def __init__(self, path: str) -> None:
         self.path = path
         self.blocks = BlockReader({})

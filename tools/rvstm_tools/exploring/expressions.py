@@ -63,8 +63,6 @@ def new_name(name: str) -> str:
 
 @dataclass(frozen=True)
 class Rule:
-    """A line with an expression: its first word, which says when it has to hold, its number, the text and its code."""
-
     when: str
     line: int
     text: str

@@ -37,8 +37,6 @@ def add(numbers: FromSources, at: int, outcome: Receipt, run: Run) -> FromSource
 
 
 class Moving:
-    """Leaves out calls of a finding, and moves the numbers of those after it."""
-
     def __init__(self, run: Run, finding: Finding) -> None:
         self.run = run
         self.calls = finding.calls

@@ -37,8 +37,6 @@ class Way(NamedTuple):
 
 @dataclass(frozen=True)
 class Sample:
-    """A call that ended in a new way: its program, gas and input, and the storage before it."""
-
     way: Way
     program: str
     gas: int

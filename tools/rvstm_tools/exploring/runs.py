@@ -57,8 +57,6 @@ class Counted(NamedTuple):
 
 @dataclass(frozen=True)
 class Finding:
-    """A sequence that breaks something: its calls up to the one that does, how each ended, and what it breaks."""
-
     calls: Sequence[Call]
     outcomes: Sequence[Receipt]
     broken: Broken

@@ -23,8 +23,6 @@ class Over(Exception):
 
 
 class Shorter:
-    """Makes a sequence shorter and simpler, as long as it breaks the same rule."""
-
     def __init__(self, run: Run, finding: Finding, seconds: float, watch: Callable[["Shorter"], None] | None = None) -> None:
         self.run = run
         self.finding = finding  # the best so far

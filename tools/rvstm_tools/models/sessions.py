@@ -63,8 +63,6 @@ class Ran:
 
 
 class Outcome(NamedTuple):
-    """What a session writes for a whole input: the answers, what is on standard error, and the status."""
-
     output: bytes
     errors: bytes
     status: int

@@ -44,8 +44,6 @@ class Visit(NamedTuple):
 
 
 class Sum(NamedTuple):
-    """The gas of a function: its own, and with what it calls."""
-
     own: int
     total: int
     name: str

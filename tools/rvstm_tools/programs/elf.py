@@ -32,8 +32,6 @@ class Segment(NamedTuple):
 
 
 class Function(NamedTuple):
-    """A function: its address, its size, which is 0 for a label, and its symbol."""
-
     address: int
     size: int
     symbol: str

@@ -37,16 +37,12 @@ SECTION_FIELDS = (Span(40, 48), Span(60, 64))  # of the head of a file: where it
 
 
 class Loaded(NamedTuple):
-    """A segment: its kind, and where its bytes begin and end in the file."""
-
     kind: int
     span: Span
 
 
 @dataclass(frozen=True)
 class Part:
-    """What is compared of a file: what it is, its name for people, and its bytes."""
-
     product: Product
     name: str
     data: bytes
@@ -150,8 +146,6 @@ def sums_of(path: str) -> dict[str, str]:
 
 
 class Entry(NamedTuple):
-    """What is compared with a checksum: its name for people, how it is read, its bytes, and its name in the list."""
-
     name: str
     how: str
     data: bytes

@@ -46,8 +46,6 @@ class Done:
 
 @dataclass(frozen=True)
 class Refusal:
-    """What was asked for is not done: the area, the line of a block if the fault has one, the name, and its number."""
-
     kind: Kind
     area: str
     name: str

@@ -39,16 +39,12 @@ WITH_BODY = (Word.PROGRAM, Word.FRAME, Word.TRY, Word.BEGIN)  # the words of req
 
 
 class Fault(Bytes):
-    """Why an input has no request where one is looked for."""
-
     NONE = b""  # it ends there
     BAD_LINE = b"request BadLine 1\n"
     CUT = b"request Cut 2\n"
 
 
 class Request(NamedTuple):
-    """A request: its word, the fields of its line without the length, and the bytes after the line."""
-
     word: bytes  # one of `Word`
     fields: tuple[bytes, ...] = ()
     body: bytes = b""

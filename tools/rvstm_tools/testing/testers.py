@@ -15,8 +15,6 @@ MOST_GAS = re.compile(r"(gas\s+at\s+most\s+)[0-9]+")
 
 @dataclass(frozen=True)
 class Planned:
-    """A run of a test that is to be made: by its own programs, or by those of a variant."""
-
     test: ListedTest
     variant: str = ""
 

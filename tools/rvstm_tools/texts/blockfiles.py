@@ -7,8 +7,6 @@ from rvstm_tools.errors import UserError
 
 @dataclass(frozen=True)
 class CallHead:
-    """What a block file says of a call: the rules, the path of its program, the most gas, and the input."""
-
     rules: int
     program: str
     limit: int

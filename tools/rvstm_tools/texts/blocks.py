@@ -30,8 +30,6 @@ class Rules(enum.IntEnum):
 
 @dataclass(frozen=True)
 class ProgramFile:
-    """A program of a list: the path of its file, and the number of its line."""
-
     path: str
     line: int
 
@@ -47,8 +45,6 @@ class Call:
 
 
 class CallLine(NamedTuple):
-    """A line `call` of a block file: the number of its program, the most gas, and the input."""
-
     program: int
     gas: int
     data: bytes

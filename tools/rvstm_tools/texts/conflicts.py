@@ -30,8 +30,6 @@ class Wait:
 
 @dataclass(frozen=True)
 class WaitingCall:
-    """A call: its gas, the gas of the longest path that ends with it, and what it waits for."""
-
     gas: int
     path: int
     waits: list[Wait]
@@ -48,8 +46,6 @@ class WaitedKey:
 
 @dataclass
 class Conflicts:
-    """The calls of a block, the keys at which they wait, all gas, and that of the longest path."""
-
     calls: list[WaitingCall] = field(default_factory=list)
     keys: list[WaitedKey] = field(default_factory=list)
     gas: int = 0

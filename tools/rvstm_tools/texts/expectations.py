@@ -83,8 +83,6 @@ class CostsAtMost:
 
 @dataclass(frozen=True)
 class Changes:
-    """The call does this to a key."""
-
     key: Key
     change: Change
 
@@ -112,8 +110,6 @@ class ChangesNoOther:
 
 @dataclass(frozen=True)
 class Holds:
-    """The storage has this value at a key, or none if it is None."""
-
     key: Key
     value: bytes | None
 
@@ -140,8 +136,6 @@ def state_of(value: bytes | None) -> Change:
 
 @dataclass(frozen=True)
 class SameByWorkers:
-    """A run by so many workers prints what the run in order prints."""
-
     workers: int
 
     def miss(self, _: object, scene: Scene) -> Difference | None:

@@ -74,8 +74,6 @@ class Receipt:
 
 
 class Stored(NamedTuple):
-    """A key of the storage after the block, and its value."""
-
     key: Key
     value: bytes
 
@@ -87,8 +85,6 @@ class Result:
 
 
 class ResultLine(NamedTuple):
-    """A line of a result: its number from 1 on, its first word, and its fields."""
-
     number: int
     kind: str
     fields: re.Match[str]

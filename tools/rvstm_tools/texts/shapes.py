@@ -49,8 +49,6 @@ class Field:
 
 @dataclass(frozen=True)
 class Part:
-    """A field of some bytes: the field, its bytes, and what it is called where two values differ."""
-
     field: Field
     data: bytes
     label: str

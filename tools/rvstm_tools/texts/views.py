@@ -23,8 +23,6 @@ FIELDS_AROUND = 1  # how many fields are shown before and after the one that dif
 
 @dataclass
 class View:
-    """What a list says of keys, values and inputs."""
-
     names: dict[Key, str] = field(default_factory=dict)  # the words by which keys are called
     of_keys: dict[Key, Shape] = field(default_factory=dict)
     of_tables: dict[str, Shape] = field(default_factory=dict)
