@@ -173,7 +173,8 @@ class Handler(BaseHTTPRequestHandler):
 
 def main() -> int:
     """Runs the node until it is interrupted."""
-    parser = argparse.ArgumentParser(description="A node that takes signed calls.", parents=[options.program_parser()])
+    parser = argparse.ArgumentParser(description="A node that takes signed calls.")
+    options.add_program(parser)
     parser.add_argument("--store", required=True, metavar="FILE", help="the file that the ledger is kept in")
     parser.add_argument("--port", type=int, default=8545, metavar="N", help="the port of 127.0.0.1 on which it listens (8545); 0 is a free port")
     given = parser.parse_args()

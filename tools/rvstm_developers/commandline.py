@@ -29,9 +29,9 @@ def parser_of(command: Command) -> argparse.ArgumentParser:
         description=f"{command.summary}\n\n{command.details.strip()}",
         epilog=f"example:\n  {folder}/{command.name} {command.example}",
         formatter_class=argparse.RawDescriptionHelpFormatter,
-        parents=[shared() for shared in command.shared],
     )
-    command.add_options(parser)
+    for add in command.arguments:
+        add(parser)
     return parser
 
 

@@ -32,9 +32,9 @@ def parser_of(commands: Sequence[Command]) -> argparse.ArgumentParser:
             description=f"{command.summary}\n\n{command.details}",
             epilog=f"example:\n  {command.example}",
             formatter_class=argparse.RawDescriptionHelpFormatter,
-            parents=[shared() for shared in command.shared],
         )
-        command.add_options(subparser)
+        for add in command.arguments:
+            add(subparser)
         subparser.set_defaults(command=command)
     return parser
 

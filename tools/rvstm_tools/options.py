@@ -5,6 +5,7 @@ import os
 from collections.abc import Callable
 from dataclasses import dataclass
 from pathlib import Path
+from typing import Any
 
 from rvstm_tools.texts import lists, numbers
 from rvstm_tools.texts.views import View
@@ -38,15 +39,22 @@ def new_file(word: str) -> Path:
     return path
 
 
+Adder = Callable[[argparse.ArgumentParser], object]  # adds an argument or an option to a parser
+
+
+def argument(*names: str, **how: Any) -> Adder:
+    """An argument or an option, as argparse describes it."""
+    return lambda parser: parser.add_argument(*names, **how)
+
+
 @dataclass(frozen=True)
 class Command:
     name: str
     summary: str
     details: str
     example: str
-    add_options: Callable[[argparse.ArgumentParser], None]
     run: Callable[[argparse.Namespace], int]
-    shared: tuple[Callable[[], argparse.ArgumentParser], ...] = ()  # the parsers of the options that it shares with others
+    arguments: tuple[Adder, ...] = ()
 
 
 @dataclass(frozen=True)
@@ -57,8 +65,7 @@ class ProgramChoice:
     is_preview: bool = False
 
 
-def program_parser() -> argparse.ArgumentParser:
-    parser = argparse.ArgumentParser(add_help=False)
+def add_program(parser: argparse.ArgumentParser) -> None:
     group = parser.add_mutually_exclusive_group()
     group.add_argument(
         "--program", type=Path, metavar="PATH",
@@ -69,43 +76,23 @@ def program_parser() -> argparse.ArgumentParser:
         action="store_true",
         help="runs the unproved program that `rvstm-tools preview` makes: slow, but there in a few minutes",
     )
-    return parser
 
 
 def program_choice(given: argparse.Namespace) -> ProgramChoice:
     return ProgramChoice(given.program, given.preview)
 
 
-def list_parser() -> argparse.ArgumentParser:
-    """The option that names a list, for its words of keys and its shapes."""
-    parser = argparse.ArgumentParser(add_help=False)
-    parser.add_argument(
-        "--list", metavar="LIST", help="a list: keys are printed by its words table: and row:, values by its lines shape"
-    )
-    return parser
+LIST = argument("--list", metavar="LIST", help="a list: keys are printed by its words table: and row:, values by its lines shape")
+CALL = (
+    argument("file", metavar="FILE", help="a block file; it and its programs are taken from the current folder"),
+    argument("--call", type=int, required=True, metavar="N", help="the number of the call, from 0"),
+)
+SEED = argument("--seed", type=int, default=1, metavar="N", help="another number draws other things (1)")
+JOBS = argument(
+    "--jobs", type=count, default=len(os.sched_getaffinity(0)), metavar="N",
+    help="how many run at once (as many as there are processors)",
+)
 
 
 def view(given: argparse.Namespace) -> View:
     return lists.read_view(given.list) if given.list is not None else View()
-
-
-def call_parser() -> argparse.ArgumentParser:
-    parser = argparse.ArgumentParser(add_help=False)
-    parser.add_argument("file", metavar="FILE", help="a block file; it and its programs are taken from the current folder")
-    parser.add_argument("--call", type=int, required=True, metavar="N", help="the number of the call, from 0")
-    return parser
-
-
-def seed_parser() -> argparse.ArgumentParser:
-    parser = argparse.ArgumentParser(add_help=False)
-    parser.add_argument("--seed", type=int, default=1, metavar="N", help="another number draws other things (1)")
-    return parser
-
-
-def jobs_parser() -> argparse.ArgumentParser:
-    parser = argparse.ArgumentParser(add_help=False)
-    processors = len(os.sched_getaffinity(0))
-    parser.add_argument(
-        "--jobs", type=count, default=processors, metavar="N", help="how many run at once (as many as there are processors)"
-    )
-    return parser

@@ -200,7 +200,7 @@ class CommandLine(unittest.TestCase):
         def run(_: object) -> int:
             raise raised
 
-        command = Command("name", "", "", "", lambda parser: None, run)
+        command = Command("name", "", "", "", run)
         with mock.patch.object(commandline, "command_of", lambda _: command), mock.patch.object(commandline, "NAMES", ("name",)):
             status, _, faults = called("name")
         return status, faults

@@ -16,7 +16,7 @@ from rvstm_developers.bench.blocks import Input, TimedBlock
 from rvstm_developers.bench.pictures import COLOURS, Picture, Point
 from rvstm_developers.texts import TOP, word
 from rvstm_tools.errors import UserError
-from rvstm_tools.options import Command
+from rvstm_tools.options import Command, argument
 from rvstm_tools.programs import finding
 from rvstm_tools.sessions import frames
 from rvstm_tools.sessions.processes import Session, Settings
@@ -280,16 +280,6 @@ def run(given: argparse.Namespace) -> int:
     return 0
 
 
-def add_options(parser: argparse.ArgumentParser) -> None:
-    parser.add_argument("--most", type=int, default=SIZES[-1], metavar="KEYS", help="leaves storages with more keys out")
-    parser.add_argument("--library", type=finding.absolute, metavar="LIBRARY", help="librvstm.so, which is timed too")
-    parser.add_argument("--svg", type=finding.absolute, metavar="OUT", help="a file for the picture")
-    parser.add_argument("--by-workers", action="store_true", help="the table of frames with workers alone")
-    parser.add_argument("--store", action="store_true", help="the tables of sessions in a file alone")
-    parser.add_argument("--digest", action="store_true", help="the sessions keep a digest")
-    parser.add_argument("--brief", action="store_true", help="their receipts have no registers")
-
-
 COMMAND = Command(
     "chain",
     "Times a block of 200 transfers with `rvstm chain` over 100 to 1,000,000 keys, beside `rvstm seq` in one process a block.",
@@ -308,7 +298,15 @@ the time until its answer is read.
 time of handing a block in and copying its answer out. --store times commits beside SQLite's own library, and needs cc and libsqlite3.
 """,
     "crates/rvstm/out/rvstm --most 1000",
-    add_options,
     run,
-    (options.rvstm_parser,),
+    (
+        options.RVSTM,
+        argument("--most", type=int, default=SIZES[-1], metavar="KEYS", help="leaves storages with more keys out"),
+        argument("--library", type=finding.absolute, metavar="LIBRARY", help="librvstm.so, which is timed too"),
+        argument("--svg", type=finding.absolute, metavar="OUT", help="a file for the picture"),
+        argument("--by-workers", action="store_true", help="the table of frames with workers alone"),
+        argument("--store", action="store_true", help="the tables of sessions in a file alone"),
+        argument("--digest", action="store_true", help="the sessions keep a digest"),
+        argument("--brief", action="store_true", help="their receipts have no registers"),
+    ),
 )

@@ -104,7 +104,6 @@ Blocks of 64, 256 and 1,024 calls; a block of 256 calls over 10, 1,000 and 100,0
 write 1, 16 and 256 keys. A cell has the time of the best of several runs of the whole program, files and text included.
 """,
     "crates/rvstm/out/rvstm bench/growth.svg",
-    options.add_picture,
     run,
-    (options.rvstm_parser,),
+    (options.RVSTM, options.PICTURE),
 )

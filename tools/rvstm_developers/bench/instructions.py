@@ -101,7 +101,6 @@ instruction. The second: what a call costs in the whole program, files and text 
 `seq` and with `run` with one worker, under rules one and under later ones.
 """,
     "crates/rvstm/out/rvstm",
-    options.add_nothing,
     run,
-    (options.rvstm_parser,),
+    (options.RVSTM,),
 )

@@ -69,7 +69,6 @@ print one result. `drive` follows a list of 20 million entries over the large bl
 needed, over 251 calls that write 256 keys each.
 """,
     "crates/rvstm/out/rvstm",
-    options.add_nothing,
     run,
-    (options.rvstm_parser,),
+    (options.RVSTM,),
 )

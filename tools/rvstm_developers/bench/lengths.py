@@ -155,7 +155,6 @@ process of all rounds they do in its time says what four processors have in that
 two columns are the ratio with 4 workers in the quiet rounds, and the number of these.
 """,
     "crates/rvstm/out/rvstm bench/lengths.svg",
-    options.add_picture,
     run,
-    (options.rvstm_parser,),
+    (options.RVSTM, options.PICTURE),
 )

@@ -9,7 +9,7 @@ from typing import NamedTuple
 from rvstm_developers import options, running
 from rvstm_developers.bench import blocks, tables
 from rvstm_tools.errors import UserError
-from rvstm_tools.options import Command
+from rvstm_tools.options import Command, argument
 
 WORKERS = (1, 2, 4, 8, 16, 32)
 RUNS = 25
@@ -58,10 +58,6 @@ def run(given: argparse.Namespace) -> int:
     return 0
 
 
-def add_options(parser: argparse.ArgumentParser) -> None:
-    parser.add_argument("runs", metavar="RUNS", type=int, nargs="?", default=RUNS, help=f"how often each block is run ({RUNS})")
-
-
 COMMAND = Command(
     "repeats",
     "Counts how often `rvstm run` runs the calls of blocks again, with 1 to 32 workers, beside the waits that `rvstm conflicts` prints.",
@@ -71,7 +67,6 @@ block file, again and again. A figure is the executions for each call with so ma
 the most, if that is another.
 """,
     "crates/rvstm/out/rvstm 5",
-    add_options,
     run,
-    (options.rvstm_parser,),
+    (options.RVSTM, argument("runs", metavar="RUNS", type=int, nargs="?", default=RUNS, help=f"how often each block is run ({RUNS})")),
 )

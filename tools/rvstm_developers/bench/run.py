@@ -10,7 +10,7 @@ from rvstm_developers.bench import blocks, processes, tables
 from rvstm_developers.bench.blocks import FOLDER, SPEED_PROGRAMS, TimedBlock
 from rvstm_developers.running import Word
 from rvstm_tools.errors import UserError
-from rvstm_tools.options import Command
+from rvstm_tools.options import Command, argument
 from rvstm_tools.programs import finding
 
 CHOOSING_ROUNDS, ROUNDS, TIMES = 3, 15, 21
@@ -122,10 +122,6 @@ def run(given: argparse.Namespace) -> int:
     return 0
 
 
-def add_options(parser: argparse.ArgumentParser) -> None:
-    parser.add_argument("old", metavar="OLD", type=finding.absolute, nargs="?", help="an earlier program to compare it with")
-
-
 COMMAND = Command(
     "run",
     "Times `rvstm seq` beside a plain interpreter in C, in one run, and prints tables.",
@@ -142,7 +138,6 @@ Then short calls: a thousand counts and a thousand transfers, in microseconds a 
 Last, if nm is there, how far after a multiple of 32 bytes the loop over a page of code begins: it is faster at a multiple.
 """,
     "crates/rvstm/out/rvstm",
-    add_options,
     run,
-    (options.rvstm_parser,),
+    (options.RVSTM, argument("old", metavar="OLD", type=finding.absolute, nargs="?", help="an earlier program to compare it with")),
 )

@@ -13,7 +13,7 @@ from rvstm_developers.bench import blocks, slow_programs, tables
 from rvstm_developers.bench.processes import Spent, sound, timed
 from rvstm_developers.bench.slow_programs import Shape
 from rvstm_tools.errors import UserError
-from rvstm_tools.options import Command
+from rvstm_tools.options import Command, argument
 from rvstm_tools.texts.blocks import CallLine
 from rvstm_tools.texts.keys import numbered_key
 
@@ -150,13 +150,6 @@ def run(given: argparse.Namespace) -> int:
     return 0
 
 
-def add_options(parser: argparse.ArgumentParser) -> None:
-    parser.add_argument("--seconds", type=float, default=3_600, metavar="N", help="how long it searches, an hour if left out")
-    parser.add_argument("--without", nargs="+", default=[], choices=UNITS, metavar="UNIT", help="units that no program has")
-    parser.add_argument("--worst", type=int, default=10, metavar="N", help="how many of the worst run again, 10 if left out")
-    parser.add_argument("--programs", nargs="+", metavar="NAME", help="runs these alone")
-
-
 COMMAND = Command(
     "search",
     "Looks for programs that take `rvstm seq` longest for each unit of gas, and prints the worst.",
@@ -168,7 +161,12 @@ over 160 million gas, five times in turn with `work`. A line has the name, which
 FENCE out.
 """,
     "crates/rvstm/out/rvstm --seconds 600",
-    add_options,
     run,
-    (options.rvstm_parser,),
+    (
+        options.RVSTM,
+        argument("--seconds", type=float, default=3_600, metavar="N", help="how long it searches, an hour if left out"),
+        argument("--without", nargs="+", default=[], choices=UNITS, metavar="UNIT", help="units that no program has"),
+        argument("--worst", type=int, default=10, metavar="N", help="how many of the worst run again, 10 if left out"),
+        argument("--programs", nargs="+", metavar="NAME", help="runs these alone"),
+    ),
 )

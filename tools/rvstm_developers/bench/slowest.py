@@ -12,7 +12,7 @@ from rvstm_developers.bench import blocks, slow_sessions, tables
 from rvstm_developers.bench.processes import Spent, sound, timed
 from rvstm_developers.bench.slow_blocks import BLOCKS, CHAIN, CHAIN_4, GAS, SEQ, Block, Content, Share, endless, used_up
 from rvstm_tools.errors import MisuseError
-from rvstm_tools.options import Command
+from rvstm_tools.options import Command, argument
 from rvstm_tools.sessions import frames
 
 CALLS, ROUNDS, WORK_CALLS, RULES = 16, 3, 4, 3
@@ -146,14 +146,6 @@ def run(given: argparse.Namespace) -> int:
     return 0
 
 
-def add_options(parser: argparse.ArgumentParser) -> None:
-    parser.add_argument("rows", nargs="*", metavar="ROW", help="these alone; --names prints them")
-    parser.add_argument("--calls", type=int, default=CALLS, metavar="N", help=f"calls of ten million gas, {CALLS} if left out")
-    parser.add_argument("--rounds", type=int, default=ROUNDS, metavar="N", help=f"runs of each row, {ROUNDS} if left out")
-    parser.add_argument("--quick", action="store_true", help="one round of 2 calls")
-    parser.add_argument("--names", action="store_true", help="prints what each row is, and runs nothing")
-
-
 COMMAND = Command(
     "slowest",
     "Times blocks that take a node longest, and prints seconds, processor seconds and the most memory, in MiB.",
@@ -164,7 +156,13 @@ in a loop with `seq`. Each figure is the median of --rounds rounds. The last col
 round: for a unit of gas so many times, and for a call as much gas of `work`.
 """,
     "crates/rvstm/out/rvstm reads fence --quick",
-    add_options,
     run,
-    (shared_options.rvstm_parser,),
+    (
+        shared_options.RVSTM,
+        argument("rows", nargs="*", metavar="ROW", help="these alone; --names prints them"),
+        argument("--calls", type=int, default=CALLS, metavar="N", help=f"calls of ten million gas, {CALLS} if left out"),
+        argument("--rounds", type=int, default=ROUNDS, metavar="N", help=f"runs of each row, {ROUNDS} if left out"),
+        argument("--quick", action="store_true", help="one round of 2 calls"),
+        argument("--names", action="store_true", help="prints what each row is, and runs nothing"),
+    ),
 )

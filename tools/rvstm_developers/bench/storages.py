@@ -11,7 +11,7 @@ from rvstm_developers import options, texts
 from rvstm_developers.bench import blocks, processes, tables
 from rvstm_developers.texts import word
 from rvstm_tools.errors import UserError
-from rvstm_tools.options import Command
+from rvstm_tools.options import Command, argument
 from rvstm_tools.programs import finding
 from rvstm_tools.sessions import frames, requests
 from rvstm_tools.sessions.processes import Session, Settings
@@ -163,13 +163,6 @@ def run(given: argparse.Namespace) -> int:
     return 0
 
 
-def add_options(parser: argparse.ArgumentParser) -> None:
-    parser.add_argument("before", nargs="?", metavar="BEFORE", type=finding.absolute, help="another program, which is timed beside it")
-    parser.add_argument("--most", type=int, default=SIZES[-1], metavar="KEYS", help="leaves storages with more keys out")
-    parser.add_argument("--rounds", type=int, default=ROUNDS, metavar="N", help=f"so many rounds ({ROUNDS})")
-    parser.add_argument("--grown", type=int, default=SIZES[-1], metavar="KEYS", help="how far the last storage grows")
-
-
 COMMAND = Command(
     "storages",
     "Times blocks with `rvstm chain` over storages of four kinds of keys, with one program or two beside each other.",
@@ -182,7 +175,12 @@ process has in memory more than over 1,000 keys. Last a storage grows by blocks 
 Both programs have to answer alike.
 """,
     "crates/rvstm/out/rvstm --most 1000 --rounds 3 --grown 10000",
-    add_options,
     run,
-    (options.rvstm_parser,),
+    (
+        options.RVSTM,
+        argument("before", nargs="?", metavar="BEFORE", type=finding.absolute, help="another program, which is timed beside it"),
+        argument("--most", type=int, default=SIZES[-1], metavar="KEYS", help="leaves storages with more keys out"),
+        argument("--rounds", type=int, default=ROUNDS, metavar="N", help=f"so many rounds ({ROUNDS})"),
+        argument("--grown", type=int, default=SIZES[-1], metavar="KEYS", help="how far the last storage grows"),
+    ),
 )

@@ -12,7 +12,7 @@ from rvstm_developers.bench.blocks import FOLDER, SPEED_PROGRAMS, Input, TimedBl
 from rvstm_developers.bench.pictures import COLOURS, Picture, Point
 from rvstm_developers.running import Word
 from rvstm_tools.errors import UserError
-from rvstm_tools.options import Command
+from rvstm_tools.options import Command, argument
 
 WORKERS = (1, 2, 4, 32)
 TIMES = 45
@@ -136,11 +136,6 @@ def run(given: argparse.Namespace) -> int:
     return 0
 
 
-def add_options(parser: argparse.ArgumentParser) -> None:
-    options.add_picture(parser)
-    parser.add_argument("--programs", action="store_true", help="a table alone, for 64 calls of each program of speed.block, a million gas each")
-
-
 COMMAND = Command(
     "threads",
     "Times `rvstm run` with 1, 2, 4 and 32 workers beside `rvstm seq` on five blocks, and draws a picture.",
@@ -152,7 +147,10 @@ times as fast as `seq` each is with files and text, the median over rounds of th
 which no output is read.
 """,
     "crates/rvstm/out/rvstm bench/threads.svg",
-    add_options,
     run,
-    (options.rvstm_parser,),
+    (
+        options.RVSTM,
+        options.PICTURE,
+        argument("--programs", action="store_true", help="a table alone, for 64 calls of each program of speed.block, a million gas each"),
+    ),
 )

@@ -156,7 +156,6 @@ It compiles embedded_driver.c and links the library, which `rvstm-tools library`
 is 1 if something differs.
 """,
     "crates/rvstm/out/rvstm 20 --valgrind",
-    add_options,
     run,
-    (options.rvstm_parser,),
+    (options.RVSTM, add_options),
 )

@@ -15,7 +15,7 @@ from rvstm_developers.models.measures import SMALLER, Measure, check_causes, che
 from rvstm_developers.models.scheduler import Block, Contract, Running, Validating
 from rvstm_developers.models.scheduler import conditional, copy, count, get, put, read_all, wander
 from rvstm_tools.errors import MisuseError
-from rvstm_tools.options import Command
+from rvstm_tools.options import Command, argument
 
 LEAST_SECONDS = 10
 MOST_STATES = 200_000
@@ -300,12 +300,6 @@ def run(given: argparse.Namespace) -> int:
     return 1 if tally.failed else 0
 
 
-def add_options(parser: argparse.ArgumentParser) -> None:
-    parser.add_argument("seconds", metavar="SECONDS", nargs="?", help="how long the checks last, 10 at least; after --adversary the file OUT")
-    parser.add_argument("seed", metavar="SEED", type=int, nargs="?", help="one seed gives the same walks (0)")
-    parser.add_argument("--adversary", metavar="CALLS", type=int, help="makes so many calls run again and again, in place of the checks")
-
-
 COMMAND = Command(
     "ends-model",
     "Checks with a model of the scheduler that each fair schedule ends, and prints 'N passed, M failed'.",
@@ -324,6 +318,10 @@ own. It prints the steps, the incarnation of each call, and the lines of the wor
 writes the schedule to OUT. From 17 calls on the last step is refused for a limit; that takes some minutes.
 """,
     "--adversary 7 /tmp/worst.schedule",
-    add_options,
     run,
+    (
+        argument("seconds", metavar="SECONDS", nargs="?", help="how long the checks last, 10 at least; after --adversary the file OUT"),
+        argument("seed", metavar="SEED", type=int, nargs="?", help="one seed gives the same walks (0)"),
+        argument("--adversary", metavar="CALLS", type=int, help="makes so many calls run again and again, in place of the checks"),
+    ),
 )

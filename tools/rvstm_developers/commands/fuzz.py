@@ -16,7 +16,7 @@ from rvstm_developers import comparing, options, texts
 from rvstm_developers.drawing import programs
 from rvstm_developers.running import Word
 from rvstm_developers.texts import TOP
-from rvstm_tools.options import Command
+from rvstm_tools.options import Command, argument
 from rvstm_tools.programs.pipes import Ended
 from rvstm_tools.sessions import frames, requests
 from rvstm_tools.sessions.processes import LONGEST_FRAME, Settings
@@ -290,11 +290,6 @@ def run(given: argparse.Namespace) -> int:
     return 1 if runs.failed else 0
 
 
-def add_options(parser: argparse.ArgumentParser) -> None:
-    parser.add_argument("seconds", metavar="SECONDS", type=float, help="how long it goes on")
-    parser.add_argument("seed", metavar="SEED", type=int, nargs="?", default=0, help="one seed always gives the same files (0)")
-
-
 COMMAND = Command(
     "fuzz",
     "Feeds damaged files to the program, and prints 'N runs, M failed'.",
@@ -312,7 +307,10 @@ within bodies. Random programs that read, write, remove and add to a few keys ar
 The files of a run that failed are kept.
 """,
     "crates/rvstm/out/rvstm 60 1",
-    add_options,
     run,
-    (options.rvstm_parser,),
+    (
+        options.RVSTM,
+        argument("seconds", metavar="SECONDS", type=float, help="how long it goes on"),
+        argument("seed", metavar="SEED", type=int, nargs="?", default=0, help="one seed always gives the same files (0)"),
+    ),
 )

@@ -10,7 +10,7 @@ from pathlib import Path
 from typing import NamedTuple
 
 from rvstm_developers.texts import TOP
-from rvstm_tools.options import Command
+from rvstm_tools.options import Command, argument
 
 TICKS = os.sysconf("SC_CLK_TCK")
 INTERVAL = 0.5
@@ -138,12 +138,6 @@ def run(given: argparse.Namespace) -> int:
     return gate.returncode
 
 
-def add_options(parser: argparse.ArgumentParser) -> None:
-    parser.add_argument("log", metavar="LOG", type=Path, help="the file for what the gate prints")
-    parser.add_argument("crates", metavar="CRATE", nargs="*", help="proves these and those below them; all without it")
-    parser.add_argument("--anew", action="store_true", help="keeps nothing of earlier runs")
-
-
 COMMAND = Command(
     "gate-cost",
     "Runs `rt ci` and prints what each crate costs it, in seconds of processor time.",
@@ -153,6 +147,10 @@ proved its tests, or tried an edit that must be refused. Building and running th
 of docs/gate.md. The status is that of `rt ci`.
 """,
     "/tmp/gate.log gas",
-    add_options,
     run,
+    (
+        argument("log", metavar="LOG", type=Path, help="the file for what the gate prints"),
+        argument("crates", metavar="CRATE", nargs="*", help="proves these and those below them; all without it"),
+        argument("--anew", action="store_true", help="keeps nothing of earlier runs"),
+    ),
 )

@@ -12,7 +12,7 @@ from rvstm_tools.debugging.moments import InterruptedMove
 from rvstm_tools.debugging.packets import Wire
 from rvstm_tools.debugging.sessions import CallOf, Debugger
 from rvstm_tools.errors import UserError
-from rvstm_tools.options import Command
+from rvstm_tools.options import Command, argument
 from rvstm_tools.programs import finding
 from rvstm_tools.texts.views import View
 
@@ -262,10 +262,6 @@ def run(given: argparse.Namespace) -> int:
     return 0
 
 
-def add_options(parser: argparse.ArgumentParser) -> None:
-    parser.add_argument("--rounds", type=int, default=20, metavar="N", help=f"each has {MOVES_OF_ROUND} moves; 20 without it")
-
-
 COMMAND = Command(
     "gdb-moves",
     "Compares random moves of `rvstm-tools gdb` with the whole trace of a call.",
@@ -279,7 +275,11 @@ meet all ways.
 It prints how many moves were compared. The status is 1 at the first one that differs, with the moves before it.
 """,
     "examples/token/token.block --call 3",
-    add_options,
     run,
-    (options.program_parser, options.call_parser, options.seed_parser),
+    (
+        options.add_program,
+        *options.CALL,
+        options.SEED,
+        argument("--rounds", type=int, default=20, metavar="N", help=f"each has {MOVES_OF_ROUND} moves; 20 without it"),
+    ),
 )

@@ -12,7 +12,7 @@ from rvstm_developers.running import Word
 from rvstm_developers.stores.files import answers_of
 from rvstm_developers.texts import TOP
 from rvstm_tools.models.sessions import Known, Model
-from rvstm_tools.options import Command
+from rvstm_tools.options import Command, argument
 from rvstm_tools.programs import finding
 from rvstm_tools.programs.pipes import Ended
 from rvstm_tools.programs.running import Program
@@ -264,13 +264,6 @@ def run(given: argparse.Namespace) -> int:
     return 1 if sums.failed else 0
 
 
-def add_options(parser: argparse.ArgumentParser) -> None:
-    parser.add_argument(
-        "tests", metavar="TESTS", type=finding.absolute, nargs="?",
-        help="the tests of library calls, as `rt test` in crates/growth_tests leaves them in out/growth_tests_tests",
-    )
-
-
 COMMAND = Command(
     "growths",
     "Lets each request for memory fail in turn, and prints 'N runs, M failed'.",
@@ -286,7 +279,12 @@ Each of TESTS tries a refused call a second time, and must pass. Those of its mo
 themselves, and make one try. It needs a C compiler, for the library that refuses.
 """,
     "crates/rvstm/out/rvstm crates/growth_tests/out/growth_tests_tests",
-    add_options,
     run,
-    (options.rvstm_parser,),
+    (
+        options.RVSTM,
+        argument(
+            "tests", metavar="TESTS", type=finding.absolute, nargs="?",
+            help="the tests of library calls, as `rt test` in crates/growth_tests leaves them in out/growth_tests_tests",
+        ),
+    ),
 )

@@ -17,7 +17,7 @@ from rvstm_developers.drawing import blocks, sessions
 from rvstm_developers.stores import files
 from rvstm_developers.stores.files import QUESTIONS
 from rvstm_tools import options as shared_options
-from rvstm_tools.options import Command
+from rvstm_tools.options import Command, argument
 from rvstm_tools.programs.pipes import Ended
 from rvstm_tools.sessions import answers, requests
 from rvstm_tools.sessions.answers import Answer
@@ -210,10 +210,6 @@ def run(given: argparse.Namespace) -> int:
     return 1 if rounds.bad else 0
 
 
-def add_options(parser: argparse.ArgumentParser) -> None:
-    parser.add_argument("--rounds", type=int, default=100, metavar="N", help="how many sessions there are (100)")
-
-
 COMMAND = Command(
     "kills",
     "Kills sessions of `rvstm chain --store FILE` at random moments, and compares the next one with a session without a file.",
@@ -232,7 +228,11 @@ that the next session reports. In every eighth round it opens the file itself, a
 kept before it was answered, and how many rounds are bad. The file and the input of a bad one are kept and named.
 """,
     "crates/rvstm/out/rvstm tests/cases --rounds 500",
-    add_options,
     run,
-    (options.rvstm_parser, options.folder_parser, shared_options.seed_parser),
+    (
+        options.RVSTM,
+        options.FOLDER,
+        shared_options.SEED,
+        argument("--rounds", type=int, default=100, metavar="N", help="how many sessions there are (100)"),
+    ),
 )

@@ -15,7 +15,7 @@ from rvstm_developers.large import blocks, limits, sessions
 from rvstm_developers.large import texts as long_texts
 from rvstm_developers.large.limits import USUAL_STACK, Trial
 from rvstm_developers.models.machine import Block
-from rvstm_tools.options import Command
+from rvstm_tools.options import Command, argument
 from rvstm_tools.texts import differences
 
 WORKERS = (1, 5, 32)
@@ -229,11 +229,6 @@ def run(given: argparse.Namespace) -> int:
     return 1 if bench.failed else 0
 
 
-def add_options(parser: argparse.ArgumentParser) -> None:
-    parser.add_argument("--only", default="", metavar="WORD", help="only the rows that have WORD in their names")
-    parser.add_argument("--list", action="store_true", help="prints the names of the rows, and runs nothing")
-
-
 COMMAND = Command(
     "large",
     "Gives the program large inputs, and inputs one beyond each limit, and prints time and memory of each.",
@@ -248,7 +243,10 @@ A row has the seconds by the clock, the seconds of the processor, and the most m
 program takes hours. The parts of a session in a file depend on the parts before them. The last line is 'N passed, M failed'.
 """,
     "crates/rvstm/out/rvstm --only limit",
-    add_options,
     run,
-    (options.rvstm_parser,),
+    (
+        options.RVSTM,
+        argument("--only", default="", metavar="WORD", help="only the rows that have WORD in their names"),
+        argument("--list", action="store_true", help="prints the names of the rows, and runs nothing"),
+    ),
 )

@@ -2,7 +2,7 @@ import argparse
 
 from rvstm_developers import options
 from rvstm_tools.errors import Status
-from rvstm_tools.options import Command
+from rvstm_tools.options import Command, argument
 from rvstm_tools.programs import checkouts
 from rvstm_tools.releases import helps
 
@@ -17,16 +17,14 @@ def run(given: argparse.Namespace) -> int:
     return Status.DONE
 
 
-def add_options(parser: argparse.ArgumentParser) -> None:
-    parser.add_argument("--check", action="store_true", help="writes nothing: the status is 1 if the page is not what the help makes")
-
-
 COMMAND = Command(
     "man-page",
     "Makes the man page of rvstm, man/rvstm.1, of the help of the program and of its commands.",
     "The page has no text of its own but its last part.",
     "crates/rvstm/out/rvstm --check",
-    add_options,
     run,
-    (options.rvstm_parser,),
+    (
+        options.RVSTM,
+        argument("--check", action="store_true", help="writes nothing: the status is 1 if the page is not what the help makes"),
+    ),
 )

@@ -5,7 +5,7 @@ from typing import NamedTuple
 
 from rvstm_developers.texts import TOP
 from rvstm_tools.errors import UserError
-from rvstm_tools.options import Command
+from rvstm_tools.options import Command, argument
 
 KINDS_SHOWN = 8
 
@@ -48,11 +48,6 @@ def run(given: argparse.Namespace) -> int:
     return 0
 
 
-def add_options(parser: argparse.ArgumentParser) -> None:
-    parser.add_argument("crate", metavar="CRATE", help="the name of the crate")
-    parser.add_argument("most", metavar="MOST", type=int, nargs="?", default=30, help="how many modules are printed (30)")
-
-
 COMMAND = Command(
     "module-cost",
     "Prints what each module of a crate costs its check, in seconds, by the times of the files that the check kept.",
@@ -68,6 +63,9 @@ Of a function, `Lts` is what the prover writes for the borrow checker, `Proof` t
 answers, and `Tie` what it takes from the calls that it makes.
 """,
     "stm_core",
-    add_options,
     run,
+    (
+        argument("crate", metavar="CRATE", help="the name of the crate"),
+        argument("most", metavar="MOST", type=int, nargs="?", default=30, help="how many modules are printed (30)"),
+    ),
 )

@@ -6,7 +6,7 @@ from rvstm_developers.sources.causes import ALLOCATING, AREAS, CAUSE, KINDS, NAM
 from rvstm_developers.sources.rattle import Group, words
 from rvstm_developers.sources.uses import Around, Function, How, Use, Uses, call_name, is_pattern, is_token, last_call, text_of
 from rvstm_developers.texts import TOP
-from rvstm_tools.options import Command
+from rvstm_tools.options import Command, argument
 
 HANDED_ON = (How.ARGUMENT, How.LET, How.CONST, How.BLOCK, How.PATTERN, How.CALL, How.FN)
 NOT_KNOWN = Function("", "", [], "")
@@ -169,11 +169,6 @@ def run(given: argparse.Namespace) -> int:
     return 1 if wrong else 0
 
 
-def add_options(parser: argparse.ArgumentParser) -> None:
-    parser.add_argument("--places", action="store_true", help="prints each place, and the call or the error that refused")
-    parser.add_argument("folder", metavar="FOLDER", type=Path, nargs="?", default=TOP / "crates", help="the crates; those of this checkout without it")
-
-
 COMMAND = Command(
     "outside-causes",
     "Checks that a cause from outside is reported only if the outside reported it.",
@@ -198,6 +193,9 @@ of a function that makes it, has to be made so. There is no list of exceptions. 
 reports, so that none is reported for another. The last line is 'N places, M wrong'.
 """,
     "--places",
-    add_options,
     run,
+    (
+        argument("--places", action="store_true", help="prints each place, and the call or the error that refused"),
+        argument("folder", metavar="FOLDER", type=Path, nargs="?", default=TOP / "crates", help="the crates; those of this checkout without it"),
+    ),
 )

@@ -9,7 +9,7 @@ from typing import NamedTuple
 from rvstm_developers.running import output_of
 from rvstm_tools import options
 from rvstm_tools.errors import Status
-from rvstm_tools.options import Command
+from rvstm_tools.options import Command, argument
 from rvstm_tools.programs import checkouts, finding
 
 BUGS = (
@@ -61,12 +61,6 @@ def run(given: argparse.Namespace) -> int:
     return Status.FAILED if failed else Status.DONE
 
 
-def add_options(parser: argparse.ArgumentParser) -> None:
-    parser.add_argument(
-        "--seconds", type=options.positive, default=60.0, metavar="N", help="for each search, and for shortening; 60 without it"
-    )
-
-
 COMMAND = Command(
     "planted",
     "Prints how soon `rvstm-tools explore` finds each of ten bugs, and how many calls are left.",
@@ -77,7 +71,10 @@ A row has the bug, the seconds and the calls until it was found, how many calls 
 a bug is not found.
 """,
     "--seed 2",
-    add_options,
     run,
-    (options.program_parser, options.seed_parser),
+    (
+        options.add_program,
+        options.SEED,
+        argument("--seconds", type=options.positive, default=60.0, metavar="N", help="for each search, and for shortening; 60 without it"),
+    ),
 )

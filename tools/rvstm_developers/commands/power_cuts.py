@@ -16,7 +16,7 @@ from rvstm_developers.stores.disks import FILE, OUTPUT, Disk, Step
 from rvstm_developers.stores.files import Both
 from rvstm_tools import options as shared_options
 from rvstm_tools.errors import UserError
-from rvstm_tools.options import Command
+from rvstm_tools.options import Command, argument
 from rvstm_tools.sessions.requests import Request, Word
 
 RECORDER = Path(files.__file__).with_name("store_recorder.c")
@@ -250,10 +250,6 @@ def run(given: argparse.Namespace) -> int:
     return 1 if counts["bad"] else 0
 
 
-def add_options(parser: argparse.ArgumentParser) -> None:
-    parser.add_argument("--most", type=int, metavar="N", help="images of each session at most, taken at random")
-
-
 COMMAND = Command(
     "power-cuts",
     "Cuts the power under `rvstm chain --store FILE`, on images of the disk, and compares what each holds with what was answered.",
@@ -275,7 +271,11 @@ What it supposes of the disk, as the port of SQLite does (`sqlite_disk`): a byte
 was, also in a sector that is torn. So garbage is in written bytes alone. Nothing is supposed of these, nor of their order.
 """,
     "crates/rvstm/out/rvstm tests/cases --most 200",
-    add_options,
     run,
-    (options.rvstm_parser, options.folder_parser, shared_options.seed_parser),
+    (
+        options.RVSTM,
+        options.FOLDER,
+        shared_options.SEED,
+        argument("--most", type=int, metavar="N", help="images of each session at most, taken at random"),
+    ),
 )

@@ -15,7 +15,7 @@ from rvstm_developers import options, running, texts
 from rvstm_developers.drawing import words
 from rvstm_tools.errors import UserError
 from rvstm_tools.models import charges
-from rvstm_tools.options import Command
+from rvstm_tools.options import Command, argument
 from rvstm_tools.texts import results
 from rvstm_tools.texts.blocks import CallLine
 from rvstm_tools.texts.results import End, Receipt
@@ -158,11 +158,6 @@ def run(given: argparse.Namespace) -> int:
     return 1 if total.different else 0
 
 
-def add_options(parser: argparse.ArgumentParser) -> None:
-    parser.add_argument("words", metavar="WORDS", type=int, help="how many random words the programs have in all")
-    parser.add_argument("seed", metavar="SEED", type=int, nargs="?", help="repeats what was drawn; without it each run draws other words")
-
-
 COMMAND = Command(
     "random-words",
     "Runs programs of random words with `rvstm seq`, and compares each call with a replay that makes every step alone.",
@@ -177,7 +172,10 @@ It prints how many words, calls and steps there were, how many words were execut
 differ. The block and program of one that differs are kept and named.
 """,
     "crates/rvstm/out/rvstm 20000",
-    add_options,
     run,
-    (options.rvstm_parser,),
+    (
+        options.RVSTM,
+        argument("words", metavar="WORDS", type=int, help="how many random words the programs have in all"),
+        argument("seed", metavar="SEED", type=int, nargs="?", help="repeats what was drawn; without it each run draws other words"),
+    ),
 )

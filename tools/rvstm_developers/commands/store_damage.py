@@ -14,7 +14,7 @@ from rvstm_developers.stores import files
 from rvstm_developers.stores.files import Both
 from rvstm_tools import options as shared_options
 from rvstm_tools.errors import UserError
-from rvstm_tools.options import Command
+from rvstm_tools.options import Command, argument
 
 FIRST_BYTES, ONE_IN = 1 << 16, 64
 RANDOM, RANDOM_LONG = 1_000, 10_000
@@ -147,10 +147,6 @@ def run(given: argparse.Namespace) -> int:
     return 1 if damage.bad else 0
 
 
-def add_options(parser: argparse.ArgumentParser) -> None:
-    parser.add_argument("--long", action="store_true", help="each byte, and 10,000 random damages")
-
-
 COMMAND = Command(
     "store-damage",
     "Damages files of `rvstm chain --store FILE`, and compares what a session reads in them with what stock SQLite reads.",
@@ -168,7 +164,6 @@ Neither sees that a value was changed.
 It prints what came how often. A file from which something else came is kept and named.
 """,
     "crates/rvstm/out/rvstm",
-    add_options,
     run,
-    (options.rvstm_parser, shared_options.seed_parser),
+    (options.RVSTM, shared_options.SEED, argument("--long", action="store_true", help="each byte, and 10,000 random damages")),
 )

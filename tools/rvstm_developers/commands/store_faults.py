@@ -477,7 +477,6 @@ on as before, and the request is done if it is given again with room; or the ses
 answered, or the request that failed too. Each trial is a line.
 """,
     "crates/rvstm/out/rvstm",
-    options.add_nothing,
     run,
-    (options.rvstm_parser, shared_options.seed_parser),
+    (options.RVSTM, shared_options.SEED),
 )

@@ -13,7 +13,7 @@ from random import Random
 
 from rvstm_developers import comparing, options, running, texts
 from rvstm_developers.drawing import blocks, sessions
-from rvstm_tools.options import Command
+from rvstm_tools.options import Command, argument
 from rvstm_tools.programs.pipes import Ended
 from rvstm_tools.programs.running import temporary_file
 
@@ -153,11 +153,6 @@ def run(given: argparse.Namespace) -> int:
     return 1 if done.different else 0
 
 
-def add_options(parser: argparse.ArgumentParser) -> None:
-    parser.add_argument("seconds", metavar="SECONDS", type=float, help="how long it goes on")
-    parser.add_argument("seed", metavar="SEED", type=int, nargs="?", help="repeats what was drawn; without it each run draws other things")
-
-
 COMMAND = Command(
     "stress",
     "Runs random blocks with random numbers of workers, at once, along random lists and in sessions, and compares with `rvstm seq`.",
@@ -177,7 +172,11 @@ Half of the time other processes keep the processors busy. The last line has how
 many differ, also after an interrupt. The block file or the input of one that differs is kept and named, with its programs.
 """,
     "crates/rvstm/out/rvstm tests/cases 60",
-    add_options,
     run,
-    (options.rvstm_parser, options.folder_parser),
+    (
+        options.RVSTM,
+        options.FOLDER,
+        argument("seconds", metavar="SECONDS", type=float, help="how long it goes on"),
+        argument("seed", metavar="SEED", type=int, nargs="?", help="repeats what was drawn; without it each run draws other things"),
+    ),
 )

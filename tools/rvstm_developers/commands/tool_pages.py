@@ -20,6 +20,5 @@ COMMAND = Command(
     "Makes man/rvstm-tools.1 and completions/rvstm-tools.bash of the parsers of rvstm-tools.",
     "The tests of the tools compare both with the parsers.",
     "",
-    options.add_nothing,
     run,
 )

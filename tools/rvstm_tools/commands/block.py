@@ -3,7 +3,7 @@ import sys
 from pathlib import Path
 
 from rvstm_tools.errors import Status, UserError
-from rvstm_tools.options import Command
+from rvstm_tools.options import Command, argument
 from rvstm_tools.texts import lists, results
 from rvstm_tools.texts.blocks import Block
 
@@ -69,15 +69,6 @@ The first wrong line is reported, with the word that is wrong, and nothing is pr
 an ELF file is reported on standard error, if it is found from here or beside LIST."""
 
 
-def add_options(parser: argparse.ArgumentParser) -> None:
-    parser.add_argument("list", metavar="LIST", help="the list")
-    parser.add_argument(
-        "result", nargs="?", metavar="RESULT",
-        help="a result that rvstm printed: its `store` lines are the storage before this block, and the `store` lines of LIST "
-        "are put over them. So blocks chain",
-    )
-
-
 def run(given: argparse.Namespace) -> int:
     block = block_of(given.list, given.result)
     report_programs(block, given.list)
@@ -119,6 +110,13 @@ COMMAND = Command(
     summary="Builds a block file from a list that people can read.",
     details=DETAILS,
     example="rvstm-tools block votes.list > votes.block",
-    add_options=add_options,
     run=run,
+    arguments=(
+        argument("list", metavar="LIST", help="the list"),
+        argument(
+            "result", nargs="?", metavar="RESULT",
+            help="a result that rvstm printed: its `store` lines are the storage before this block, and the `store` lines of LIST "
+            "are put over them. So blocks chain",
+        ),
+    ),
 )

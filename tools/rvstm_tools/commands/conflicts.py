@@ -3,7 +3,7 @@ from pathlib import Path
 
 from rvstm_tools import options
 from rvstm_tools.errors import Status
-from rvstm_tools.options import Command
+from rvstm_tools.options import Command, argument
 from rvstm_tools.pictures.waits import Picture
 from rvstm_tools.programs import finding, running
 from rvstm_tools.texts import conflicts
@@ -20,11 +20,6 @@ that computes first and reads late runs beside those that it waits for, up to th
 The status is 0 if the picture is drawn, 1 if the block is refused or a file cannot be read, and 2 for a wrong command line."""
 
 
-def add_options(parser: argparse.ArgumentParser) -> None:
-    parser.add_argument("file", metavar="FILE", help="a block file")
-    parser.add_argument("--svg", type=Path, required=True, metavar="OUT", help="a file for the picture")
-
-
 def run(given: argparse.Namespace) -> int:
     view = options.view(given)
     program = finding.chosen(options.program_choice(given), "conflicts")
@@ -38,7 +33,11 @@ COMMAND = Command(
     summary="Draws which calls of a block wait for which.",
     details=DETAILS,
     example="rvstm-tools conflicts votes.block --svg votes.svg --list votes.list",
-    add_options=add_options,
     run=run,
-    shared=(options.program_parser, options.list_parser),
+    arguments=(
+        options.add_program,
+        options.LIST,
+        argument("file", metavar="FILE", help="a block file"),
+        argument("--svg", type=Path, required=True, metavar="OUT", help="a file for the picture"),
+    ),
 )

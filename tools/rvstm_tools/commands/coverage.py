@@ -9,7 +9,7 @@ from rvstm_tools.debugging import coverage
 from rvstm_tools.debugging.coverage import Covered, SourceFile, Steps
 from rvstm_tools.debugging.sessions import CallOf
 from rvstm_tools.errors import Status, UserError
-from rvstm_tools.options import Command
+from rvstm_tools.options import Command, argument
 from rvstm_tools.programs import finding, running
 from rvstm_tools.programs.running import Program
 from rvstm_tools.texts import lists
@@ -38,12 +38,6 @@ With --lcov the same is written in the format of lcov; genhtml (package lcov) ma
 
 A replay lasts one to three seconds for each million steps. The status is 0 if all is printed, 1 if a list is wrong, a block is
 refused or a file cannot be read, and 2 for a wrong command line."""
-
-
-def add_options(parser: argparse.ArgumentParser) -> None:
-    parser.add_argument("lists", nargs="+", metavar="LIST", type=Path, help="a list, as `rvstm-tools test` takes it")
-    parser.add_argument("--lcov", metavar="OUT", type=Path, help="a file for the same in the format of lcov")
-    parser.add_argument("--sdk", action="store_true", help="counts the files of the SDK too")
 
 
 def run(given: argparse.Namespace) -> int:
@@ -98,7 +92,11 @@ COMMAND = Command(
     summary="Says which lines and branches of contracts the calls of lists ran.",
     details=DETAILS,
     example="rvstm-tools coverage token.list refusals.list --lcov token.info",
-    add_options=add_options,
     run=run,
-    shared=(options.program_parser,),
+    arguments=(
+        options.add_program,
+        argument("lists", nargs="+", metavar="LIST", type=Path, help="a list, as `rvstm-tools test` takes it"),
+        argument("--lcov", metavar="OUT", type=Path, help="a file for the same in the format of lcov"),
+        argument("--sdk", action="store_true", help="counts the files of the SDK too"),
+    ),
 )

@@ -1,7 +1,7 @@
 import argparse
 
 from rvstm_tools.commands import preview
-from rvstm_tools.options import Command
+from rvstm_tools.options import Command, argument
 from rvstm_tools.programs import checkouts, finding, proving
 from rvstm_tools.programs.checkouts import Checkout
 from rvstm_tools.programs.proving import Prover
@@ -11,10 +11,6 @@ DETAILS = """\
 NAME is a folder of examples/ that has a NAME.block. The first run proves every crate of the program. It prints each one as it is
 proved, and how many are left. A later run starts the program at once, as long as no source has changed: a checksum of the sources
 and of the program is beside the program."""
-
-
-def add_options(parser: argparse.ArgumentParser) -> None:
-    parser.add_argument("name", metavar="NAME", help="an example, such as counter")
 
 
 def build(checkout: Checkout, name: str) -> None:
@@ -42,6 +38,6 @@ COMMAND = Command(
     summary="Proves and builds rvstm, if that is not done yet, and runs an example.",
     details=DETAILS,
     example="rvstm-tools example counter",
-    add_options=add_options,
     run=run,
+    arguments=(argument("name", metavar="NAME", help="an example, such as counter"),),
 )

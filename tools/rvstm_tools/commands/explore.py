@@ -8,7 +8,7 @@ from rvstm_tools.exploring.descriptions import Description
 from rvstm_tools.exploring.explorations import SECONDS_TO_SHORTEN, Exploration, Plan
 from rvstm_tools.exploring.folders import Folder
 from rvstm_tools.exploring.searches import LENGTH, Limits
-from rvstm_tools.options import Command
+from rvstm_tools.options import Command, argument
 from rvstm_tools.programs import finding
 
 MOST_CALLS = 20_000  # in all, if no other number is asked for
@@ -93,28 +93,6 @@ The status is 0 if nothing is broken, 1 if something is, 2 if the description, t
 it was interrupted before anything was broken."""
 
 
-def add_options(parser: argparse.ArgumentParser) -> None:
-    parser.add_argument("file", metavar="FILE", help="a description")
-    parser.add_argument(
-        "--calls", type=options.count, metavar="N",
-        help=f"how many are made at most ({MOST_CALLS:,}; with --seconds as many as come)",
-    )
-    parser.add_argument(
-        "--seconds", type=options.positive, metavar="N",
-        help=f"how long calls are made at most, and how long a finding is shortened at most ({SECONDS_TO_SHORTEN:.0f})",
-    )
-    parser.add_argument("--length", type=options.count, default=LENGTH, metavar="N", help=f"of a sequence, in calls ({LENGTH})")
-    parser.add_argument("--out", type=options.new_file, metavar="LIST", help="a file for the list")
-    parser.add_argument(
-        "--folder", type=Path, metavar="FOLDER",
-        help="a folder that keeps what was made and found, with the list as found.list; a run continues from it",
-    )
-    parser.add_argument(
-        "--replace", action="append", default=[], metavar="NAME=PATH",
-        help="puts another program in place of the one of this name; may be given again",
-    )
-
-
 def limits_of(given: argparse.Namespace) -> Limits:
     calls = given.calls or (MOST_CALLS if given.seconds is None else options.MOST_ASKED_FOR)
     return Limits(calls, given.length, given.seconds, given.seed)
@@ -145,7 +123,29 @@ COMMAND = Command(
     summary="Looks for calls that break what a contract has to keep.",
     details=DETAILS,
     example="rvstm-tools explore token.explore --seconds 10",
-    add_options=add_options,
     run=run,
-    shared=(options.program_parser, options.seed_parser, options.jobs_parser),
+    arguments=(
+        options.add_program,
+        options.SEED,
+        options.JOBS,
+        argument("file", metavar="FILE", help="a description"),
+        argument(
+            "--calls", type=options.count, metavar="N",
+            help=f"how many are made at most ({MOST_CALLS:,}; with --seconds as many as come)",
+        ),
+        argument(
+            "--seconds", type=options.positive, metavar="N",
+            help=f"how long calls are made at most, and how long a finding is shortened at most ({SECONDS_TO_SHORTEN:.0f})",
+        ),
+        argument("--length", type=options.count, default=LENGTH, metavar="N", help=f"of a sequence, in calls ({LENGTH})"),
+        argument("--out", type=options.new_file, metavar="LIST", help="a file for the list"),
+        argument(
+            "--folder", type=Path, metavar="FOLDER",
+            help="a folder that keeps what was made and found, with the list as found.list; a run continues from it",
+        ),
+        argument(
+            "--replace", action="append", default=[], metavar="NAME=PATH",
+            help="puts another program in place of the one of this name; may be given again",
+        ),
+    ),
 )

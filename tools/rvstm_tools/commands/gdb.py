@@ -39,10 +39,6 @@ Ctrl-C stops a search. The status is 0 if gdb leaves, 1 if the block is refused 
 command line."""
 
 
-def add_options(_: argparse.ArgumentParser) -> None:
-    """The command has no options of its own."""
-
-
 def run(given: argparse.Namespace) -> int:
     program = finding.chosen(options.program_choice(given), "gdb")
     view = options.view(given)
@@ -66,7 +62,6 @@ COMMAND = Command(
     summary="Lets gdb debug a call of a block forward and backward, by lines of its source.",
     details=DETAILS,
     example='gdb-multiarch token.lines.elf -ex "target remote | rvstm-tools gdb token.block --call 2"',
-    add_options=add_options,
     run=run,
-    shared=(options.program_parser, options.call_parser, options.list_parser),
+    arguments=(options.add_program, *options.CALL, options.LIST),
 )

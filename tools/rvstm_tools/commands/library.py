@@ -78,10 +78,6 @@ def build(checkout: Checkout) -> None:
             checkouts.note_built(products.path(product), sources)
 
 
-def add_options(_: argparse.ArgumentParser) -> None:
-    """The command has no options."""
-
-
 def run(_: argparse.Namespace) -> int:
     checkout = checkouts.here("library")
     build(checkout)
@@ -99,6 +95,5 @@ COMMAND = Command(
     summary="Proves and builds the library for C: an archive and a shared object.",
     details=DETAILS,
     example="rvstm-tools library",
-    add_options=add_options,
     run=run,
 )

@@ -7,7 +7,7 @@ import sys
 from pathlib import Path
 
 from rvstm_tools.errors import Status, UserError
-from rvstm_tools.options import Command
+from rvstm_tools.options import Command, argument
 from rvstm_tools.programs import compilers, finding
 from rvstm_tools.templates import folders
 from rvstm_tools.templates.folders import Language, Places
@@ -32,11 +32,6 @@ these tools. Rust needs its own libraries for {compilers.TARGET}: `SDK/rust/buil
 root, of Debian's packages; with rustup `rustup target add {compilers.TARGET}` fetches them.
 
 The status is 0 if the contract is built, 1 if it is not, and 2 for a wrong command line."""
-
-
-def add_options(parser: argparse.ArgumentParser) -> None:
-    parser.add_argument("folder", type=Path, metavar="FOLDER", help="the folder to make")
-    parser.add_argument("--rust", action="store_true", help="a contract in Rust; without it one in C")
 
 
 def run(given: argparse.Namespace) -> int:
@@ -86,6 +81,9 @@ COMMAND = Command(
     summary="Makes a folder with a contract, its test and a description of random calls.",
     details=DETAILS,
     example="rvstm-tools new votes && rvstm-tools test votes",
-    add_options=add_options,
     run=run,
+    arguments=(
+        argument("folder", type=Path, metavar="FOLDER", help="the folder to make"),
+        argument("--rust", action="store_true", help="a contract in Rust; without it one in C"),
+    ),
 )

@@ -6,7 +6,7 @@ from dataclasses import dataclass, field
 from pathlib import Path
 
 from rvstm_tools.errors import Status
-from rvstm_tools.options import Command
+from rvstm_tools.options import Command, argument
 from rvstm_tools.programs import checkouts
 from rvstm_tools.releases import archives, helps, packing, parts
 from rvstm_tools.releases.archives import EXECUTABLE, Entries, File
@@ -130,10 +130,6 @@ class Release:
         return made | {"SHA256SUMS": sums.encode()}
 
 
-def add_options(parser: argparse.ArgumentParser) -> None:
-    parser.add_argument("folder", type=Path, metavar="FOLDER", help="a folder that is made for the files")
-
-
 def run(given: argparse.Namespace) -> int:
     folder, products = given.folder, Products(checkouts.here("release"))
     release = Release(products)
@@ -156,6 +152,6 @@ COMMAND = Command(
     summary="Makes the files of a release: packages for Debian, an archive for other systems, and their checksums.",
     details=DETAILS,
     example="rvstm-tools release /tmp/release",
-    add_options=add_options,
     run=run,
+    arguments=(argument("folder", type=Path, metavar="FOLDER", help="a folder that is made for the files"),),
 )

@@ -5,7 +5,7 @@ import sys
 
 from rvstm_tools import options
 from rvstm_tools.errors import Status
-from rvstm_tools.options import Command
+from rvstm_tools.options import Command, argument
 from rvstm_tools.texts import objects, result_schema, results, tables
 
 DETAILS = """\
@@ -16,12 +16,6 @@ are in quotes if they are a text, and otherwise in hex. If all bytes of a value 
 or 8 bytes are a number too, the lowest byte first. An amount that a call added to a key is a number with a + before it.
 
 With --list, keys and values are printed by the words and the lines `shape` of a list (`rvstm-tools block --help`)."""
-
-
-def add_options(parser: argparse.ArgumentParser) -> None:
-    parser.add_argument("--json", action="store_true", help="an object a line: each call with its writes, each key of the storage, and the end")
-    parser.add_argument("--schema", action="store_true", help="prints the JSON schema of the objects of --json, and reads nothing")
-    parser.add_argument("--registers", action="store_true", help="prints the registers of each call at its end, too")
 
 
 def run(given: argparse.Namespace) -> int:
@@ -46,7 +40,11 @@ COMMAND = Command(
     summary="Prints a result of rvstm for people, or as lines of JSON.",
     details=DETAILS,
     example="rvstm seq votes.block | rvstm-tools result --list votes.list",
-    add_options=add_options,
     run=run,
-    shared=(options.list_parser,),
+    arguments=(
+        options.LIST,
+        argument("--json", action="store_true", help="an object a line: each call with its writes, each key of the storage, and the end"),
+        argument("--schema", action="store_true", help="prints the JSON schema of the objects of --json, and reads nothing"),
+        argument("--registers", action="store_true", help="prints the registers of each call at its end, too"),
+    ),
 )

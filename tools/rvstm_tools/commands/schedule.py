@@ -5,7 +5,7 @@ from pathlib import Path
 
 from rvstm_tools import options
 from rvstm_tools.errors import MisuseError, Status
-from rvstm_tools.options import Command
+from rvstm_tools.options import Command, argument
 from rvstm_tools.programs import finding, running
 from rvstm_tools.programs.running import Runner
 from rvstm_tools.texts import numbers, schedules
@@ -43,14 +43,6 @@ def number_in(word: str, least: int, most: int) -> int:
     return number
 
 
-def add_options(parser: argparse.ArgumentParser) -> None:
-    parser.add_argument("workers", type=worker_count, metavar="WORKERS", help="how many workers there are, 1 to 32")
-    parser.add_argument("length", type=length, nargs="?", metavar="LENGTH", help="how many entries are printed")
-    parser.add_argument("form", nargs="*", metavar="FORM", help=f"{schedules.FORMS}; without it turns")
-    parser.add_argument("--to-done", metavar="BLOCK", help="prints what must follow a list for this block file")
-    parser.add_argument("--from", type=Path, dest="schedule", metavar="SCHEDULE", help="the list that is continued")
-
-
 def run(given: argparse.Namespace) -> int:
     is_continued = given.to_done is not None
     if is_continued != (given.schedule is not None) or is_continued == (given.length is not None):
@@ -78,7 +70,13 @@ COMMAND = Command(
     summary="Prints a schedule file for `rvstm drive`: one worker number a line.",
     details=DETAILS,
     example="rvstm-tools schedule 4 1000 random 7 > block.schedule",
-    add_options=add_options,
     run=run,
-    shared=(options.program_parser,),
+    arguments=(
+        options.add_program,
+        argument("workers", type=worker_count, metavar="WORKERS", help="how many workers there are, 1 to 32"),
+        argument("length", type=length, nargs="?", metavar="LENGTH", help="how many entries are printed"),
+        argument("form", nargs="*", metavar="FORM", help=f"{schedules.FORMS}; without it turns"),
+        argument("--to-done", metavar="BLOCK", help="prints what must follow a list for this block file"),
+        argument("--from", type=Path, dest="schedule", metavar="SCHEDULE", help="the list that is continued"),
+    ),
 )

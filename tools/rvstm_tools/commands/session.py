@@ -6,7 +6,7 @@ from pathlib import Path
 
 from rvstm_tools import errors, options
 from rvstm_tools.errors import MisuseError, Status, UserError
-from rvstm_tools.options import Command
+from rvstm_tools.options import Command, argument
 from rvstm_tools.programs import finding
 from rvstm_tools.sessions import typed
 from rvstm_tools.sessions.clients import FIRST_KEY, Client
@@ -85,33 +85,6 @@ STATE = Asked("state", lambda client: client.lines(Word.STATE))
 LAST = Asked("last", lambda client: client.last())
 
 
-def add_options(parser: argparse.ArgumentParser) -> None:
-    parser.add_argument("lists", nargs="*", type=Path, metavar="LIST", help="a list or a block file, which is run as a frame")
-    parser.add_argument(
-        "--get", dest="asked", action="append", default=[], type=get_of, metavar="KEY",
-        help="the value at a key, which a word of a list says; it may be given again, as each of the next four",
-    )
-    parser.add_argument(
-        "--list", dest="asked", action="append", nargs="?", const=list_of(""), type=list_of, metavar="FROM",
-        help="the keys from FROM on, at most 1,024; without FROM from the first one",
-    )
-    parser.add_argument(
-        "--state", dest="asked", action="append_const", const=STATE, help="rules, height, keys, programs, settings and digest"
-    )
-    parser.add_argument(
-        "--dump", dest="asked", action="append", nargs="?", const=dump_of(""), type=dump_of, metavar="OUT",
-        help="the whole storage; with OUT it is written there, as `begin` takes it",
-    )
-    parser.add_argument("--last", dest="asked", action="append_const", const=LAST, help="what the last frame was answered")
-    parser.add_argument("--replay", type=Path, metavar="FOLDER", help="sends the frames of a folder again, and compares digests")
-    parser.add_argument("--write", action="store_true", help="with --replay: writes the digests in place of comparing them")
-    parser.add_argument("--store", metavar="FILE", help="the file that the session is kept in; without it the session is in memory")
-    parser.add_argument("--frame-limit", type=count, default=LONGEST_FRAME, metavar="BYTES", help="the most bytes of a frame")
-    parser.add_argument("--frame-gas", type=count, metavar="N", help="the most gas of all calls of a frame")
-    parser.add_argument("--workers", type=int, choices=range(1, 33), metavar="N", help="runs calls on so many threads if that pays")
-    parser.add_argument("--brief", action="store_true", help="answers have no lines `regs`; they are not printed here anyway")
-
-
 def settings_of(given: argparse.Namespace) -> Settings:
     return Settings(given.frame_limit, given.frame_gas, True, given.brief, given.workers, given.store)
 
@@ -180,7 +153,30 @@ COMMAND = Command(
     summary="Runs frames in a session of `rvstm chain`, and asks it.",
     details=DETAILS,
     example="rvstm-tools session --store ledger votes.list --get key:alice --state",
-    add_options=add_options,
     run=run,
-    shared=(options.program_parser,),
+    arguments=(
+        options.add_program,
+        argument("lists", nargs="*", type=Path, metavar="LIST", help="a list or a block file, which is run as a frame"),
+        argument(
+            "--get", dest="asked", action="append", default=[], type=get_of, metavar="KEY",
+            help="the value at a key, which a word of a list says; it may be given again, as each of the next four",
+        ),
+        argument(
+            "--list", dest="asked", action="append", nargs="?", const=list_of(""), type=list_of, metavar="FROM",
+            help="the keys from FROM on, at most 1,024; without FROM from the first one",
+        ),
+        argument("--state", dest="asked", action="append_const", const=STATE, help="rules, height, keys, programs, settings and digest"),
+        argument(
+            "--dump", dest="asked", action="append", nargs="?", const=dump_of(""), type=dump_of, metavar="OUT",
+            help="the whole storage; with OUT it is written there, as `begin` takes it",
+        ),
+        argument("--last", dest="asked", action="append_const", const=LAST, help="what the last frame was answered"),
+        argument("--replay", type=Path, metavar="FOLDER", help="sends the frames of a folder again, and compares digests"),
+        argument("--write", action="store_true", help="with --replay: writes the digests in place of comparing them"),
+        argument("--store", metavar="FILE", help="the file that the session is kept in; without it the session is in memory"),
+        argument("--frame-limit", type=count, default=LONGEST_FRAME, metavar="BYTES", help="the most bytes of a frame"),
+        argument("--frame-gas", type=count, metavar="N", help="the most gas of all calls of a frame"),
+        argument("--workers", type=int, choices=range(1, 33), metavar="N", help="runs calls on so many threads if that pays"),
+        argument("--brief", action="store_true", help="answers have no lines `regs`; they are not printed here anyway"),
+    ),
 )

@@ -7,7 +7,7 @@ from pathlib import Path
 from rvstm_tools import errors
 from rvstm_tools import options as common
 from rvstm_tools.errors import MisuseError, Status, UserError
-from rvstm_tools.options import Command
+from rvstm_tools.options import Command, argument
 from rvstm_tools.programs import finding
 from rvstm_tools.testing import junit, listed, reports, testers
 from rvstm_tools.testing.gastables import Gas, GasDifference, GasTable
@@ -84,33 +84,6 @@ def percent(word: str) -> float:
     if not 0 <= number < float("inf"):
         raise argparse.ArgumentTypeError(f"{word}: it is a number of percent")
     return number
-
-
-def add_options(parser: argparse.ArgumentParser) -> None:
-    parser.add_argument(
-        "files", nargs="+", metavar="FILE",
-        help="a list, or a folder: its lists NAME.list, and those of folders in it, that have a line `expect`",
-    )
-    parser.add_argument(
-        "--only", "--filter", action="append", default=[], metavar="NAME",
-        help="only lists that have NAME in their path; may be given again",
-    )
-    parser.add_argument(
-        "--variant", action="append", default=[], metavar="NAME",
-        help="runs each list again with PROGRAM-NAME.elf in place of PROGRAM.elf, if that is there; may be given again",
-    )
-    parser.add_argument(
-        "--update", action="store_true",
-        help="writes the numbers of the lines `gas at most` again if all other lines are met: the gas that came, the "
-        "most of all variants",
-    )
-    parser.add_argument("--json", action="store_true", help="an object a line: each test, gas that differs, and the sums")
-    parser.add_argument("--junit", type=common.new_file, metavar="XML", help="a file for the tests in the format of JUnit")
-    parser.add_argument("--gas", type=common.new_file, metavar="FILE", help="a table of the gas of all calls, to compare with")
-    parser.add_argument(
-        "--within", type=percent, default=0.0, metavar="N", help="by how many percent gas may differ from the table (0)"
-    )
-    parser.add_argument("--write", action="store_true", help="makes the table of --gas again, if all tests pass")
 
 
 def run(given: argparse.Namespace) -> int:
@@ -191,7 +164,31 @@ COMMAND = Command(
     summary="Runs tests of contracts.",
     details=DETAILS,
     example="rvstm-tools test --variant gnu examples/token",
-    add_options=add_options,
     run=run,
-    shared=(common.program_parser, common.jobs_parser),
+    arguments=(
+        common.add_program,
+        common.JOBS,
+        argument(
+            "files", nargs="+", metavar="FILE",
+            help="a list, or a folder: its lists NAME.list, and those of folders in it, that have a line `expect`",
+        ),
+        argument(
+            "--only", "--filter", action="append", default=[], metavar="NAME",
+            help="only lists that have NAME in their path; may be given again",
+        ),
+        argument(
+            "--variant", action="append", default=[], metavar="NAME",
+            help="runs each list again with PROGRAM-NAME.elf in place of PROGRAM.elf, if that is there; may be given again",
+        ),
+        argument(
+            "--update", action="store_true",
+            help="writes the numbers of the lines `gas at most` again if all other lines are met: the gas that came, the "
+            "most of all variants",
+        ),
+        argument("--json", action="store_true", help="an object a line: each test, gas that differs, and the sums"),
+        argument("--junit", type=common.new_file, metavar="XML", help="a file for the tests in the format of JUnit"),
+        argument("--gas", type=common.new_file, metavar="FILE", help="a table of the gas of all calls, to compare with"),
+        argument("--within", type=percent, default=0.0, metavar="N", help="by how many percent gas may differ from the table (0)"),
+        argument("--write", action="store_true", help="makes the table of --gas again, if all tests pass"),
+    ),
 )

@@ -9,7 +9,7 @@ from rvstm_tools.debugging.sessions import CallOf
 from rvstm_tools.debugging.traces import Places
 from rvstm_tools.errors import Status, UserError
 from rvstm_tools.models import charges
-from rvstm_tools.options import Command
+from rvstm_tools.options import Command, argument
 from rvstm_tools.pictures import flames
 from rvstm_tools.programs import finding, running
 from rvstm_tools.programs.running import Runner
@@ -37,11 +37,6 @@ A replay lasts one to three seconds for each million steps; how many are done an
 
 The gas is counted by the rules of the block, and its sum is compared with the receipt of the call. The status is 0 if all is
 printed, 1 if the block is refused or a file cannot be read, and 2 for a wrong command line."""
-
-
-def add_options(parser: argparse.ArgumentParser) -> None:
-    parser.add_argument("--lines", metavar="ELF", help="the program of the call with its symbols and lines")
-    parser.add_argument("--svg", type=Path, metavar="OUT", help="a file for the flame graph")
 
 
 def run(given: argparse.Namespace) -> int:
@@ -78,7 +73,12 @@ COMMAND = Command(
     summary="Traces a call of a block: its storage calls, and its gas by function.",
     details=DETAILS,
     example="rvstm-tools trace votes.block --call 2 --svg votes.svg",
-    add_options=add_options,
     run=run,
-    shared=(options.program_parser, options.call_parser, options.list_parser),
+    arguments=(
+        options.add_program,
+        *options.CALL,
+        options.LIST,
+        argument("--lines", metavar="ELF", help="the program of the call with its symbols and lines"),
+        argument("--svg", type=Path, metavar="OUT", help="a file for the flame graph"),
+    ),
 )

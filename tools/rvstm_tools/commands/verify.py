@@ -5,7 +5,7 @@ from pathlib import Path
 
 from rvstm_tools.commands import example, library
 from rvstm_tools.errors import Status, UserError
-from rvstm_tools.options import Command
+from rvstm_tools.options import Command, argument
 from rvstm_tools.programs import checkouts, proving
 from rvstm_tools.releases import verifying
 from rvstm_tools.releases.products import Product, Products
@@ -24,12 +24,6 @@ compared with the checksum of `rvstm` in this file, and a package with its own.
 
 A line is printed for each comparison. Without --sums another line says which proofs the equal files have, with which logic and of
 which sources. The status is 0 if all are equal, 1 if one is not or cannot be made, and 2 for a wrong command line."""
-
-
-def add_options(parser: argparse.ArgumentParser) -> None:
-    parser.add_argument("file", metavar="FILE", help="a program or a package")
-    parser.add_argument("--sums", metavar="SHA256SUMS", help="the checksums of a release")
-    parser.add_argument("--yes", action="store_true", help="proves and builds what is not there, and does not ask")
 
 
 def build(products: Products, product: Product, is_asked: bool) -> None:
@@ -63,6 +57,10 @@ COMMAND = Command(
     summary="Says whether a program or a package has the proved program.",
     details=DETAILS,
     example="rvstm-tools verify rvstm_0.2.0_amd64.deb --sums SHA256SUMS",
-    add_options=add_options,
     run=run,
+    arguments=(
+        argument("file", metavar="FILE", help="a program or a package"),
+        argument("--sums", metavar="SHA256SUMS", help="the checksums of a release"),
+        argument("--yes", action="store_true", help="proves and builds what is not there, and does not ask"),
+    ),
 )
