@@ -63,12 +63,10 @@ class Book:
 
 
 def book_of(words: Sequence[str]) -> Book:
-    """The book for the words of --book, which are as for --reading."""
     return Book(reading.reading_of(words))
 
 
 def title_of(asked: Asked) -> str:
-    """A call with the names of its clauses."""
     return asked.call.full_name + (f" ({', '.join(asked.named)})" if asked.named else "")
 
 
@@ -103,12 +101,10 @@ def seen_of(held: Type) -> Iterator[tuple[str, str]]:
 
 
 def heading(text: str, line: str = "-") -> list[str]:
-    """A heading with a line below it."""
     return ["", "", text, line * min(len(text), WIDTH), ""]
 
 
 def filled(text: str) -> list[str]:
-    """A long line as several."""
     return textwrap.wrap(text, WIDTH, break_long_words=False, break_on_hyphens=False)
 
 
@@ -133,7 +129,6 @@ def kit_lines(names: Names) -> Iterator[str]:
 
 
 def listed(words: Sequence[str]) -> Iterator[str]:
-    """The lines that --book prints."""
     book = book_of(words)
     held = book.reading
     yield from [book.title, "=" * min(len(book.title), WIDTH), "", book.summary]
