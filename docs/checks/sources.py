@@ -9,6 +9,8 @@ from pathlib import Path
 TOP = Path(__file__).resolve().parents[2]
 CRATES = TOP / "crates"
 USE = re.compile(r"^ *(?:ghost )?(?:pub )?use ([\w.+]+?)(?:\.\{(.*?)\})?(?: as (\S+?))?;?$", re.M)
+QUOTED = re.compile(r'"[^"\n]*"')
+QUOTED_NAME = re.compile(r"\{(\w+)")
 RUST_USE = re.compile(r"^(pub(?:\(\w+\))? )?use ([\w:]+?)(?:::\{([^{}]*)\}|::(\w+(?: as \w+)?|\*))?;", re.M)
 
 
@@ -61,7 +63,7 @@ def lines_of(file: str) -> list[str]:
 
 
 def without_comments(text: str) -> str:
-    return re.sub(r"(?://|--).*", "", re.sub(r'"[^"\n]*"', '""', text))
+    return re.sub(r"(?://|--).*", "", QUOTED.sub('""', text))
 
 
 @functools.cache
@@ -73,8 +75,9 @@ def files_of(crate: str) -> tuple[Path, ...]:
 
 @functools.cache
 def code_of(path: Path) -> str:
-    """The text of a file of code or of proofs without its comments and `use` lines."""
-    return RUST_USE.sub("", USE.sub("", without_comments(text_of(path))))
+    """The text of a file of code or of proofs without its comments and `use` lines. Of texts between quotes the names in braces stay."""
+    named = QUOTED.sub(lambda text: f" {' '.join(QUOTED_NAME.findall(text[0]))} ", text_of(path))
+    return RUST_USE.sub("", USE.sub("", without_comments(named)))
 
 
 def first_sentence(lines: list[str]) -> str:

@@ -281,6 +281,12 @@ class Unused(unittest.TestCase):
         rows = found({"crates/user/src/more.rt": "use base::{Alone, listed};\n// listed()\nfn f() -> u32 {\n    \"Alone\"\n}\n"})
         self.assertEqual(rows[unused.Kind.NOBODY], ["Alone", "Alone::counted", "Boxed::left_over", "listed"])
 
+    def test_names_in_a_text_to_print(self) -> None:
+        code = "use base::{LIMIT, Alone};\nfn f() -> String {\n    format!(in alloc; \"Alone {LIMIT} {0}\")\n}\n"
+        rows = found({"crates/user/src/more.rt": code})
+        self.assertEqual(rows[unused.Kind.TESTS], ["Tested", "starred"])
+        self.assertIn("Alone", rows[unused.Kind.NOBODY])
+
     def test_definitions(self) -> None:
         rows = found()
         # `no_one` is also a field, in a comment, and in a `pub use`; IsBig is reached by the arguments of the module of IsEven.
