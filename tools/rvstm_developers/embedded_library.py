@@ -8,6 +8,7 @@ from pathlib import Path
 from rvstm_developers import running
 from rvstm_developers.texts import TOP
 from rvstm_tools.errors import UserError
+from rvstm_tools.models.sessions import HIGHEST
 from rvstm_tools.programs.pipes import Pipes
 from rvstm_tools.sessions.answers import Kind
 from rvstm_tools.sessions.processes import Settings
@@ -16,13 +17,13 @@ from rvstm_tools.sessions.requests import Request, Word
 DRIVER = Path(__file__).with_name("embedded_driver.c")
 MADE = TOP / "crates/rvstm_c/out/embedded"
 ARCHIVE, SHARED = MADE / "librvstm.a", MADE / "librvstm.so"
-NO_LIMIT, MOST = 2**64 - 1, 9_999_999_999
+NO_LIMIT = 2**64 - 1
 LETTERS = {
     Word.PROGRAM: b"p", Word.FORGET: b"x", Word.PROGRAMS: b"n", Word.FRAME: b"f", Word.TRY: b"t", Word.LAST: b"a", Word.GET: b"g",
     Word.LIST: b"l", Word.DUMP: b"d", Word.BEGIN: b"b", Word.STATE: b"s",
 }
 OPEN, OPEN_WITH, CLOSE = b"o", b"w", b"c"
-BAD_SETTINGS_TEXTS = (b"%d 1 0 0" % (MOST + 1), b"1 %d 0 0" % (MOST + 1), b"%d %d 1 1" % (NO_LIMIT, NO_LIMIT))
+BAD_SETTINGS_TEXTS = (b"%d 1 0 0" % (HIGHEST + 1), b"1 %d 0 0" % (HIGHEST + 1), b"%d %d 1 1" % (NO_LIMIT, NO_LIMIT))
 SHOWN_OF_ERRORS = 2000
 FIELDS_OF_AN_ANSWER = 7
 

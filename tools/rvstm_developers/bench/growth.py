@@ -1,13 +1,12 @@
 import argparse
 import math
 import tempfile
-import time
 from collections.abc import Iterator, Sequence
 from dataclasses import dataclass
 from pathlib import Path
 
-from rvstm_developers import options, running
-from rvstm_developers.bench import blocks, tables
+from rvstm_developers import options
+from rvstm_developers.bench import blocks, processes, tables
 from rvstm_developers.bench.blocks import Input, TimedBlock
 from rvstm_developers.bench.pictures import COLOURS, Picture, Point
 from rvstm_developers.running import Word
@@ -41,23 +40,13 @@ def sized() -> Iterator[tuple[int, TimedBlock]]:
         yield size, TimedBlock("keys written by a call", "write", calls)
 
 
-def best_time(words: Sequence[Word], place: Path) -> float:
-    """The best time of a command, in microseconds."""
-    best = math.inf
-    for _ in range(TIMES):
-        start = time.perf_counter()
-        running.output_of(words, place)
-        best = min(best, time.perf_counter() - start)
-    return best * 1e6
-
-
 def measured(rvstm: Path, place: Path) -> Iterator[Row]:
     for source in ("counter", "write"):
         blocks.assemble(rvstm, place, source)
     for size, block in sized():
         (place / "one.block").write_text(block.text())
-        seq = best_time([rvstm, "seq", "one.block"], place)
-        run = best_time([rvstm, "run", "one.block", "--workers", "4"], place)
+        commands: list[list[Word]] = [[rvstm, "seq", "one.block"], [rvstm, "run", "one.block", "--workers", "4"]]
+        seq, run = (1000 * min(spent) for spent in processes.times_of(commands, place, TIMES).rounds)
         yield Row(block.name, size, len(block.calls), seq, run)
 
 

@@ -9,8 +9,8 @@ from collections.abc import Sequence
 from dataclasses import dataclass
 from pathlib import Path
 
-from rvstm_developers import options, running
-from rvstm_developers.bench import blocks, tables
+from rvstm_developers import options
+from rvstm_developers.bench import blocks, processes, tables
 from rvstm_developers.bench.blocks import Input, TimedBlock
 from rvstm_developers.bench.pictures import COLOURS, DARK_GREY, GREY, Picture, Point
 from rvstm_developers.running import Word
@@ -35,32 +35,25 @@ COLUMNS = (
 
 
 @dataclass(frozen=True)
-class Round:
-    """A round in milliseconds: `seq` and the runs, and the processes that ran at once."""
-
-    times: list[float]
-    at_once: list[float]
-
-
-@dataclass(frozen=True)
 class Rounds:
     length: int
     calls: int
-    rounds: list[Round]
+    times: list[list[float]]  # of each round in milliseconds: `seq` and the runs
+    at_once: list[list[float]]  # and the processes that ran at once
 
     def ratios(self, number: int) -> list[float]:
-        return [one.times[0] / one.times[number + 1] for one in self.rounds]
+        return [one[0] / one[number + 1] for one in self.times]
 
     def ratio(self, number: int) -> float:
         return statistics.median(self.ratios(number))
 
     def cells(self, fastest: float) -> list[str]:
         """The row of the table. The fastest process of all rounds says what processors have."""
-        room = [sum(fastest / spent for spent in one.at_once) for one in self.rounds]
+        room = [sum(fastest / spent for spent in one) for one in self.at_once]
         quiet = [ratio for ratio, had in zip(self.ratios(len(WORKERS) - 1), room) if had >= QUIET]
         figures = [*(self.ratio(number) for number in range(len(WORKERS))), statistics.median(room)]
         return [
-            f"{self.length:,}", f"{self.calls:,}", tables.middle(one.times[0] for one in self.rounds),
+            f"{self.length:,}", f"{self.calls:,}", tables.middle(one[0] for one in self.times),
             *(f"{figure:.2f}" for figure in figures), tables.middle(quiet, ".2f") if quiet else "-", f"{len(quiet)} of {ROUNDS}",
         ]
 
@@ -68,18 +61,6 @@ class Rounds:
 def mixing(length: int, count: int) -> list[Input]:
     mixes = word((length - OTHER_INSTRUCTIONS) // INSTRUCTIONS_A_ROUND)
     return [Input(GAS, key(number) + mixes) for number in range(count)]
-
-
-def times_of(commands: Sequence[Sequence[Word]], place: Path) -> list[float]:
-    """The time of each command in milliseconds, in turn. All print the same."""
-    times, outputs = [], set()
-    for words in commands:
-        start = time.perf_counter()
-        outputs.add(running.output_of(words, place))
-        times.append(1000 * (time.perf_counter() - start))
-    if len(outputs) != 1:
-        raise UserError("a run differs from seq")
-    return times
 
 
 def times_at_once(words: Sequence[Word], place: Path) -> list[float]:
@@ -105,7 +86,13 @@ def rounds_of(rvstm: Path, place: Path, length: int) -> Rounds:
     commands: list[list[Word]] = [[rvstm, "seq", "calls.block"]]
     commands += [[rvstm, "run", "calls.block", "--workers", str(workers)] for workers in WORKERS]
     yardstick: list[Word] = [rvstm, "seq", "yardstick.block"]
-    return Rounds(length, count, [Round(times_of(commands, place), times_at_once(yardstick, place)) for _ in range(ROUNDS)])
+    found = Rounds(length, count, [], [])
+    for _ in range(ROUNDS):
+        times = processes.times_of(commands, place, 1)
+        times.check(f"{length:,} instructions")
+        found.times.append([spent for (spent,) in times.rounds])
+        found.at_once.append(times_at_once(yardstick, place))
+    return found
 
 
 def picture(found: Sequence[Rounds]) -> Picture:
@@ -135,7 +122,7 @@ def run(given: argparse.Namespace) -> int:
         blocks.assemble(given.rvstm, place, "work")
         (place / "yardstick.block").write_text(TimedBlock("", "work", mixing(YARDSTICK_LENGTH, YARDSTICK_CALLS)).text())
         found = [rounds_of(given.rvstm, place, length) for length in LENGTHS]
-    fastest = min(spent for one in found for each in one.rounds for spent in each.at_once)
+    fastest = min(spent for one in found for each in one.at_once for spent in each)
     tables.print_table(COLUMNS, [one.cells(fastest) for one in found])
     if given.picture:
         picture(found).write(given.picture)

@@ -11,6 +11,7 @@ from collections.abc import Sequence
 from dataclasses import dataclass
 from pathlib import Path
 
+from rvstm_developers.bench import tables
 from rvstm_developers.running import Word
 from rvstm_tools.errors import UserError
 from rvstm_tools.sessions.answers import Done
@@ -103,3 +104,34 @@ def answered(session: Session, request: Request) -> Answered:
         said = session.end().said() if answer is None else answer.text().decode().strip()
         raise UserError(f"a request is answered by {said or 'nothing'}")
     return Answered(answer.body, 1000 * (time.perf_counter() - began), milliseconds_of(session.process.pid) - before)
+
+
+# ---- commands that are timed in turn
+
+
+@dataclass(frozen=True)
+class Times:
+    """Of each command its milliseconds in each round, and what it printed last."""
+
+    rounds: list[list[float]]
+    outputs: list[bytes]
+
+    def ratios(self, first: int = 0) -> list[float]:
+        """How many times as fast as the command of a number each command after it is."""
+        return [tables.ratio(self.rounds[first], spent) for spent in self.rounds[first + 1 :]]
+
+    def check(self, name: str, first: int = 0) -> None:
+        if any(output != self.outputs[first] for output in self.outputs[first:]):
+            raise UserError(f"{name}: a run differs from seq")
+
+
+def times_of(commands: Sequence[Sequence[Word]], place: Path, count: int, output: int = subprocess.PIPE) -> Times:
+    """Runs all commands in turn, in so many rounds."""
+    times = Times([[] for _ in commands], [b""] * len(commands))
+    for _ in range(count):
+        for number, words in enumerate(commands):
+            start = time.perf_counter()
+            done = subprocess.run(words, cwd=place, stdout=output, stderr=output, check=True)
+            times.rounds[number].append(1000 * (time.perf_counter() - start))
+            times.outputs[number] = done.stdout
+    return times

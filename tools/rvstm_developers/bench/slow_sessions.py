@@ -48,20 +48,8 @@ def random_keys() -> list[Key]:
 def begun(rvstm: Path, keys: list[Key], store: str | None = None) -> Session:
     session = Session(rvstm, Settings(frame_limit=FRAME_LIMIT, store=store))
     dump = frames.dump_of(3, dict.fromkeys(keys, word(1, 8)))
-    answered(session, requests.begin(0, bytes(32) if store else None, dump))
+    processes.answered(session, requests.begin(0, bytes(32) if store else None, dump))
     return session
-
-
-@dataclass(frozen=True)
-class Answered:
-    body: bytes
-    seconds: float
-
-
-def answered(session: Session, request: Request) -> Answered:
-    """Asks for what must not be refused."""
-    found = processes.answered(session, request)
-    return Answered(found.body, found.processor / 1000)
 
 
 def compared(names: Sequence[str], unit: str, rounds: int, act: Callable[[int], float]) -> list[Row]:
@@ -77,12 +65,12 @@ def reads_of_one_hash(rvstm: Path, place: Path, rounds: int) -> list[Row]:
     masks, program = (0, ONES), (place / "draw.elf").read_bytes()
     open_sessions = [begun(rvstm, [pair_key(number, mask) for number in range(KEYS)]) for mask in masks]
     for session in open_sessions:
-        answered(session, Request(Word.PROGRAM, (), program))
+        processes.answered(session, Request(Word.PROGRAM, (), program))
     choice = random.Random(1)
 
     def act(one: int) -> float:
         calls = [CallLine(0, GAS, word(masks[one]) + word(choice.getrandbits(32))) for _ in range(CALLS)]
-        return answered(open_sessions[one], frame_of(program, calls)).seconds / (CALLS * reads_of_a_call())
+        return processes.answered(open_sessions[one], frame_of(program, calls)).processor / 1000 / (CALLS * reads_of_a_call())
 
     try:
         return compared(("a read of a random key, all of other hashes", "the same, all of one hash"), "a read", rounds, act)
@@ -125,11 +113,11 @@ def keys_that_come(rvstm: Path, place: Path, rounds: int, store: str | None = No
              "the same that remove them")
     with begun(rvstm, random_keys(), store) as session:
         for program in (scatter, work):
-            answered(session, Request(Word.PROGRAM, (), program))
+            processes.answered(session, Request(Word.PROGRAM, (), program))
 
         def act(one: int) -> float:
-            found = [answered(session, frame) for frame in asked[one]]
-            return sum(each.seconds for each in found) / sum(gas_in(each.body) for each in found)
+            found = [processes.answered(session, frame) for frame in asked[one]]
+            return sum(each.processor for each in found) / 1000 / sum(gas_in(each.body) for each in found)
 
         where = ", in a file" if store else ""
         return compared([f"{name}{where}" for name in names], "a unit of gas", rounds, act)
@@ -143,11 +131,11 @@ def pages_of_a_list(rvstm: Path, rounds: int) -> list[Row]:
         def act(one: int) -> float:
             spent = 0.0
             for number in range(PAGES):
-                first = keys[places[one] + number].hex().encode()
-                found = answered(session, Request(Word.LIST, (first, b"%d" % PAGE)))
+                first = requests.key_field(keys[places[one] + number])
+                found = processes.answered(session, Request(Word.LIST, (first, b"%d" % PAGE)))
                 if found.body.count(b"\n") != PAGE or first not in found.body:
                     raise UserError("a page of `list` has other keys")
-                spent += found.seconds
-            return spent / PAGES
+                spent += found.processor
+            return spent / 1000 / PAGES
 
         return compared(("`list` of 1,024 keys, from the first one on", "the same at the last keys"), "a page", rounds, act)

@@ -13,7 +13,7 @@ from rvstm_developers.bench.processes import Spent, sound, timed
 from rvstm_developers.bench.slow_blocks import BLOCKS, CHAIN, CHAIN_4, GAS, SEQ, Block, Content, Share, endless, used_up
 from rvstm_tools.errors import MisuseError
 from rvstm_tools.options import Command, argument
-from rvstm_tools.sessions import frames
+from rvstm_tools.sessions import frames, requests
 
 CALLS, ROUNDS, WORK_CALLS, RULES = 16, 3, 4, 3
 SOURCES = ("work", "reads", "bump", "turns", "sweep", "gather", "add-later", "read-later", "draw", "scatter")
@@ -44,7 +44,7 @@ def write_block(options: Options, name: str, content: Content) -> None:
     text = texts.block_text(paths, content.store, content.calls, texts.head_of(RULES))
     (options.place / f"{name}.block").write_text(text)
     named = frames.named(text.encode(), options.place)
-    (options.place / f"{name}.requests").write_bytes(b"".join(request.text() for request in (*named.programs(), named.frame())))
+    (options.place / f"{name}.requests").write_bytes(requests.text_of((*named.programs(), named.frame())))
 
 
 def run_way(options: Options, name: str, way: str) -> Spent:

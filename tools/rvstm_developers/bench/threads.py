@@ -1,39 +1,21 @@
 import argparse
 import subprocess
 import tempfile
-import time
 from collections.abc import Iterable, Sequence
 from dataclasses import dataclass
 from pathlib import Path
 
 from rvstm_developers import options
-from rvstm_developers.bench import blocks, tables
+from rvstm_developers.bench import blocks, processes, tables
 from rvstm_developers.bench.blocks import FOLDER, SPEED_PROGRAMS, Input, TimedBlock
 from rvstm_developers.bench.pictures import COLOURS, Picture, Point
 from rvstm_developers.running import Word
-from rvstm_tools.errors import UserError
 from rvstm_tools.options import Command, argument
 
 WORKERS = (1, 2, 4, 32)
 TIMES = 45
 PROGRAM_CALLS, PROGRAM_GAS, PROGRAM_TIMES = 64, 1_000_000, 9
 MARGIN, BETWEEN = 60, 110  # pixels before the first number of workers, and between two
-
-
-@dataclass(frozen=True)
-class Times:
-    """Of each command its milliseconds in each round, and what it printed last."""
-
-    rounds: list[list[float]]
-    outputs: list[bytes]
-
-    def ratios(self, first: int = 0) -> list[float]:
-        """How many times as fast as the command of a number each command after it is."""
-        return [tables.ratio(self.rounds[first], spent) for spent in self.rounds[first + 1 :]]
-
-    def check(self, name: str, first: int = 0) -> None:
-        if any(output != self.outputs[first] for output in self.outputs[first:]):
-            raise UserError(f"{name}: a run differs from seq")
 
 
 @dataclass(frozen=True)
@@ -52,17 +34,6 @@ class Row:
         return self.times[0] / self.times[number + 1]
 
 
-def times_of(commands: Sequence[Sequence[Word]], place: Path, count: int = TIMES, output: int = subprocess.PIPE) -> Times:
-    times = Times([[] for _ in commands], [b""] * len(commands))
-    for _ in range(count):
-        for number, words in enumerate(commands):
-            start = time.perf_counter()
-            done = subprocess.run(words, cwd=place, stdout=output, stderr=output, check=True)
-            times.rounds[number].append(1000 * (time.perf_counter() - start))
-            times.outputs[number] = done.stdout
-    return times
-
-
 def runs_of(rvstm: Path, block: str) -> list[list[Word]]:
     words: list[list[Word]] = [[rvstm, "seq", block]]
     return words + [[rvstm, "run", block, "--workers", str(count)] for count in WORKERS]
@@ -77,7 +48,7 @@ def program_ratios(rvstm: Path, place: Path, number: int) -> list[float]:
     name = SPEED_PROGRAMS[number]
     calls = [Input(PROGRAM_GAS, blocks.speed_calls(number)[0].data)] * PROGRAM_CALLS
     (place / f"{name}.block").write_text(TimedBlock(name, name, calls).text(FOLDER / f"programs/{name}.elf"))
-    times = times_of(runs_of(rvstm, f"{name}.block"), place, PROGRAM_TIMES)
+    times = processes.times_of(runs_of(rvstm, f"{name}.block"), place, PROGRAM_TIMES)
     times.check(name)
     return times.ratios()
 
@@ -87,10 +58,10 @@ def measured(rvstm: Path, place: Path, block: TimedBlock) -> Row:
     (place / "calls.block").write_text(block.text())
     (place / "empty.block").write_text(block.empty().text())
     commands = runs_of(rvstm, "calls.block")
-    times = times_of([[rvstm, "seq", "empty.block"], *commands], place)
+    times = processes.times_of([[rvstm, "seq", "empty.block"], *commands], place, TIMES)
     times.check(block.name, first=1)
     empty, *best = (min(spent) for spent in times.rounds)
-    unread = times_of(commands, place, output=subprocess.DEVNULL)
+    unread = processes.times_of(commands, place, TIMES, subprocess.DEVNULL)
     return Row(block.name, len(block.calls), empty, [spent - empty for spent in best], times.ratios(first=1), unread.ratios())
 
 

@@ -12,7 +12,9 @@ from rvstm_developers.embedded_library import CLOSE, LETTERS, OPEN, OPEN_WITH, C
 from rvstm_developers.texts import TOP
 from rvstm_tools.errors import UserError
 from rvstm_tools.options import Command
+from rvstm_tools.models.sessions import HIGHEST
 from rvstm_tools.programs.pipes import Ended
+from rvstm_tools.sessions import requests
 from rvstm_tools.sessions.processes import Session
 from rvstm_tools.sessions.requests import Fault, Request, Word
 from rvstm_tools.texts.blocks import CallLine
@@ -22,7 +24,7 @@ PROGRAMS = 8
 KEYS = [key_of(bytes([number]), "") for number in range(4)]
 VALGRIND = ("valgrind", "--leak-check=full", "--error-exitcode=4", "--errors-for-leak-kinds=all", "--show-leak-kinds=all")
 SANITIZERS = ("-fsanitize=address,undefined", "-fno-sanitize-recover=all", "-g")
-ZEROS = numbered_key(0).hex().encode()
+ZEROS = requests.key_field(numbered_key(0))
 BAD_NAMES = (b"", b"0" * 63, b"0" * 65, b"A" * 64, b"-", b"0" * 63 + b"\n")
 BAD_DIGESTS = (b"", b"--", b"0" * 63, b"F" * 64)
 REFUSED_AS_A_LINE = Called(Status.REFUSED, b"refused " + Fault.BAD_LINE)
@@ -53,7 +55,7 @@ def bad_request(choice: Random) -> Request:
     if kind == 1:
         return Request(Word.LIST, choice.choice(((name, b"1"), (ZEROS, b"0"), (ZEROS, b"1025"), (ZEROS, b"%d" % 2**32))))
     digest = choice.choice((*BAD_DIGESTS, b"-", ZEROS))
-    height = choice.choice((0, embedded_library.MOST)) if digest in BAD_DIGESTS else embedded_library.MOST + 1
+    height = choice.choice((0, HIGHEST)) if digest in BAD_DIGESTS else HIGHEST + 1
     return Request(Word.BEGIN, (b"%d" % height, digest), b"rvblock 1\n")
 
 

@@ -73,7 +73,7 @@ def seeds() -> dict[Kind, list[Seed]]:
 
 def session_of(folder: Path) -> bytes:
     """A session of all blocks of a folder, twice, with questions between them, and one that begins again."""
-    zeros = ZEROS.hex().encode()
+    zeros = requests.key_field(ZEROS)
     parts: list[Request] = []
     for path in sorted(folder.glob("*.block")):
         named = frames.named(path.read_bytes(), folder)
@@ -128,7 +128,7 @@ def damaged_session(choice: Random, data: bytes, others: Sequence[Seed]) -> byte
     asked = requests.requests_of(data).requests
     for number in choice.sample(range(len(asked)), min(len(asked), choice.randint(1, 6))):
         asked[number] = damaged_request(choice, asked[number], asked, others)
-    return b"".join(request.text() for request in asked)
+    return requests.text_of(asked)
 
 
 def damaged_request(choice: Random, request: Request, asked: Sequence[Request], others: Sequence[Seed]) -> Request:

@@ -19,7 +19,7 @@ from rvstm_tools.programs.running import Program
 from rvstm_tools.sessions import frames, requests
 from rvstm_tools.sessions.answers import Answer
 from rvstm_tools.sessions.processes import Settings
-from rvstm_tools.sessions.requests import Request
+from rvstm_tools.sessions.requests import Request, key_field
 from rvstm_tools.sessions.requests import Word as Asks
 from rvstm_tools.texts.blocks import CallLine
 from rvstm_tools.texts.keys import Storage, numbered_key
@@ -72,11 +72,6 @@ int posix_memalign(void **p, size_t a, size_t n) {
     return *p ? 0 : ENOMEM;
 }
 """
-
-
-def key_field(number: int) -> bytes:
-    """A key that ends with a number, as the line of a request has it."""
-    return numbered_key(number).hex().encode()
 
 
 @dataclass(frozen=True)
@@ -149,7 +144,7 @@ def counting_requests(file: bytes) -> Iterator[Request]:
     """Frames and tries that count keys, new and old ones, with refused ones, programs, beginnings and questions between them."""
     name = frames.name_of(file)
     stored = {numbered_key(number): texts.word(7) for number in range(40)}
-    zeros, get = Request(Asks.GET, (key_field(0),)), Request(Asks.GET, (key_field(30),))
+    zeros, get = Request(Asks.GET, (key_field(numbered_key(0)),)), Request(Asks.GET, (key_field(numbered_key(30)),))
 
     def frame(
         calls: Sequence[CallLine], store: Storage | None = None, head: str = texts.HEADS[0], word: Asks = Asks.FRAME,
@@ -162,7 +157,7 @@ def counting_requests(file: bytes) -> Iterator[Request]:
     broken = [frame([CallLine(1, 1000, b"")]), frame(counts(0, 1), program="0" * 64), Request(Asks.FRAME)]
     yield from (Request(Asks.LAST), given, Request(Asks.PROGRAM, (), file[:60]), given)
     yield from (frame(counts(0, 10), stored), *broken, frame(counts(0, 20), word=Asks.TRY), get)
-    yield from (frame(counts(30, 80), {numbered_key(30): b"\xab" * 32}), Request(Asks.LIST, (key_field(5), b"70")), *questions)
+    yield from (frame(counts(30, 80), {numbered_key(30): b"\xab" * 32}), Request(Asks.LIST, (key_field(numbered_key(5)), b"70")), *questions)
     yield from (frame(counts(60, 90), head=texts.HEADS[3]), frame(counts(0, 1)), get, zeros)
     yield from (forget, forget, frame(counts(0, 1)), *questions)
     dump = frames.dump_of(2, {numbered_key(number): b"\5" * 20 for number in range(20)})
@@ -174,14 +169,14 @@ def working_requests(file: bytes) -> list[Request]:
     """Two frames of calls so long that threads run them, with requests after them."""
     calls = [CallLine(0, 100_000, numbered_key(number) + texts.word(4_000)) for number in range(16)]
     frame = Request(Asks.FRAME, (), texts.block_text([frames.name_of(file)], {}, calls).encode())
-    get = Request(Asks.GET, (key_field(1),))
+    get = Request(Asks.GET, (key_field(numbered_key(1)),))
     return [Request(Asks.PROGRAM, (), file), frame, frame._replace(word=Asks.TRY), frame, Request(Asks.DUMP), get]
 
 
 class Session:
     def __init__(self, rvstm: Path, settings: Settings, asked: Iterable[Request]) -> None:
         self.settings, self.requests = settings, list(asked)
-        self.text = b"".join(request.text() for request in self.requests)
+        self.text = requests.text_of(self.requests)
         known: Known = {}
         self.right = self.answers_but_for(rvstm, known, None)
         self.others = [self.answers_but_for(rvstm, known, number) for number in range(len(self.requests))]

@@ -114,7 +114,7 @@ class KilledFile:
 
     def round(self) -> str | None:
         batch, end = self.batch(), self.choice.choice(LAST_BYTES)
-        self.input.write_bytes(files.text_of(QUESTIONS + batch) + end)
+        self.input.write_bytes(requests.text_of(QUESTIONS + batch) + end)
         moment = Moment(self.choice, len(QUESTIONS + batch), self.opening)
         rows_before = files.copied(self.path, self.place) if self.is_there else None
         killed = moment.run(files.words_of(self.rvstm, self.path, self.settings), self.input)

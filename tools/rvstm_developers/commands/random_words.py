@@ -13,6 +13,7 @@ from random import Random
 
 from rvstm_developers import options, running, texts
 from rvstm_developers.drawing import words
+from rvstm_developers.machine_code import BRANCHES, WIDTHS
 from rvstm_tools.errors import UserError
 from rvstm_tools.models import charges
 from rvstm_tools.options import Command, argument
@@ -23,8 +24,6 @@ from rvstm_tools.texts.results import End, Receipt
 CALLS_A_PROGRAM = 64
 LAUNCH_GAS = 63  # 31 loads and a jump
 GAS_LIMITS = (1, 3, 8, 50, 200, 1_000, 1_000, 3_000, 3_000)
-ACCESSES = {"lb": 1, "lbu": 1, "sb": 1, "lh": 2, "lhu": 2, "sh": 2, "lw": 4, "sw": 4}
-JUMPS = ("jal", "jalr", "beq", "bne", "blt", "bge", "bltu", "bgeu")
 ENDS = {
     "ecall": (End.RETURNED, End.REVERTED, End.MEMORY_FAULT, End.UNKNOWN_CALL, End.BAD_LENGTH),
     "ebreak": (End.BREAKPOINT,),
@@ -66,11 +65,11 @@ def cost_of(text: str, registers: Sequence[int]) -> int:
 def ends_of(text: str, registers: Sequence[int]) -> tuple[End, ...]:
     """The ends, want of gas aside, that a call may have at an instruction."""
     mnemonic, _, operands = text.partition(" ")
-    if mnemonic in ACCESSES:
+    if mnemonic in WIDTHS:
         offset, base = operands.split(",")[1].rstrip(")").split("(")
         address = registers[int(base[1:])] + int(offset)
-        return (End.MISALIGNED,) if address % ACCESSES[mnemonic] else (End.MEMORY_FAULT,)
-    return (End.MISALIGNED,) if mnemonic in JUMPS else ENDS.get(mnemonic, ())
+        return (End.MISALIGNED,) if address % WIDTHS[mnemonic] else (End.MEMORY_FAULT,)
+    return (End.MISALIGNED,) if mnemonic in ("jal", "jalr", *BRANCHES) else ENDS.get(mnemonic, ())
 
 
 def differences(receipt: Receipt, limit: int, replay: Replay) -> Iterator[str]:

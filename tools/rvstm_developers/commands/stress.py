@@ -16,6 +16,7 @@ from rvstm_developers.drawing import blocks, sessions
 from rvstm_tools.options import Command, argument
 from rvstm_tools.programs.pipes import Ended
 from rvstm_tools.programs.running import temporary_file
+from rvstm_tools.sessions import requests
 
 WORKER_NUMBERS = (1, 2, 3, 4, 5, 8, 13, 16, 32)
 RUNS_A_BLOCK = 4
@@ -119,7 +120,7 @@ class Comparison:
         asked = sessions.session_of(choice, made, blocks.KEYS, self.folder, choice.choice((None, *WORKER_NUMBERS)))
         kind, text = choice.randrange(3), sessions.input_of(choice, asked.requests)
         if kind == 2:
-            text, name = b"".join(request.text() for request in asked.requests), "session begun again"
+            text, name = requests.text_of(asked.requests), "session begun again"
             difference = comparing.difference_after(self.rvstm, text, asked.settings, choice.randrange(len(asked.requests) + 1))
         else:
             name = "session at once" if kind == 0 else "session one by one"

@@ -7,6 +7,7 @@ from pathlib import Path
 from random import Random
 
 from rvstm_developers import texts
+from rvstm_tools.models.sessions import HIGHEST
 from rvstm_tools.sessions import frames, requests
 from rvstm_tools.sessions.processes import LONGEST_FRAME, Settings
 from rvstm_tools.sessions.requests import WITH_BODY, Request, Word
@@ -15,7 +16,6 @@ from rvstm_tools.texts.keys import Key, Storage
 
 MOST_REQUESTS = 14
 MOST_OTHER_KEYS = 300
-HIGHEST = 9_999_999_999
 GAS = re.compile(rb"^call [0-9]+ ([0-9]{1,8}) ", re.M)
 ODD_HEADS = (b"rvblock\n", b"rvblock 3\n", b"rvblock 1 \n", b"rvblockade\n")
 BAD_LINES = (b"call 9 1 -\n", b"call 0 0 -\n", b"call 0 1 0\n", b"store 00 00\n", b"dump\n", b"gas 4\n", b"end\n", b"q\n", b"frame 0\n")
@@ -43,11 +43,6 @@ LOWEST_KEY, HIGHEST_KEY = Key(bytes(32)), Key(b"\xff" * 32)
 class Asked:
     requests: list[Request]
     settings: Settings
-
-
-def key_field(key: bytes) -> bytes:
-    """A key as the line of a request has it."""
-    return key.hex().encode()
 
 
 def settings_of(choice: Random, asked: Sequence[Request], keeps_digest: bool, workers: int | None) -> Settings:
@@ -156,7 +151,7 @@ class RandomSession:
 
     def add_question(self) -> None:
         word = self.choice.choice((Word.GET, Word.LIST, Word.DUMP, Word.STATE, Word.LAST, Word.PROGRAMS))
-        key = key_field(self.choice.choice((*self.keys, *self.keys, LOWEST_KEY, HIGHEST_KEY, self.choice.randbytes(32))))
+        key = requests.key_field(self.choice.choice((*self.keys, *self.keys, LOWEST_KEY, HIGHEST_KEY, self.choice.randbytes(32))))
         count = self.choice.choice((1, 2, 3, 1023, 1024, self.choice.randrange(1, 1025)))
         fields = {Word.GET: (key,), Word.LIST: (key, b"%d" % count)}
         self.add(word, *fields.get(word, ()))

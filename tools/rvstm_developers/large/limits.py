@@ -8,9 +8,10 @@ from rvstm_developers.large.blocks import COUNT, LONGEST_PROGRAM, MOST_GAS, coun
 from rvstm_developers.machine_code import EXECUTE, READ, Part, elf_of
 from rvstm_developers.models.machine import TEXT, Block
 from rvstm_developers.texts import HEADS, head_of
+from rvstm_tools.models.sessions import HIGHEST
 from rvstm_tools.sessions import answers, frames, requests
 from rvstm_tools.sessions.answers import Answer, Done
-from rvstm_tools.sessions.requests import Fault, Request, Word
+from rvstm_tools.sessions.requests import Fault, Request, Word, key_field
 from rvstm_tools.texts.blocks import CallLine, field_of
 from rvstm_tools.texts.keys import numbered_key as key
 
@@ -18,12 +19,6 @@ USUAL_STACK = 8192  # KiB, as a shell has it
 WRONG_LINE, REFUSED = 2, 1  # statuses
 IMAGE_END = 0x100000  # after the greatest address of a segment
 ONE = Block([COUNT], [count(1)])
-HIGHEST = 9_999_999_999
-
-
-def key_field(number: int) -> bytes:
-    """A key that ends with a number, as the line of a request has it."""
-    return key(number).hex().encode()
 
 
 Make = Callable[[], "Trial"]  # how a trial is made, if it is asked for
@@ -111,7 +106,7 @@ def frame_refused(name: str) -> Trial:
 def session(
     words: list[str], asked: Iterable[Request], wanted: Iterable[Answer], after: bytes = b"", errors: bytes = b""
 ) -> Trial:
-    text = b"".join(request.text() for request in asked) + after
+    text = requests.text_of(asked) + after
     return Trial(["chain", *words], b"".join(answer.text() for answer in wanted), errors, int(bool(errors)), text)
 
 
@@ -165,8 +160,8 @@ SESSIONS: dict[str, Make] = {
     "a frame of one gas more than the limit": functools.partial(by_frame_gas, 1),
     "a frame after height 9,999,999,999": too_high,
     "a program of a byte too many in a session": too_long_programs,
-    "list of 1,025 keys": lambda: ended(b"list %s 1025\n" % key_field(0)),
-    "list of 1,024 keys": lambda: session([], [Request(Word.LIST, (key_field(0), b"1024"))], [Done()]),
+    "list of 1,025 keys": lambda: ended(b"list %s 1025\n" % key_field(key(0))),
+    "list of 1,024 keys": lambda: session([], [Request(Word.LIST, (key_field(key(0)), b"1024"))], [Done()]),
     "begin at a height of 11 digits": lambda: ended(b"begin 10000000000 - 0\n"),
     "a length of 11 digits": lambda: ended(b"frame 10000000000\n"),
     "a length of 10 digits without the bytes": lambda: ended(b"frame 9999999999\nrvblock 1\n", Fault.CUT),

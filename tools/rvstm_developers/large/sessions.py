@@ -9,7 +9,6 @@ from pathlib import Path
 from rvstm_developers import texts
 from rvstm_developers.large import blocks as large_blocks
 from rvstm_developers.large.blocks import COUNT, LAST, LONGEST_PROGRAM, MOST_GAS, MOST_PROGRAMS, count, each
-from rvstm_developers.large.limits import key_field
 from rvstm_developers.models.machine import Block, Program
 from rvstm_tools.models import sessions
 from rvstm_tools.models.charges import StorageCall
@@ -18,15 +17,14 @@ from rvstm_tools.programs import running
 from rvstm_tools.sessions import answers, frames, requests
 from rvstm_tools.sessions.answers import Answer, Done, Refusal
 from rvstm_tools.sessions.processes import LONGEST_FRAME, Settings
-from rvstm_tools.sessions.requests import Request, Word
+from rvstm_tools.sessions.requests import Request, Word, key_field
 from rvstm_tools.texts import blocks, results
 from rvstm_tools.texts.blocks import CallLine
 from rvstm_tools.texts.keys import Storage, numbered_key
 
 QUESTIONS = [Request(word) for word in (Word.STATE, Word.PROGRAMS, Word.LAST, Word.DUMP)]
-QUESTIONS += [Request(Word.LIST, (key_field(0), b"1024")), Request(Word.GET, (key_field(1),))]
+QUESTIONS += [Request(Word.LIST, (key_field(numbered_key(0)), b"1024")), Request(Word.GET, (key_field(numbered_key(1)),))]
 FRAME_KEYS, DUMP_KEYS, REQUESTS, SESSION_PROGRAMS = 100_000, 100_000, 10_000, 1_000
-HIGHEST_LIMIT = 9_999_999_999
 Parts = list[list[Request]]  # A session in parts. A file keeps it from part to part.
 
 
@@ -135,18 +133,18 @@ def of_many_requests() -> Parts:
     asks = [program(COUNT)]
     for number in range(REQUESTS // 5):
         block = Block([COUNT], [count(number % 100), count(1)])
-        get = Request(Word.GET, (key_field(number % 100),))
+        get = Request(Word.GET, (key_field(numbered_key(number % 100)),))
         asks += [framed(block), get, framed(block, Word.TRY), Request(Word.LAST), Request(Word.STATE)]
     return [asks]
 
 
 def of_many_keys() -> Parts:
-    listed = [Request(Word.LIST, (key_field(number), b"1024")) for number in (0, large_blocks.MANY_KEYS - 1000)]
+    listed = [Request(Word.LIST, (key_field(numbered_key(number)), b"1024")) for number in (0, large_blocks.MANY_KEYS - 1000)]
     return [[begun(keys_of(large_blocks.MANY_KEYS, 8), 1), *listed, *asked(Block([COUNT], [count(1), count(large_blocks.MANY_KEYS)]))]]
 
 
 def of_long_dump() -> Parts:
-    return [[begun(keys_of(DUMP_KEYS, 256), 3), Request(Word.GET, (key_field(DUMP_KEYS - 1),)), Request(Word.DUMP)]]
+    return [[begun(keys_of(DUMP_KEYS, 256), 3), Request(Word.GET, (key_field(numbered_key(DUMP_KEYS - 1)),)), Request(Word.DUMP)]]
 
 
 def of_long_program() -> Parts:
@@ -183,7 +181,7 @@ MAKERS = {
     "1,024 calls on one key": Maker(1, of_many_calls),
     "frames of many calls and of few": Maker(3, of_uneven_frames),
 }
-LIMITS = {"a frame above the default limit": HIGHEST_LIMIT}
+LIMITS = {"a frame above the default limit": sessions.HIGHEST}
 
 
 def settings_of(name: str) -> Settings:
@@ -205,7 +203,4 @@ def made(name: str) -> list[Exchange]:
     assert len(parts) == maker.parts + 1
     model = Model(settings_of(name), made_in(request for part in parts for request in part))
 
-    def text_of(part: list[Request]) -> bytes:
-        return b"".join(request.text() for request in part)
-
-    return [Exchange(text_of(part), b"".join(model.answer(request).text() for request in part)) for part in parts]
+    return [Exchange(requests.text_of(part), b"".join(model.answer(request).text() for request in part)) for part in parts]

@@ -22,7 +22,7 @@ from rvstm_tools.texts.keys import Key, Storage, numbered_key
 
 LOG = "-wal"  # what follows the name of a file in the name of its log
 QUESTIONS = [Request(word) for word in (Word.STATE, Word.LAST, Word.PROGRAMS, Word.DUMP)]
-QUESTIONS += [Request(Word.LIST, (numbered_key(0).hex().encode(), b"1024"))]
+QUESTIONS += [Request(Word.LIST, (requests.key_field(numbered_key(0)), b"1024"))]
 NAMES = ("Busy 1", "HotJournal 2", "Unreadable 3", "NotASession 4", "OtherVersion 5", "OtherSettings 6", "Damaged 7", "Full 8", "Memory 9")
 REFUSALS = {f"rvstm: store {name}\n".encode(): name for name in NAMES}
 FAILURES = {f"failed store {name}\n".encode() for name in NAMES}
@@ -86,16 +86,12 @@ def words_of(rvstm: Path, path: Path, settings: Settings = PLAIN) -> list[str | 
     return [rvstm, *settings._replace(store=str(path)).words()]
 
 
-def text_of(asked: Iterable[Request]) -> bytes:
-    return b"".join(request.text() for request in asked)
-
-
 def run(
     rvstm: Path, path: Path, asked: Iterable[Request] = QUESTIONS, settings: Settings = PLAIN,
     environment: Mapping[str, str] | None = None, user: int | None = None,
 ) -> Ended:
     """What a session over a file writes that is given some requests and ends then. `user` is the one who runs it."""
-    return running.run(words_of(rvstm, path, settings), Path(), text_of(asked), SECONDS_A_SESSION, environment, user)
+    return running.run(words_of(rvstm, path, settings), Path(), requests.text_of(asked), SECONDS_A_SESSION, environment, user)
 
 
 def refusal_of(run: Ended) -> str | None:

@@ -87,15 +87,15 @@ class Client:
         return self.receipts(self.body(Request(Word.LAST)))
 
     def get(self, key: Key) -> Iterator[str]:
-        text = self.body(Request(Word.GET, (key.hex().encode(),))).decode()
+        text = self.body(Request(Word.GET, (requests.key_field(key),))).decode()
         self.keys.add(key)
         if text == "absent\n":
             return iter([f"      {self.view.key(key)}: absent"])
-        return self.rows(b"store %s %s" % (key.hex().encode(), text.removeprefix("value ").encode()))
+        return self.rows(b"store %s %s" % (requests.key_field(key), text.removeprefix("value ").encode()))
 
     def list(self, first: Key, count: int = MOST_KEYS) -> Iterator[str]:
         """The first keys from one on, itself included."""
-        body = self.body(Request(Word.LIST, (first.hex().encode(), b"%d" % count)))
+        body = self.body(Request(Word.LIST, (requests.key_field(first), b"%d" % count)))
         yield from self.rows(body)
         if body.count(b"\n") == count:
             last = bytes.fromhex(body.splitlines()[-1].split()[1].decode())

@@ -2,6 +2,7 @@
 
 import enum
 import re
+from collections.abc import Iterable
 from dataclasses import dataclass
 from typing import NamedTuple
 
@@ -52,6 +53,15 @@ class Request(NamedTuple):
     def text(self) -> bytes:
         length = (b"%d" % len(self.body),) if self.word in WITH_BODY else ()
         return b" ".join((self.word, *self.fields, *length)) + b"\n" + self.body
+
+
+def text_of(requests: Iterable[Request]) -> bytes:
+    return b"".join(request.text() for request in requests)
+
+
+def key_field(key: bytes) -> bytes:
+    """A key as the line of a request has it."""
+    return key.hex().encode()
 
 
 def begin(height: int, digest: bytes | None, dump: bytes) -> Request:
