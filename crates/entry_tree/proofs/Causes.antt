@@ -22,7 +22,7 @@ later_cause old mid a b c U V Full up same weaker h = omega (arith, h)
 later_cause old mid a b c U V Broken up same weaker h = rw same at h
 later_cause old mid a b c U V Unstorable up same weaker h = weaker h
 
--- the same cause, where another limit is met
+-- the same cause, if another limit is met
 pub other_limit : (old : View) (F U V : Type 0) (e : StoreError) → (U → V) → HasCause old F U e → HasCause old F V e
 other_limit old F U V OutOfMemory weaker h = tt
 other_limit old F U V Io weaker h = h

@@ -1,3 +1,4 @@
 pub mod Causes
 pub mod Rows
 pub mod Sought
+pub mod Tries

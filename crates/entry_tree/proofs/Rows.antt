@@ -60,7 +60,7 @@ after_tie : (k o first : List ℕ) (fs : Entries) → R k first ≡ Equal → Al
 after_tie k o first [] tie low = tt
 after_tie k o first (f ∷ fs) tie low = (λ same. absurd (less_not_equal (sym low.0 ∙ sym (nat_list_cmp_total.congr k first f.0 tie) ∙ same)), after_tie k o first fs tie low.1)
 
--- where a key is found, its entry alone has that key
+-- if a key is found, its entry alone has that key
 pub only_entry : (k o : List ℕ) (es : Entries) → T (is_sorted R es) → find R k es ≡ Some o → AllByRecursion (λ e. R k e.0 ≡ Equal → e.1 ≡ o) es
 only_entry k o [] up is = tt
 only_entry k o (e ∷ es) up is = go (R k e.0) refl is (only_entry k o es (sorted_rest e es up)) (below_first e es up)
@@ -112,7 +112,7 @@ equal Less h = cc
 equal Equal h = refl
 equal Greater h = cc
 
--- nothing is gone where nothing was
+-- nothing is gone if nothing was there
 pub none_gone : (m : ByteMap) (k : List ℕ) → get m k ≡ None → remove m k ≡ m
 none_gone m k is = same_bytes _ _ (λ q. get-remove nat_list_cmp_total m k q ∙ go q (eq_by_cmp R q k) refl)
   where

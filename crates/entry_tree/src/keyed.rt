@@ -1,13 +1,13 @@
-//! Giving a key another content where the old one is not known, in the open transaction.
+//! Giving a key another content if the old one is not known, in the open transaction.
 
-ghost use Rattle.std.specs.Prelude.{◌≡◌, ◌↔◌, ◌∷◌, [], Some, IfErr, IsTrue, OnErr, OnOk};
+ghost use Rattle.std.specs.Prelude.{◌≡◌, ◌↔◌, ◌∷◌, [], Some, IsTrue, OnOk};
 ghost use Rattle.std.specs.FinMap as fin;
-ghost use Rattle.sqlite_disk.specs.Disk.{MoreFaults};
-ghost use Rattle.sqlite_trees.specs.View.{HasCause, IsClean, IsQuiet, KeepsCommitted, KeepsSchema, OnlyWrites, Tells};
+ghost use Rattle.sqlite_trees.specs.View.{IsClean, OnlyWrites};
 ghost use Rattle.sqlite_value.specs.Keys.{plain};
 ghost use Rattle.sqlite_value.specs.Order.{column};
 ghost use Rattle.sqlite_value.specs.declared.value.Value.TheVariants.{Blob};
 ghost use Rattle.entry_tree.specs.Entries.{ByteMap, EditsTree, IsTooLong, rows_of};
+ghost use Rattle.entry_tree.specs.Tries.{Tries};
 
 use crate::changing::change_entry;
 use sqlite_trees::error::StoreError;
@@ -34,8 +34,8 @@ fn is_of_key(row: &Row, key: &[u8]) -> bool
     }
 }
 
-/// Removes a key of a map, in the open transaction; nothing is written where the map does not have it. An error leaves the last
-/// commit; the transaction is to be rolled back.
+/// Removes a key of a map, in the open transaction. Nothing is written if the map does not have it. After an error the last
+/// commit is as it was, and the caller must roll back.
 pub fn remove_key<S: Store>(
     store: &mut S,
     tree: u32,
@@ -46,11 +46,7 @@ pub fn remove_key<S: Store>(
     ensures ok { OnOk result (IsClean (S.Store.view store.new) → (m : ByteMap) → (S.Store.view store.old).trees tree ≡ rows_of m
         → EditsTree (S.Store.view store.old) (S.Store.view store.new) tree (λ _. rows_of (fin.remove m key.now))) }
     ensures frame { OnOk result (IsClean (S.Store.view store.new) → OnlyWrites (S.Store.view store.old) (S.Store.view store.new)) }
-    ensures err { IsClean (S.Store.view store.new) → OnErr result (KeepsCommitted (S.Store.view store.old) (S.Store.view store.new)) }
-    ensures cause { IsClean (S.Store.view store.new) → IfErr result (HasCause (S.Store.view store.old) (MoreFaults (S.Store.faults store.old) (S.Store.faults store.new)) ⊥) }
-    ensures told { IfErr result (Tells (S.Store.blamed store.new)) }
-    ensures schema { KeepsSchema (S.Store.view store.old) (S.Store.view store.new) }
-    ensures quiet { IsQuiet S.Store.view S.Store.faults S.Store.recovers S.Store.is_shielded store.old store.new }
+    ensures tries { Tries S.Store ⊥ store.old store.new result }
 {
     make_key(row, key)?;
     store.seek(0, tree, row, Direction::Forward)?;
@@ -63,8 +59,8 @@ pub fn remove_key<S: Store>(
     store.remove(tree, row)
 }
 
-/// Gives a key of a map a value, in the open transaction, whatever it had before. An error leaves the last commit; the
-/// transaction is to be rolled back. Refused as Unstorable where the entry is too long for the format of databases.
+/// Gives a key of a map a value, in the open transaction, whatever it had before. After an error the last commit is as it was,
+/// and the caller must roll back. Refused as Unstorable if the entry is too long for the format of databases.
 pub fn set_key<S: Store>(
     store: &mut S,
     tree: u32,
@@ -76,11 +72,7 @@ pub fn set_key<S: Store>(
     ensures ok { OnOk result (IsClean (S.Store.view store.new) → (m : ByteMap) → (S.Store.view store.old).trees tree ≡ rows_of m
         → EditsTree (S.Store.view store.old) (S.Store.view store.new) tree (λ _. rows_of (fin.insert m key.now value.now))) }
     ensures frame { OnOk result (IsClean (S.Store.view store.new) → OnlyWrites (S.Store.view store.old) (S.Store.view store.new)) }
-    ensures err { IsClean (S.Store.view store.new) → OnErr result (KeepsCommitted (S.Store.view store.old) (S.Store.view store.new)) }
-    ensures cause { IsClean (S.Store.view store.new) → IfErr result (HasCause (S.Store.view store.old) (MoreFaults (S.Store.faults store.old) (S.Store.faults store.new)) (IsTooLong key.now (Some value.now))) }
-    ensures told { IfErr result (Tells (S.Store.blamed store.new)) }
-    ensures schema { KeepsSchema (S.Store.view store.old) (S.Store.view store.new) }
-    ensures quiet { IsQuiet S.Store.view S.Store.faults S.Store.recovers S.Store.is_shielded store.old store.new }
+    ensures tries { Tries S.Store (IsTooLong key.now (Some value.now)) store.old store.new result }
 {
     remove_key(store, tree, row, key)?;
     change_entry(store, tree, row, key, None, Some(value))

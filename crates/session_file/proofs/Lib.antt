@@ -5,4 +5,6 @@ pub mod Lists
 pub mod Loads
 pub mod Once
 pub mod Opens
+pub mod Readings
 pub mod Staged
+pub mod StagedIn

@@ -120,7 +120,7 @@ pub last_inserted : (es : Pairs) (e : List ℕ × List ℕ) → AllByRecursion (
 last_inserted [] e low = refl
 last_inserted (f ∷ fs) e low = rw (row_order f e, low.0) (ap (λ l. row_of f ∷ l) (last_inserted fs e low.1))
 
--- what stands before an entry is below it
+-- what is before an entry is below it
 pub before_below : (es : Pairs) (e : List ℕ × List ℕ) (rest : Pairs) → AreRising (es ++ e ∷ rest) → AllByRecursion (λ f. key_cmp f.0 e.0 ≡ Less) es
 before_below [] e rest up = tt
 before_below (f ∷ fs) e rest up = (middle fs up.0, before_below fs e rest up.1)

@@ -17,7 +17,7 @@ use Rattle.session_file.specs.declared.rows.SessionRow.{SessionRow}
 pub reads_on : (a b c : View) → OnlyReads a b → OnlyReads b c → OnlyReads a c
 reads_on a b c first second = second ∙ ap (λ (v : View). record v { cursors = c.cursors }) first
 
--- trees are no session's of another version, where they hold one of this
+-- trees that hold a session of this version hold none of another
 not_other : (o : Option SessionRow) → ¬ IsOfOtherVersion (rows_if_any session_row o)
 not_other None h = h
 not_other (Some s) h = h refl
@@ -27,8 +27,8 @@ pub this_version : (v now : View) (o : Option SessionRow) → OnlyReads v now �
 this_version v now o reads is h = not_other o (subst IsOfOtherVersion (ap (λ (w : View). w.trees session_tree) reads ∙ is) h)
 
 -- a part that was not read
-pub refused_part : (v now : View) (a b c : ℕ) (none : Type 0) (fault : OpenFault) → OnlyReads v now → a ≤ b → (none → ¬ IsOfOtherVersion (now.trees session_tree) × ((k : Kept) → ¬ HoldsIn now.trees k))
-    → IsReadFault now (MoreFaults b c) none fault → IsRefused v (MoreFaults a c) fault
+pub refused_part : (v now : View) (a b c : ℕ) (none : View → Type 0) (fault : OpenFault) → OnlyReads v now → a ≤ b → (none now → ¬ IsOfOtherVersion (now.trees session_tree) × ((k : Kept) → ¬ HoldsIn now.trees k))
+    → IsReadFault none now (MoreFaults b c) fault → IsRefused v (MoreFaults a c) fault
 refused_part v now a b c none NotASession reads up gone f = absurd f
 refused_part v now a b c none OtherVersion reads up gone f = subst (λ (db : Trees). IsOfOtherVersion (db session_tree)) (ap (λ (w : View). w.trees) reads) f
 refused_part v now a b c none Damaged reads up gone f =

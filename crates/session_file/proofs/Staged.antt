@@ -44,7 +44,7 @@ given_up old mid new shut falls kept undone k next was h =
       written = subst (λ db. HoldsIn db k) (sym (at.0 ∙ early.committed still)) it.committed;
     }
 
--- the same, where nothing failed before
+-- the same, if nothing failed before
 pub rolled_back : (old new : View) → (new.is_clean ≡ false → new.is_open ≡ false) → IsRolledBack old new → GivesUp old new
 rolled_back old new shut undone k next was h =
     let late = undone.kept (open_clean new shut h) in

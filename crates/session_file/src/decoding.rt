@@ -32,7 +32,7 @@ fn key_of(bytes: &[u8]) -> Option<Key>
     Some(Key::new(key))
 }
 
-/// The key of an entry's row, or None where the row is none of an entry.
+/// The key of an entry's row, or None if the row is not one of an entry.
 pub(crate) fn key_in(row: &Row) -> Option<Key>
     ensures some { IfSome result (λ key. row.now ≡ row_of (key, bytes (column row.now 1))) }
     ensures count { IfSome result (λ key. length key ≡ 32) }
@@ -61,7 +61,7 @@ pub(crate) fn bytes_of<'a>(value: ValueRef<'a>) -> &'a [u8]
     }
 }
 
-/// Whether a session's row tells another version of the format.
+/// Whether a session's row has another version of the format.
 pub(crate) fn is_of_other_version(row: &Row) -> bool
     ensures other { IsTrue result → IsOtherVersion (column row.now 2) }
     ensures this { result ≡ false → ¬ IsOtherVersion (column row.now 2) }
@@ -72,7 +72,7 @@ pub(crate) fn is_of_other_version(row: &Row) -> bool
     }
 }
 
-/// The number of a value; 0 where it has none.
+/// The number of a value; 0 if it has none.
 fn number_in(value: ValueRef<'_>) -> u64
     ensures value { (n : ℕ) → owned value.entry ≡ Int (pos n) → result ≡ n }
     ensures small { result < 2 ^ 63 }
@@ -112,7 +112,7 @@ fn flag_in(value: ValueRef<'_>) -> bool
     matches!(value, ValueRef::Int(1))
 }
 
-/// The digest of a value; zeros where it has none.
+/// The digest of a value; zeros if it has none.
 fn digest_in(value: ValueRef<'_>) -> [u8; 32]
     ensures value { (b : List ℕ) → length b ≡ 32 → owned value.entry ≡ Blob b → result ≡ b }
     ensures count { length result ≡ 32 }
@@ -142,7 +142,7 @@ fn session_by(row: &Row) -> SessionRow
     }
 }
 
-/// The session of a row, or None where it is none of a session.
+/// The session of a row, or None if it is not one of a session.
 pub(crate) fn session_in(alloc: Global, row: &Row) -> Result<Option<SessionRow>, AllocError>
     ensures some { IfOk result (λ found. IfSome found (λ s. (row.now ≡ session_row s) × IsSessionInLimits s)) }
     ensures none { IfOk result (λ found. found ≡ None → (s : SessionValue) → IsSessionInLimits s → row.now ≢ session_row s) }
@@ -159,7 +159,7 @@ pub(crate) fn session_in(alloc: Global, row: &Row) -> Result<Option<SessionRow>,
     Ok(Some(session))
 }
 
-/// The answer of a row, or None where it is none of an answer.
+/// The answer of a row, or None if it is not one of an answer.
 pub(crate) fn answer_in(alloc: Global, row: &Row) -> Result<Option<AnswerRow>, AllocError>
     ensures some { IfOk result (λ found. IfSome found (λ a. row.now ≡ answer_row (answer_parts a))) }
     ensures none { IfOk result (λ found. found ≡ None → (a : List ℕ × List ℕ) → row.now ≢ answer_row a) }

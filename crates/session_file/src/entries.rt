@@ -19,7 +19,7 @@ pub(crate) trait Entries {
     // Which values it takes.
     ghost fits: { List ℕ → Type 0 };
 
-    /// Takes an entry whose key is above all others, or answers false where its value does not fit.
+    /// Takes an entry whose key is above all others, or returns false if its value does not fit.
     fn take(&mut self, key: Key, value: &[u8]) -> Result<bool, AllocError>
         ensures taken { IfOk result (λ is_taken. IsTrue is_taken → AllByRecursion (λ e. key_cmp e.0 key ≡ Less) (taken self.old)
             → taken self.new ≡ taken self.old ++ (key, value.now) ∷ []) }

@@ -10,7 +10,7 @@ pub enum OpenFault {
     NotASession,
     /// Its session is kept by another version of the format.
     OtherVersion,
-    /// It has a row that is none of a session.
+    /// It has a row that is not one of a session.
     Damaged,
     /// The store failed, or memory ran out.
     Store(StoreError),

@@ -1,15 +1,12 @@
 //! Opening the store of a session.
 
-ghost use Rattle.std.specs.Prelude.{◌≡◌, ◌≢◌, false, map, IfErr, IfOk, IsTrue, OnOk};
-ghost use Rattle.sqlite_exec.specs.Calls.{OnlyReads};
-ghost use Rattle.sqlite_disk.specs.Disk.{MoreFaults};
-ghost use Rattle.sqlite_trees.specs.View.{IsClean, IsQuiet, Tells};
+ghost use Rattle.std.specs.Prelude.{◌≡◌, false, map, IfErr, IfOk, IsTrue, Ok, OnOk};
+ghost use Rattle.sqlite_trees.specs.View.{IsClean};
 ghost use Rattle.sqlite_value.specs.Keys.{plain};
 ghost use Rattle.entry_tree.specs.Entries.{rows_of};
-ghost use Rattle.rv_ledger.specs.Key.{Storage};
 ghost use Rattle.session_file.specs.Kept.{AreEntries, HoldsIn, storage_tree};
-ghost use Rattle.session_file.specs.Opening.{AreRising, IsFresh, IsRefused, kept_of, program_entry};
-ghost use Rattle.session_file.specs.Rows.{IsReadFault};
+ghost use Rattle.session_file.specs.Opening.{AreRising, IsFresh, IsRefused, ReadsIn, RefusesIn, kept_of, program_entry};
+ghost use Rattle.session_file.specs.Rows.{HasNoStorage, IsReadFault};
 ghost use Rattle.session_file.specs.Staging.{HasTrees, IsKeeping, IsShaped};
 
 use crate::fault::OpenFault;
@@ -18,7 +15,6 @@ use crate::reading::{read_answer, read_entries, read_session};
 use crate::rows::{Found, ProgramRow};
 use crate::writing::{ANSWER_TREE, PROGRAM_TREE, SESSION_TREE, STORAGE_TREE};
 use rv_ledger::StoreBuilder;
-use sqlite_trees::error::StoreError;
 use sqlite_trees::store::{Shape, Store};
 use sqlite_value::keys::Order;
 use sqlite_value::row::Row;
@@ -43,10 +39,7 @@ fn load<S: Store>(alloc: Global, store: &mut S) -> Result<Found, OpenFault>
     ensures ok { IfOk result (λ found. IsClean (S.Store.view store.new) → HoldsIn (S.Store.view store.new).trees (kept_of found)) }
     ensures rising { IfOk result (λ found. AreRising (map program_entry found.programs.items)) }
     ensures trees { OnOk result (HasTrees (S.Store.view store.old)) }
-    ensures err { IfErr result (λ fault. IsClean (S.Store.view store.new) → IsRefused (S.Store.view store.old) (MoreFaults (S.Store.faults store.old) (S.Store.faults store.new)) fault) }
-    ensures told { IfErr result (λ fault. (error : StoreError) → fault ≡ OpenFault.Store error → Tells (S.Store.blamed store.new) error) }
-    ensures same { OnOk result (IsClean (S.Store.view store.new) → OnlyReads (S.Store.view store.old) (S.Store.view store.new)) }
-    ensures quiet { IsQuiet S.Store.view S.Store.faults S.Store.recovers S.Store.is_shielded store.old store.new }
+    ensures reads { ReadsIn S.Store IsRefused store.old store.new result }
 {
     if !has_trees(store) {
         return Err(OpenFault::NotASession);
@@ -74,18 +67,15 @@ fn load_storage<S: Store>(
     requires { IsClean (S.Store.view store.old) → (S.Store.view store.old).shape storage_tree ≡ Shape.Index plain }
     ensures ok { IfOk result (λ storage. IsClean (S.Store.view store.new) → (S.Store.view store.old).trees storage_tree ≡ rows_of storage) }
     ensures limits { IfOk result AreEntries }
-    ensures err { IfErr result (λ fault. IsClean (S.Store.view store.new) → IsReadFault (S.Store.view store.old) (MoreFaults (S.Store.faults store.old) (S.Store.faults store.new)) ((storage : Storage) → AreEntries storage → (S.Store.view store.old).trees storage_tree ≢ rows_of storage) fault) }
-    ensures told { IfErr result (λ fault. (error : StoreError) → fault ≡ OpenFault.Store error → Tells (S.Store.blamed store.new) error) }
-    ensures same { OnOk result (IsClean (S.Store.view store.new) → OnlyReads (S.Store.view store.old) (S.Store.view store.new)) }
-    ensures quiet { IsQuiet S.Store.view S.Store.faults S.Store.recovers S.Store.is_shielded store.old store.new }
+    ensures reads { ReadsIn S.Store (IsReadFault HasNoStorage) store.old store.new result }
 {
     let mut entries = StoreBuilder::new(alloc);
     read_entries(store, STORAGE_TREE, row, &mut entries)?;
     Ok(entries.finish()?)
 }
 
-/// Opens a store that was just opened, or made with no rows, as that of a session, and reads what it keeps. Where this is
-/// refused the store is given back. Nothing is written.
+/// Opens a store that was just opened, or made with no rows, as that of a session, and reads what it keeps. If this is refused,
+/// it returns the store. Nothing is written.
 pub fn open_session<S: Store>(
     alloc: Global,
     store: S,
@@ -93,11 +83,8 @@ pub fn open_session<S: Store>(
     requires { IsClean (S.Store.view store) → IsFresh (S.Store.view store) }
     ensures ok { IfOk result (λ r. IsKeeping (S.Store.view r.0) (kept_of r.1)) }
     ensures rising { IfOk result (λ r. AreRising (map program_entry r.1.programs.items)) }
-    ensures err { IfErr result (λ e. IsClean (S.Store.view e.1) → IsRefused (S.Store.view store) (MoreFaults (S.Store.faults store) (S.Store.faults e.1)) e.0) }
-    ensures told { IfErr result (λ e. (error : StoreError) → e.0 ≡ OpenFault.Store error → Tells (S.Store.blamed e.1) error) }
-    ensures same { IfOk result (λ r. IsClean (S.Store.view r.0) → OnlyReads (S.Store.view store) (S.Store.view r.0)) }
-    ensures quiet { IfOk result (λ r. IsQuiet S.Store.view S.Store.faults S.Store.recovers S.Store.is_shielded store r.0) }
-    ensures back { IfErr result (λ e. IsQuiet S.Store.view S.Store.faults S.Store.recovers S.Store.is_shielded store e.1) }
+    ensures read { IfOk result (λ r. ReadsIn S.Store IsRefused store r.0 (Ok r.1)) }
+    ensures refused { IfErr result (λ e. RefusesIn S.Store IsRefused store e.1 e.0) }
 {
     let mut store = store;
     match load(alloc, &mut store) {

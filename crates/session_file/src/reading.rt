@@ -1,17 +1,15 @@
 //! Reading the parts of a session from the trees of a store.
 
-ghost use Rattle.std.specs.Prelude.{◌≡◌, ◌++◌, ℕ, List, [], ◌∷◌, length, map, false, IfErr, IfOk, IfSome, IsTrue, OnOk};
+ghost use Rattle.std.specs.Prelude.{◌≡◌, ◌++◌, ℕ, List, [], ◌∷◌, length, map, false, IfOk, IfSome, IsTrue, OnOk};
 ghost use Rattle.std.specs.List.{AllByRecursion};
 ghost use Rattle.std.specs.Option.{option_map};
 ghost use Rattle.std.specs.declared.cmp.Ordering.TheVariants.{Less};
-ghost use Rattle.sqlite_exec.specs.Calls.{OnlyReads};
-ghost use Rattle.sqlite_disk.specs.Disk.{MoreFaults};
-ghost use Rattle.sqlite_trees.specs.View.{IsClean, IsQuiet, KeepsSchema, Tells};
+ghost use Rattle.sqlite_trees.specs.View.{IsClean, KeepsSchema};
 ghost use Rattle.sqlite_value.specs.Keys.{plain};
 ghost use Rattle.entry_tree.specs.Entries.{row_of};
 ghost use Rattle.rv_ledger.specs.Key.{key_cmp};
 ghost use Rattle.session_file.specs.Kept.{IsSessionInLimits, answer_row, answer_tree, rows_if_any, session_row, session_tree};
-ghost use Rattle.session_file.specs.Opening.{AreRising, answer_parts};
+ghost use Rattle.session_file.specs.Opening.{AreRising, ReadsIn, answer_parts};
 ghost use Rattle.session_file.specs.Rows.{DoFit, HasNoAnswer, HasNoEntries, HasNoSession, IsAbove, IsReadFault};
 
 use crate::decoding::{answer_in, bytes_of, is_of_other_version, key_in, session_in};
@@ -25,7 +23,7 @@ use sqlite_trees::store::{Direction, Shape, Store};
 use sqlite_value::row::Row;
 use std::alloc::Global;
 
-/// Whether a key is above the last one, where there is one.
+/// Whether a key is above the last one, if there is one.
 fn is_above(key: &Key, last: &Option<Key>) -> bool
     ensures above { IsTrue result → IsAbove key.now last.now }
     ensures other { result ≡ false → ¬ IsAbove key.now last.now }
@@ -36,7 +34,7 @@ fn is_above(key: &Key, last: &Option<Key>) -> bool
     }
 }
 
-/// Reads the entries of a tree, up to a row that is none of an entry by ascending keys of 32 bytes and values that fit.
+/// Reads the entries of a tree, up to a row that is not the next of entries with ascending keys of 32 bytes and values that fit.
 pub(crate) fn read_entries<S: Store, E: Entries>(
     store: &mut S,
     tree: u32,
@@ -48,11 +46,8 @@ pub(crate) fn read_entries<S: Store, E: Entries>(
     ensures ok { OnOk result (IsClean (S.Store.view store.new) → (S.Store.view store.old).trees tree ≡ map row_of (E.Entries.taken list.new)) }
     ensures rising { OnOk result (AreRising (E.Entries.taken list.new)) }
     ensures fits { OnOk result (DoFit E.Entries.fits (E.Entries.taken list.new)) }
-    ensures err { IfErr result (λ fault. IsClean (S.Store.view store.new) → IsReadFault (S.Store.view store.old) (MoreFaults (S.Store.faults store.old) (S.Store.faults store.new)) (HasNoEntries E.Entries.fits (S.Store.view store.old) tree) fault) }
-    ensures told { IfErr result (λ fault. (error : StoreError) → fault ≡ OpenFault.Store error → Tells (S.Store.blamed store.new) error) }
-    ensures same { OnOk result (IsClean (S.Store.view store.new) → OnlyReads (S.Store.view store.old) (S.Store.view store.new)) }
+    ensures reads { ReadsIn S.Store (IsReadFault (HasNoEntries E.Entries.fits tree)) store.old store.new result }
     ensures schema { KeepsSchema (S.Store.view store.old) (S.Store.view store.new) }
-    ensures quiet { IsQuiet S.Store.view S.Store.faults S.Store.recovers S.Store.is_shielded store.old store.new }
 {
     row.clear();
     store.seek(0, tree, row, Direction::Forward)?;
@@ -85,11 +80,8 @@ pub(crate) fn read_session<S: Store>(
     requires { IsClean (S.Store.view store.old) → (S.Store.view store.old).shape session_tree ≡ Shape.Table }
     ensures ok { IfOk result (λ found. IsClean (S.Store.view store.new) → (S.Store.view store.old).trees session_tree ≡ rows_if_any session_row found) }
     ensures limits { IfOk result (λ found. IfSome found IsSessionInLimits) }
-    ensures err { IfErr result (λ fault. IsClean (S.Store.view store.new) → IsReadFault (S.Store.view store.old) (MoreFaults (S.Store.faults store.old) (S.Store.faults store.new)) (HasNoSession (S.Store.view store.old)) fault) }
-    ensures told { IfErr result (λ fault. (error : StoreError) → fault ≡ OpenFault.Store error → Tells (S.Store.blamed store.new) error) }
-    ensures same { OnOk result (IsClean (S.Store.view store.new) → OnlyReads (S.Store.view store.old) (S.Store.view store.new)) }
+    ensures reads { ReadsIn S.Store (IsReadFault HasNoSession) store.old store.new result }
     ensures schema { KeepsSchema (S.Store.view store.old) (S.Store.view store.new) }
-    ensures quiet { IsQuiet S.Store.view S.Store.faults S.Store.recovers S.Store.is_shielded store.old store.new }
 {
     row.clear();
     store.seek(0, SESSION_TREE, row, Direction::Forward)?;
@@ -116,11 +108,8 @@ pub(crate) fn read_answer<S: Store>(
 ) -> Result<Option<AnswerRow>, OpenFault>
     requires { IsClean (S.Store.view store.old) → (S.Store.view store.old).shape answer_tree ≡ Shape.Table }
     ensures ok { IfOk result (λ found. IsClean (S.Store.view store.new) → (S.Store.view store.old).trees answer_tree ≡ rows_if_any answer_row (option_map answer_parts found)) }
-    ensures err { IfErr result (λ fault. IsClean (S.Store.view store.new) → IsReadFault (S.Store.view store.old) (MoreFaults (S.Store.faults store.old) (S.Store.faults store.new)) (HasNoAnswer (S.Store.view store.old)) fault) }
-    ensures told { IfErr result (λ fault. (error : StoreError) → fault ≡ OpenFault.Store error → Tells (S.Store.blamed store.new) error) }
-    ensures same { OnOk result (IsClean (S.Store.view store.new) → OnlyReads (S.Store.view store.old) (S.Store.view store.new)) }
+    ensures reads { ReadsIn S.Store (IsReadFault HasNoAnswer) store.old store.new result }
     ensures schema { KeepsSchema (S.Store.view store.old) (S.Store.view store.new) }
-    ensures quiet { IsQuiet S.Store.view S.Store.faults S.Store.recovers S.Store.is_shielded store.old store.new }
 {
     row.clear();
     store.seek(0, ANSWER_TREE, row, Direction::Forward)?;

@@ -10,7 +10,7 @@ pub struct SessionRow {
     pub frame_limit: u64,
     /// The most gas of a frame, if it is bounded.
     pub frame_gas: Option<u64>,
-    /// Whether receipts are told in brief.
+    /// Whether receipts are printed in brief.
     pub is_brief: bool,
     /// The rules of the last frame.
     pub rules: Rules,
@@ -34,7 +34,7 @@ pub struct ProgramRow {
 pub struct AnswerRow {
     /// The line.
     pub line: Vec<u8>,
-    /// The bytes behind it.
+    /// The bytes after it.
     pub bytes: Vec<u8>,
 }
 

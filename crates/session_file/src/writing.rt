@@ -1,12 +1,12 @@
 //! Writing the parts of a session into the open transaction. Each call leaves the transaction as far as it came.
 
-ghost use Rattle.std.specs.Prelude.{◌≡◌, ◌<◌, ◌≤◌, ◌^◌, [], ◌∷◌, ◌++◌, false, length, pos, IfErr, IfSome, IsTrue, OnErr, OnOk};
+ghost use Rattle.std.specs.Prelude.{◌≡◌, ◌<◌, ◌≤◌, ◌^◌, [], ◌∷◌, ◌++◌, false, length, pos, IfSome, IsTrue, OnErr, OnOk};
 ghost use Rattle.std.specs.Option.{ForSome, option_copied};
-ghost use Rattle.sqlite_disk.specs.Disk.{MoreFaults};
-ghost use Rattle.sqlite_trees.specs.View.{HasCause, IsClean, IsQuiet, IsRolledBack, KeepsCommitted, KeepsSchema, OnlyWrites, SetsTree, Tells};
+ghost use Rattle.sqlite_trees.specs.View.{IsClean, IsQuiet, IsRolledBack, OnlyWrites, SetsTree};
 ghost use Rattle.sqlite_trees.specs.Tree.{put_row, without_rowid};
 ghost use Rattle.sqlite_value.specs.Keys.{plain};
 ghost use Rattle.entry_tree.specs.Entries.{EditsTree, rows_of};
+ghost use Rattle.entry_tree.specs.Tries.{Tries};
 ghost use Rattle.overlay.specs.Overlay.{with_changes};
 ghost use Rattle.session_file.specs.Limits.{HasSmallNumbers, IsLongAnswer};
 ghost use Rattle.session_file.specs.Kept.{AreEntries, IsSessionInLimits, answer_row, answer_tree, flag, number_or_null, rules_number, session_row, session_tree, storage_tree};
@@ -57,11 +57,7 @@ pub(crate) fn change_entries<S: Store>(
         → EditsTree (S.Store.view store.old) (S.Store.view store.new) storage_tree (λ _. rows_of (with_changes base.now changes.now))) }
     ensures frame { OnOk result (IsClean (S.Store.view store.new) → OnlyWrites (S.Store.view store.old) (S.Store.view store.new)) }
     ensures limits { OnOk result (IsClean (S.Store.view store.new) → (S.Store.view store.old).trees storage_tree ≡ rows_of base.now → AreEntries base.now → AreEntries (with_changes base.now changes.now)) }
-    ensures err { IsClean (S.Store.view store.new) → OnErr result (KeepsCommitted (S.Store.view store.old) (S.Store.view store.new)) }
-    ensures cause { IsClean (S.Store.view store.new) → IfErr result (HasCause (S.Store.view store.old) (MoreFaults (S.Store.faults store.old) (S.Store.faults store.new)) ⊥) }
-    ensures told { IfErr result (Tells (S.Store.blamed store.new)) }
-    ensures schema { KeepsSchema (S.Store.view store.old) (S.Store.view store.new) }
-    ensures quiet { IsQuiet S.Store.view S.Store.faults S.Store.recovers S.Store.is_shielded store.old store.new }
+    ensures tries { Tries S.Store ⊥ store.old store.new result }
 {
     for (key, content) in changes.iter() {
         let old = value_bytes(base.get(key));
@@ -89,11 +85,7 @@ fn remove_entries<S: Store>(
     ensures ok { OnOk result (IsClean (S.Store.view store.new) → (S.Store.view store.old).trees storage_tree ≡ rows_of base.now
         → EditsTree (S.Store.view store.old) (S.Store.view store.new) storage_tree (λ _. [])) }
     ensures frame { OnOk result (IsClean (S.Store.view store.new) → OnlyWrites (S.Store.view store.old) (S.Store.view store.new)) }
-    ensures err { IsClean (S.Store.view store.new) → OnErr result (KeepsCommitted (S.Store.view store.old) (S.Store.view store.new)) }
-    ensures cause { IsClean (S.Store.view store.new) → IfErr result (HasCause (S.Store.view store.old) (MoreFaults (S.Store.faults store.old) (S.Store.faults store.new)) ⊥) }
-    ensures told { IfErr result (Tells (S.Store.blamed store.new)) }
-    ensures schema { KeepsSchema (S.Store.view store.old) (S.Store.view store.new) }
-    ensures quiet { IsQuiet S.Store.view S.Store.faults S.Store.recovers S.Store.is_shielded store.old store.new }
+    ensures tries { Tries S.Store ⊥ store.old store.new result }
 {
     for (key, value) in base.iter() {
         change_entry(
@@ -119,11 +111,7 @@ fn insert_entries<S: Store>(
         → EditsTree (S.Store.view store.old) (S.Store.view store.new) storage_tree (λ _. rows_of storage.now)) }
     ensures frame { OnOk result (IsClean (S.Store.view store.new) → OnlyWrites (S.Store.view store.old) (S.Store.view store.new)) }
     ensures limits { OnOk result (AreEntries storage.now) }
-    ensures err { IsClean (S.Store.view store.new) → OnErr result (KeepsCommitted (S.Store.view store.old) (S.Store.view store.new)) }
-    ensures cause { IsClean (S.Store.view store.new) → IfErr result (HasCause (S.Store.view store.old) (MoreFaults (S.Store.faults store.old) (S.Store.faults store.new)) ⊥) }
-    ensures told { IfErr result (Tells (S.Store.blamed store.new)) }
-    ensures schema { KeepsSchema (S.Store.view store.old) (S.Store.view store.new) }
-    ensures quiet { IsQuiet S.Store.view S.Store.faults S.Store.recovers S.Store.is_shielded store.old store.new }
+    ensures tries { Tries S.Store ⊥ store.old store.new result }
 {
     for (key, value) in storage.iter() {
         change_entry(
@@ -150,11 +138,7 @@ pub(crate) fn replace_entries<S: Store>(
         → EditsTree (S.Store.view store.old) (S.Store.view store.new) storage_tree (λ _. rows_of storage.now)) }
     ensures frame { OnOk result (IsClean (S.Store.view store.new) → OnlyWrites (S.Store.view store.old) (S.Store.view store.new)) }
     ensures limits { OnOk result (AreEntries storage.now) }
-    ensures err { IsClean (S.Store.view store.new) → OnErr result (KeepsCommitted (S.Store.view store.old) (S.Store.view store.new)) }
-    ensures cause { IsClean (S.Store.view store.new) → IfErr result (HasCause (S.Store.view store.old) (MoreFaults (S.Store.faults store.old) (S.Store.faults store.new)) ⊥) }
-    ensures told { IfErr result (Tells (S.Store.blamed store.new)) }
-    ensures schema { KeepsSchema (S.Store.view store.old) (S.Store.view store.new) }
-    ensures quiet { IsQuiet S.Store.view S.Store.faults S.Store.recovers S.Store.is_shielded store.old store.new }
+    ensures tries { Tries S.Store ⊥ store.old store.new result }
 {
     remove_entries(store, row, base)?;
     insert_entries(store, row, storage)
@@ -167,7 +151,7 @@ fn number_of(rules: Rules) -> u8
     rules as u8
 }
 
-/// Puts a number, or that there is none, behind the values of a row.
+/// Puts a number, or that there is none, after the values of a row.
 fn push_number(row: &mut Row, number: Option<u64>) -> Result<(), AllocError>
     requires { ForSome number (λ n. n < 2 ^ 63) }
     ensures { OnOk result (row.new ≡ row.old ++ number_or_null number ∷ []) }
@@ -224,11 +208,7 @@ pub(crate) fn put_session<S: Store>(
     requires reals { IsClean (S.Store.view store.old) → (S.Store.view store.old).reals session_tree ≡ 0 }
     ensures ok { OnOk result (IsClean (S.Store.view store.new) → SetsTree (S.Store.view store.old) (S.Store.view store.new) session_tree (put_row (session_row session))) }
     ensures limits { OnOk result (IsSessionInLimits session) }
-    ensures err { IsClean (S.Store.view store.new) → OnErr result (KeepsCommitted (S.Store.view store.old) (S.Store.view store.new)) }
-    ensures cause { IsClean (S.Store.view store.new) → IfErr result (HasCause (S.Store.view store.old) (MoreFaults (S.Store.faults store.old) (S.Store.faults store.new)) (¬ HasSmallNumbers session)) }
-    ensures told { IfErr result (Tells (S.Store.blamed store.new)) }
-    ensures schema { KeepsSchema (S.Store.view store.old) (S.Store.view store.new) }
-    ensures quiet { IsQuiet S.Store.view S.Store.faults S.Store.recovers S.Store.is_shielded store.old store.new }
+    ensures tries { Tries S.Store (¬ HasSmallNumbers session) store.old store.new result }
 {
     if !is_storable(&session) {
         return Err(StoreError::Unstorable);
@@ -258,11 +238,7 @@ pub(crate) fn put_answer<S: Store>(
     requires shape { IsClean (S.Store.view store.old) → (S.Store.view store.old).shape answer_tree ≡ Shape.Table }
     requires reals { IsClean (S.Store.view store.old) → (S.Store.view store.old).reals answer_tree ≡ 0 }
     ensures ok { OnOk result (IsClean (S.Store.view store.new) → SetsTree (S.Store.view store.old) (S.Store.view store.new) answer_tree (put_row (answer_row (line.now, bytes.now)))) }
-    ensures err { IsClean (S.Store.view store.new) → OnErr result (KeepsCommitted (S.Store.view store.old) (S.Store.view store.new)) }
-    ensures cause { IsClean (S.Store.view store.new) → IfErr result (HasCause (S.Store.view store.old) (MoreFaults (S.Store.faults store.old) (S.Store.faults store.new)) (IsLongAnswer (line.now, bytes.now))) }
-    ensures told { IfErr result (Tells (S.Store.blamed store.new)) }
-    ensures schema { KeepsSchema (S.Store.view store.old) (S.Store.view store.new) }
-    ensures quiet { IsQuiet S.Store.view S.Store.faults S.Store.recovers S.Store.is_shielded store.old store.new }
+    ensures tries { Tries S.Store (IsLongAnswer (line.now, bytes.now)) store.old store.new result }
 {
     make_answer_row(row, line, bytes)?;
     store.put(ANSWER_TREE, row)
@@ -272,16 +248,12 @@ pub(crate) fn put_answer<S: Store>(
 pub(crate) fn clear_answer<S: Store>(store: &mut S) -> Result<(), StoreError>
     requires { IsClean (S.Store.view store.old) → (S.Store.view store.old).shape answer_tree ≡ Shape.Table }
     ensures ok { OnOk result (IsClean (S.Store.view store.new) → SetsTree (S.Store.view store.old) (S.Store.view store.new) answer_tree (without_rowid (pos 1))) }
-    ensures err { IsClean (S.Store.view store.new) → OnErr result (KeepsCommitted (S.Store.view store.old) (S.Store.view store.new)) }
-    ensures cause { IsClean (S.Store.view store.new) → IfErr result (HasCause (S.Store.view store.old) (MoreFaults (S.Store.faults store.old) (S.Store.faults store.new)) ⊥) }
-    ensures told { IfErr result (Tells (S.Store.blamed store.new)) }
-    ensures schema { KeepsSchema (S.Store.view store.old) (S.Store.view store.new) }
-    ensures quiet { IsQuiet S.Store.view S.Store.faults S.Store.recovers S.Store.is_shielded store.old store.new }
+    ensures tries { Tries S.Store ⊥ store.old store.new result }
 {
     store.delete(ANSWER_TREE, ONLY_ROW)
 }
 
-/// The result of a write, which rolls back where it was refused.
+/// The result of a write. If the write was refused, this rolls back.
 pub(crate) fn settled<S: Store>(
     store: &mut S,
     given: Result<(), StoreError>,

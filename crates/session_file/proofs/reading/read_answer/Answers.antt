@@ -1,12 +1,14 @@
-use Rattle.std.proofs.Common.{◌≡◌, List, [], ◌∷◌, arith, rules, sym, ap, ◌∙◌}
+use Rattle.std.proofs.Common.{◌≡◌, List, [], ◌∷◌, arith, rules, refl, sym, ap, ◌∙◌}
 use Rattle.std.proofs.lemmas.Result.{err_from_is_err_and}
 use Rattle.sqlite_value.specs.Order.{Row}
 use Rattle.sqlite_trees.specs.View.{View, IsClean}
 use Rattle.sqlite_exec.proofs.CheckLemmas as lemma
-use Rattle.entry_tree.proofs.Causes.{later_cause}
+use Rattle.entry_tree.proofs.Tries.{quiet_on}
 use Rattle.session_file.specs.Kept.{answer_row, answer_tree}
 use Rattle.session_file.specs.Opening.{answer_parts}
+use Rattle.session_file.specs.Rows.{HasNoAnswer}
 use Rattle.session_file.proofs.Loads.{all_left}
+use Rattle.session_file.proofs.Readings.{quiet_same, read_failed}
 use Rattle.session_file.proofs.reading.read_answer.Goals as goal
 
 pub returns-then-not-branch-clause-ok : goal.returns-then-not-branch-clause-ok
@@ -23,26 +25,20 @@ returns-clause-ok g c clean =
     let row : c.next.new.row ≡ answer_row (answer_parts c.in-Some.answer) = search rules in
     sym all ∙ one ∙ ap (λ (l : List Row). c.next.new.row ∷ l) none ∙ ap (λ (r : Row). r ∷ []) row
 
-pub returns-in_err-seek-clause-err : goal.returns-in_err-seek-clause-err
-returns-in_err-seek-clause-err g c =
+pub returns-in_err-seek-clause-reads : goal.returns-in_err-seek-clause-reads
+returns-in_err-seek-clause-reads g c =
     let p = err_from_is_err_and c.from_residual.result c.from_residual.ensures.1 in
-    rw (p.1, p.2) (λ clean. c.in_err-seek.ensures.cause clean)
+    rw (p.1, p.2) (read_failed g.S.Store HasNoAnswer c.args.store.now c.args.store.now _ _ (quiet_same g.S.Store c.args.store.now) (λ clean. refl) c.in_err-seek.ensures.cause c.in_err-seek.ensures.told c.seek.ensures.quiet)
 
-pub returns-in_err-next-clause-err : goal.returns-in_err-next-clause-err
-returns-in_err-next-clause-err g c =
-    let v = g.S.Store.view in
+pub returns-in_err-next-clause-reads : goal.returns-in_err-next-clause-reads
+returns-in_err-next-clause-reads g c =
     let p = err_from_is_err_and c.from_residual-in_err-next.result c.from_residual-in_err-next.ensures.1 in
-    rw (p.1, p.2) (λ clean.
-    let mid : IsClean (v c.seek.new.self) = omega (arith, c.next.ensures.quiet.clean, clean) in
-    let same = ap (λ (w : View). w.is_broken) (c.in_ok-seek.ensures.ok mid) in
-    later_cause (v c.args.store.now) (v c.seek.new.self) _ _ _ ⊥ ⊥ _ c.seek.ensures.quiet.counts same (λ long. long) (c.in_err-next.ensures.cause clean))
+    rw (p.1, p.2) (read_failed g.S.Store HasNoAnswer c.args.store.now c.seek.new.self _ _ c.seek.ensures.quiet (λ clean. ap (λ (w : View). w.is_broken) (c.in_ok-seek.ensures.ok clean))
+    c.in_err-next.ensures.cause c.in_err-next.ensures.told c.next.ensures.quiet)
 
-pub returns-in_err-next-2-clause-err : goal.returns-in_err-next-2-clause-err
-returns-in_err-next-2-clause-err g c =
-    let v = g.S.Store.view in
+pub returns-in_err-next-2-clause-reads : goal.returns-in_err-next-2-clause-reads
+returns-in_err-next-2-clause-reads g c =
     let p = err_from_is_err_and c.from_residual-in_err-next-2.result c.from_residual-in_err-next-2.ensures.1 in
-    rw (p.1, p.2) (λ clean.
-    let now : IsClean (v c.next.new.self) = omega (arith, c.next-2.ensures.quiet.clean, clean) in
-    let mid : IsClean (v c.seek.new.self) = omega (arith, c.next.ensures.quiet.clean, now) in
-    let same = ap (λ (w : View). w.is_broken) (c.in_ok-next.ensures.moves now).same ∙ ap (λ (w : View). w.is_broken) (c.in_ok-seek.ensures.ok mid) in
-    later_cause (v c.args.store.now) (v c.next.new.self) _ _ _ ⊥ ⊥ _ (omega (arith, c.seek.ensures.quiet.counts, c.next.ensures.quiet.counts)) same (λ long. long) (c.in_err-next-2.ensures.cause clean))
+    rw (p.1, p.2) (read_failed g.S.Store HasNoAnswer c.args.store.now c.next.new.self _ _ (quiet_on g.S.Store _ _ _ c.seek.ensures.quiet c.next.ensures.quiet)
+    (λ clean. ap (λ (w : View). w.is_broken) (c.in_ok-next.ensures.moves clean).same ∙ ap (λ (w : View). w.is_broken) (c.in_ok-seek.ensures.ok (omega (arith, c.next.ensures.quiet.clean, clean))))
+    c.in_err-next-2.ensures.cause c.in_err-next-2.ensures.told c.next-2.ensures.quiet)

@@ -1,15 +1,15 @@
 use Rattle.std.proofs.Common.{◌≡◌, ◌++◌, [], ◌∷◌, length, arith, rules, sym, ap, ◌∙◌, refl, subst}
 use Rattle.std.proofs.lemmas.Result.{err_from_is_err_and}
 use Rattle.sqlite_value.specs.Order.{bytes, column}
-use Rattle.sqlite_trees.specs.View.{View, IsClean}
+use Rattle.sqlite_trees.specs.View.{View}
 use Rattle.sqlite_exec.specs.Loops.{left_of}
 use Rattle.sqlite_exec.proofs.CheckLemmas as lemma
-use Rattle.entry_tree.proofs.Causes.{later_cause}
 use Rattle.entry_tree.specs.Entries.{row_of}
 use Rattle.session_file.specs.Opening.{AreRising}
-use Rattle.session_file.specs.Rows.{DoFit, IsAbove}
+use Rattle.session_file.specs.Rows.{DoFit, HasNoEntries, IsAbove}
 use Rattle.session_file.proofs.Lists.{above_all, all_pushed, found_next, last_key, last_pushed, one_key, rising_pushed, rows_pushed}
 use Rattle.session_file.proofs.Loads.{all_left}
+use Rattle.session_file.proofs.Readings.{quiet_same, read_damaged, read_failed}
 use Rattle.session_file.proofs.reading.read_entries.Goals as goal
 
 pub rows-init : goal.rows-init
@@ -24,27 +24,30 @@ rows-init g c = (
   search rules,
 )
 
-pub returns-in_default-clause-err : goal.returns-in_default-clause-err
-returns-in_default-clause-err g c clean m all is =
+pub returns-in_default-clause-reads : goal.returns-in_default-clause-reads
+returns-in_default-clause-reads g c =
+    read_damaged g.S.Store (HasNoEntries g.E.Entries.fits c.args.tree) c.args.store.now c.rows.store _ c.rows.invariant.2 c.next.ensures.quiet (λ clean m all is.
     let step = lemma.stepped _ _ 0 c.next.new.row (rw c.if-not-branch.false at (c.in_ok-next.ensures.ok clean)) in
     let it = found_next g.E.Entries.fits (g.E.Entries.taken c.rows.list) c.next.new.row _ _ _ m (c.rows.invariant.3 (omega (arith, c.next.ensures.quiet.clean))) step is all in
-    c.in_default.ensures.none refl it.entry.0 it.entry.1 it.key it.row
+    c.in_default.ensures.none refl it.entry.0 it.entry.1 it.key it.row)
 
-pub returns-then-not-is_above-clause-err : goal.returns-then-not-is_above-clause-err
-returns-then-not-is_above-clause-err g c clean m all is =
+pub returns-then-not-is_above-clause-reads : goal.returns-then-not-is_above-clause-reads
+returns-then-not-is_above-clause-reads g c =
+    read_damaged g.S.Store (HasNoEntries g.E.Entries.fits c.args.tree) c.args.store.now c.rows.store _ c.rows.invariant.2 c.next.ensures.quiet (λ clean m all is.
     let step = lemma.stepped _ _ 0 c.next.new.row (rw c.if-not-branch.false at (c.in_ok-next.ensures.ok clean)) in
     let it = found_next g.E.Entries.fits (g.E.Entries.taken c.rows.list) c.next.new.row _ _ _ m (c.rows.invariant.3 (omega (arith, c.next.ensures.quiet.clean))) step is all in
     let row : c.next.new.row ≡ row_of (c.in-Some.key, bytes (column c.next.new.row 1)) = c.in-Some.ensures.some in
     let same : row_of (c.in-Some.key, bytes (column c.next.new.row 1)) ≡ row_of it.entry = sym row ∙ it.row in
     let key : it.entry.0 ≡ c.in-Some.key = sym (one_key (c.in-Some.key, bytes (column c.next.new.row 1)) it.entry same) in
-    c.is_above.ensures.other c.if-not-is_above.true (subst (λ k. IsAbove k c.rows.last) key (subst (IsAbove it.entry.0) (sym c.rows.invariant.6) it.above))
+    c.is_above.ensures.other c.if-not-is_above.true (subst (λ k. IsAbove k c.rows.last) key (subst (IsAbove it.entry.0) (sym c.rows.invariant.6) it.above)))
 
-pub returns-then-not-branch-2-clause-err : goal.returns-then-not-branch-2-clause-err
-returns-then-not-branch-2-clause-err g c clean m all is =
+pub returns-then-not-branch-2-clause-reads : goal.returns-then-not-branch-2-clause-reads
+returns-then-not-branch-2-clause-reads g c =
+    read_damaged g.S.Store (HasNoEntries g.E.Entries.fits c.args.tree) c.args.store.now c.rows.store _ c.rows.invariant.2 c.next.ensures.quiet (λ clean m all is.
     let step = lemma.stepped _ _ 0 c.next.new.row (rw c.if-not-branch.false at (c.in_ok-next.ensures.ok clean)) in
     let it = found_next g.E.Entries.fits (g.E.Entries.taken c.rows.list) c.next.new.row _ _ _ m (c.rows.invariant.3 (omega (arith, c.next.ensures.quiet.clean))) step is all in
     let value : it.entry.1 ≡ c.bytes_of.result.now = sym (c.bytes_of.ensures ∙ ap bytes c.get.ensures ∙ ap (λ r. bytes (column r 1)) it.row) in
-    c.in_ok-take.ensures.refused c.if-not-branch-2.true (subst g.E.Entries.fits value it.value)
+    c.in_ok-take.ensures.refused c.if-not-branch-2.true (subst g.E.Entries.fits value it.value))
 
 pub rows-preserved : goal.rows-preserved
 rows-preserved g c =
@@ -71,16 +74,13 @@ rows-preserved g c =
       search rules,
     )
 
-pub returns-in_err-seek-clause-err : goal.returns-in_err-seek-clause-err
-returns-in_err-seek-clause-err g c =
+pub returns-in_err-seek-clause-reads : goal.returns-in_err-seek-clause-reads
+returns-in_err-seek-clause-reads g c =
     let p = err_from_is_err_and c.from_residual.result c.from_residual.ensures.1 in
-    rw (p.1, p.2) (λ clean. c.in_err-seek.ensures.cause clean)
+    rw (p.1, p.2) (read_failed g.S.Store (HasNoEntries g.E.Entries.fits c.args.tree) c.args.store.now c.args.store.now _ _ (quiet_same g.S.Store c.args.store.now) (λ clean. refl) c.in_err-seek.ensures.cause c.in_err-seek.ensures.told c.seek.ensures.quiet)
 
-pub returns-in_err-next-clause-err : goal.returns-in_err-next-clause-err
-returns-in_err-next-clause-err g c =
-    let v = g.S.Store.view in
+pub returns-in_err-next-clause-reads : goal.returns-in_err-next-clause-reads
+returns-in_err-next-clause-reads g c =
     let p = err_from_is_err_and c.from_residual-in_err-next.result c.from_residual-in_err-next.ensures.1 in
-    rw (p.1, p.2) (λ clean.
-    let mid : IsClean (v c.rows.store) = omega (arith, c.next.ensures.quiet.clean, clean) in
-    let same = ap (λ (w : View). w.is_broken) (c.rows.invariant.1 mid) in
-    later_cause (v c.args.store.now) (v c.rows.store) _ _ _ ⊥ ⊥ _ c.rows.invariant.2.counts same (λ long. long) (c.in_err-next.ensures.cause clean))
+    rw (p.1, p.2) (read_failed g.S.Store (HasNoEntries g.E.Entries.fits c.args.tree) c.args.store.now c.rows.store _ _ c.rows.invariant.2 (λ clean. ap (λ (w : View). w.is_broken) (c.rows.invariant.1 clean))
+    c.in_err-next.ensures.cause c.in_err-next.ensures.told c.next.ensures.quiet)

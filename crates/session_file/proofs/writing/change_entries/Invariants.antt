@@ -1,6 +1,7 @@
-use Rattle.std.proofs.Common.{◌≡◌, ◌≢◌, T, ℕ}
+use Rattle.std.proofs.Common.{Ok, ◌≡◌, ◌≢◌, T, ℕ}
 use Rattle.std.specs.FinMap.{is_sorted}
-use Rattle.sqlite_trees.specs.View.{IsClean, KeepsSchema, IsQuiet, OnlyWrites}
+use Rattle.sqlite_trees.specs.View.{IsClean, OnlyWrites}
+use Rattle.entry_tree.specs.Tries.{Tries}
 use Rattle.rv_ledger.specs.Key.{key_cmp}
 use Rattle.entry_tree.specs.Entries.{rows_of}
 use Rattle.session_file.specs.Kept.{storage_tree}
@@ -16,5 +17,4 @@ invariant-loop-key g l =
     × (IsClean now → (t : ℕ) → t ≢ storage_tree → now.trees t ≡ old.trees t)
     × (IsClean now → OnlyWrites old now)
     × T (is_sorted key_cmp l.key-iterator)
-    × IsQuiet g.S.Store.view g.S.Store.faults g.S.Store.recovers g.S.Store.is_shielded l.fn.store l.store
-    × KeepsSchema old now
+    × Tries {A = Unit {0}} g.S.Store ⊥ l.fn.store l.store (Ok tt)

@@ -1,6 +1,7 @@
-use Rattle.std.proofs.Common.{◌≡◌, ◌≢◌, ℕ, []}
+use Rattle.std.proofs.Common.{Ok, ◌≡◌, ◌≢◌, ℕ, []}
 use Rattle.std.specs.FinMap.{entries}
-use Rattle.sqlite_trees.specs.View.{IsClean, KeepsSchema, IsQuiet, OnlyWrites}
+use Rattle.sqlite_trees.specs.View.{IsClean, OnlyWrites}
+use Rattle.entry_tree.specs.Tries.{Tries}
 use Rattle.session_file.specs.Kept.{storage_tree}
 use Rattle.session_file.proofs.Lists.{IsInserted}
 use Rattle.session_file.proofs.writing.insert_entries.Given as goal
@@ -12,5 +13,4 @@ invariant-loop-key g l =
     IsInserted (entries l.storage) l.key-iterator (IsClean now × (old.trees storage_tree ≡ [])) (now.trees storage_tree)
     × (IsClean now → (t : ℕ) → t ≢ storage_tree → now.trees t ≡ old.trees t)
     × (IsClean now → OnlyWrites old now)
-    × IsQuiet g.S.Store.view g.S.Store.faults g.S.Store.recovers g.S.Store.is_shielded l.fn.store l.store
-    × KeepsSchema old now
+    × Tries {A = Unit {0}} g.S.Store ⊥ l.fn.store l.store (Ok tt)

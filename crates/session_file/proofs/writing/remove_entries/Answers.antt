@@ -1,4 +1,4 @@
-use Rattle.std.proofs.Common.{◌≡◌, ◌∷◌, ◌∙◌, arith, map, rules, subst, ap, refl}
+use Rattle.std.proofs.Common.{Ok, Err, ◌≡◌, ◌∷◌, ◌∙◌, arith, map, rules, subst, ap, refl}
 use Rattle.std.proofs.lemmas.Result.{err_from_is_err_and}
 use Rattle.std.specs.FinMap.{entries}
 use Rattle.sqlite_value.specs.Keys.{plain}
@@ -8,7 +8,7 @@ use Rattle.entry_tree.specs.Entries.{row_of}
 use Rattle.session_file.specs.Kept.{storage_tree}
 use Rattle.session_file.specs.Opening.{AreRising}
 use Rattle.session_file.proofs.Lists.{first_removed, map_rising}
-use Rattle.entry_tree.proofs.Causes.{later_cause}
+use Rattle.entry_tree.proofs.Tries.{after, failed, weaker_ok}
 use Rattle.session_file.proofs.writing.remove_entries.Goals as goal
 
 pub loop-key-init : goal.loop-key-init
@@ -18,7 +18,6 @@ loop-key-init g c =
       λ clean t other. refl,
       search rules,
       rw all (map_rising c.args.base.now),
-      search rules,
       search rules,
     )
 
@@ -32,20 +31,15 @@ loop-key-preserved g c =
     let step : c.loop-key.key-iterator ≡ (key, value) ∷ c.next.new.self = search rules in
     let up : AreRising ((key, value) ∷ c.next.new.self) = subst AreRising step c.loop-key.invariant.3 in
     let edit : IsClean now → now.trees storage_tree ≡ remove_entry plain (row_of (key, value)) (was.trees storage_tree) = λ clean. search rules in
-    let early : IsClean now → IsClean was = λ clean. omega (arith, c.change_entry.ensures.quiet.clean) in (
+    let early : IsClean now → IsClean was = λ clean. omega (arith, c.change_entry.ensures.tries.quiet.clean) in (
       λ clean is. edit clean ∙ ap (remove_entry plain (row_of (key, value))) (c.loop-key.invariant.0 (early clean) is ∙ ap (map row_of) step) ∙ first_removed (key, value) c.next.new.self up,
       λ clean t other. (c.in_ok-change_entry.ensures.ok clean).others t other ∙ c.loop-key.invariant.1 (early clean) t other,
       λ clean. (c.in_ok-change_entry.ensures.ok clean).rest ∙ ap (λ (w : View). record w { trees = now.trees; cursors = now.cursors }) (c.loop-key.invariant.2 (early clean)),
       up.1,
-      search rules,
-      search rules,
+      after g.S.Store (Ok tt) c.loop-key.invariant.4 c.loop-key.invariant.2 (weaker_ok g.S.Store ⊥ c.in_ok-change_entry.ensures.tries),
     )
 
-pub returns-in_err-change_entry-clause-cause : goal.returns-in_err-change_entry-clause-cause
-returns-in_err-change_entry-clause-cause g c clean =
-    let old = g.S.Store.view c.args.store.now in
-    let was = g.S.Store.view c.loop-key.store in
-    let early : IsClean was = omega (arith, c.change_entry.ensures.quiet.clean) in
-    let same = ap (λ (w : View). w.is_broken) (c.loop-key.invariant.2 early) in
+pub returns-in_err-change_entry-clause-tries : goal.returns-in_err-change_entry-clause-tries
+returns-in_err-change_entry-clause-tries g c =
     let p = err_from_is_err_and c.from_residual.result c.from_residual.ensures.1 in
-    rw (p.1, p.2) (later_cause old was _ _ _ ⊥ ⊥ c.in_err-change_entry.field-0.0 c.loop-key.invariant.4.counts same (λ long. long) (c.in_err-change_entry.ensures.cause clean))
+    rw (p.1, p.2) (after g.S.Store (Err c.in_err-change_entry.field-0.0) c.loop-key.invariant.4 c.loop-key.invariant.2 (failed g.S.Store ⊥ (λ long. long) c.in_err-change_entry.ensures.tries))

@@ -1,5 +1,6 @@
-use Rattle.std.proofs.Common.{◌≡◌, ◌≢◌, ℕ, map}
-use Rattle.sqlite_trees.specs.View.{IsClean, KeepsSchema, IsQuiet, OnlyWrites}
+use Rattle.std.proofs.Common.{Ok, ◌≡◌, ◌≢◌, ℕ, map}
+use Rattle.sqlite_trees.specs.View.{IsClean, OnlyWrites}
+use Rattle.entry_tree.specs.Tries.{Tries}
 use Rattle.entry_tree.specs.Entries.{row_of, rows_of}
 use Rattle.session_file.specs.Kept.{storage_tree}
 use Rattle.session_file.specs.Opening.{AreRising}
@@ -13,5 +14,4 @@ invariant-loop-key g l =
     × (IsClean now → (t : ℕ) → t ≢ storage_tree → now.trees t ≡ old.trees t)
     × (IsClean now → OnlyWrites old now)
     × AreRising l.key-iterator
-    × IsQuiet g.S.Store.view g.S.Store.faults g.S.Store.recovers g.S.Store.is_shielded l.fn.store l.store
-    × KeepsSchema old now
+    × Tries {A = Unit {0}} g.S.Store ⊥ l.fn.store l.store (Ok tt)

@@ -12,3 +12,9 @@ returns-clause-err g c = rw (← c.self.view_is) (on_err_weaker c.commit.result 
 
 pub returns-clause-sound : goal.returns-clause-sound
 returns-clause-sound g c = on_ok_weaker c.commit.result (λ commits clean. ap (λ (v : View). v.is_broken) (commits clean).is ∙ (commits clean).sound) c.commit.ensures.ok
+
+pub returns-clause-fails : goal.returns-clause-fails
+returns-clause-fails g c = rw (← c.self.view_is) (record { cause = c.commit.ensures.cause; told = c.commit.ensures.told })
+
+pub returns-clause-lasts : goal.returns-clause-lasts
+returns-clause-lasts g c = rw (← c.self.view_is) (record { clean = c.commit.ensures.clean; counts = c.commit.ensures.counts; closes = c.commit.ensures.open })

@@ -1,37 +1,22 @@
-use Rattle.std.proofs.lemmas.Result.{IfErr-weaker}
-use Rattle.std.proofs.Common.{arith, List, ℕ, OnOk, ap, length, ◌∙◌, subst}
+use Rattle.std.proofs.lemmas.Result.{on_ok_weaker}
+use Rattle.std.proofs.Common.{List, ℕ, OnOk, ap, length, ◌∙◌, subst}
 use Rattle.std.specs.FinMap.{insert}
 use Rattle.session_file.specs.Staging.{Stages}
 use Rattle.session_file.proofs.Limits.{names_insert}
-use Rattle.session_file.proofs.Staged.{on_ok_both, program_ok, refused, writes_still}
-use Rattle.sqlite_trees.specs.View.{IsClean}
-use Rattle.entry_tree.proofs.Causes.{earlier_cause, other_limit}
+use Rattle.session_file.proofs.Staged.{program_ok, writes_still}
+use Rattle.session_file.proofs.StagedIn.{stages_in}
 use Rattle.session_file.proofs.file.SessionFile.stage_program.Goals as goal
 
-pub returns-clause-ok : goal.returns-clause-ok
-returns-clause-ok g c =
+pub returns : goal.returns
+returns g c =
     let v = g.S.Store.view in
-    let old = v c.self.inside.store in
-    let mid = v c.set_key-result.new.store in
     let name = c.bytes.result.now in
-    let staged : OnOk c.set_key-result.result (Stages (λ next. record next { programs = insert next.programs name c.args.file.now }) old mid) =
-    program_ok c.set_key-result.result old mid (g.met.S.Store.shut_if_dirty c.set_key-result.new.store) (λ m. insert m name c.args.file.now) c.set_key-result.ensures.ok c.set_key-result.ensures.frame
+    let staged : OnOk c.set_key-result.result (Stages (λ next. record next { programs = insert next.programs name c.args.file.now }) (v c.self.inside.store) (v c.set_key-result.new.store)) =
+    program_ok c.set_key-result.result _ _ (g.met.S.Store.shut_if_dirty c.set_key-result.new.store) (λ m. insert m name c.args.file.now) c.set_key-result.ensures.ok c.set_key-result.ensures.frame
     (λ m all. names_insert m name c.args.file.now (ap length c.bytes.ensures.value ∙ c.bytes.ensures.count) all) in
-    let named = subst (λ (n : List ℕ). OnOk c.set_key-result.result (Stages (λ next. record next { programs = insert next.programs n c.args.file.now }) old mid)) c.bytes.ensures.value staged in
-    rw (← c.self.view_is, c.settled.ensures.given) (on_ok_both c.set_key-result.result (λ same it. rw same it) c.settled.ensures.ok named)
-
-pub returns-clause-err : goal.returns-clause-err
-returns-clause-err g c =
+    let named = subst (λ (n : List ℕ). OnOk c.set_key-result.result (Stages (λ next. record next { programs = insert next.programs n c.args.file.now }) (v c.self.inside.store) (v c.set_key-result.new.store))) c.bytes.ensures.value staged in
     rw (← c.self.view_is, c.settled.ensures.given)
-    (refused c.set_key-result.result _ _ _ (g.met.S.Store.shut_if_dirty c.settled.new.store) c.settled.ensures.quiet.clean c.set_key-result.ensures.err c.settled.ensures.err)
-
-pub returns-clause-cause : goal.returns-clause-cause
-returns-clause-cause g c =
-    let v = g.S.Store.view in
-    rw (← c.self.view_is, c.settled.ensures.given) (λ clean.
-    let mid : IsClean (v c.set_key-result.new.store) = omega (arith, c.settled.ensures.quiet.clean, clean) in
-    IfErr-weaker c.set_key-result.result _ _ (λ e why. earlier_cause (v c.self.inside.store) _ _ _ _ e c.settled.ensures.quiet.counts (other_limit (v c.self.inside.store) _ _ _ e (λ long. rw c.bytes.ensures.value at long) why)) (c.set_key-result.ensures.cause mid))
-
-pub returns-clause-still : goal.returns-clause-still
-returns-clause-still g c =
-    rw (← c.self.view_is, c.settled.ensures.given) (on_ok_both c.set_key-result.result (λ same it. rw same (λ clean. writes_still (g.S.Store.view c.self.inside.store) (g.S.Store.view c.set_key-result.new.store) (it clean))) c.settled.ensures.ok c.set_key-result.ensures.frame)
+    (stages_in g.S.Store _ _ _ c.self.inside.store c.set_key-result.new.store c.settled.new.store c.set_key-result.result (g.met.S.Store.shut_if_dirty c.settled.new.store) (λ long. rw c.bytes.ensures.value at long)
+    named
+    (on_ok_weaker c.set_key-result.result (λ only clean. writes_still (v c.self.inside.store) (v c.set_key-result.new.store) (only clean)) c.set_key-result.ensures.frame)
+    c.set_key-result.ensures.tries c.settled.ensures.ok c.settled.ensures.err c.settled.ensures.told c.settled.ensures.quiet)

@@ -1,29 +1,13 @@
-use Rattle.std.proofs.Common.{arith}
-use Rattle.std.proofs.lemmas.Result.{IfErr-weaker, on_ok_weaker}
-use Rattle.session_file.proofs.Staged.{on_ok_both, refused, storage_ok, writes_still}
-use Rattle.sqlite_trees.specs.View.{IsClean}
-use Rattle.entry_tree.proofs.Causes.{earlier_cause}
+use Rattle.std.proofs.lemmas.Result.{on_ok_weaker}
+use Rattle.session_file.proofs.Staged.{storage_ok, writes_still}
+use Rattle.session_file.proofs.StagedIn.{stages_in}
 use Rattle.session_file.proofs.file.SessionFile.stage_storage.Goals as goal
 
-pub returns-clause-ok : goal.returns-clause-ok
-returns-clause-ok g c =
+pub returns : goal.returns
+returns g c =
     let v = g.S.Store.view in
-    let staged = storage_ok c.replace_entries-result.result (v c.self.inside.store) (v c.replace_entries-result.new.store) (g.met.S.Store.shut_if_dirty c.replace_entries-result.new.store) c.args.base.now c.args.storage.now
-    c.replace_entries-result.ensures.ok c.replace_entries-result.ensures.frame (on_ok_weaker c.replace_entries-result.result (λ all clean is before. all) c.replace_entries-result.ensures.limits) in
-    rw (← c.self.view_is, c.settled.ensures.given) (on_ok_both c.replace_entries-result.result (λ same it. rw same it) c.settled.ensures.ok staged)
-
-pub returns-clause-err : goal.returns-clause-err
-returns-clause-err g c =
     rw (← c.self.view_is, c.settled.ensures.given)
-    (refused c.replace_entries-result.result _ _ _ (g.met.S.Store.shut_if_dirty c.settled.new.store) c.settled.ensures.quiet.clean c.replace_entries-result.ensures.err c.settled.ensures.err)
-
-pub returns-clause-cause : goal.returns-clause-cause
-returns-clause-cause g c =
-    let v = g.S.Store.view in
-    rw (← c.self.view_is, c.settled.ensures.given) (λ clean.
-    let mid : IsClean (v c.replace_entries-result.new.store) = omega (arith, c.settled.ensures.quiet.clean, clean) in
-    IfErr-weaker c.replace_entries-result.result _ _ (λ e why. earlier_cause (v c.self.inside.store) _ _ _ _ e c.settled.ensures.quiet.counts why) (c.replace_entries-result.ensures.cause mid))
-
-pub returns-clause-still : goal.returns-clause-still
-returns-clause-still g c =
-    rw (← c.self.view_is, c.settled.ensures.given) (on_ok_both c.replace_entries-result.result (λ same it. rw same (λ clean. writes_still (g.S.Store.view c.self.inside.store) (g.S.Store.view c.replace_entries-result.new.store) (it clean))) c.settled.ensures.ok c.replace_entries-result.ensures.frame)
+    (stages_in g.S.Store _ _ _ c.self.inside.store c.replace_entries-result.new.store c.settled.new.store c.replace_entries-result.result (g.met.S.Store.shut_if_dirty c.settled.new.store) (λ l. l)
+    (storage_ok c.replace_entries-result.result (v c.self.inside.store) (v c.replace_entries-result.new.store) (g.met.S.Store.shut_if_dirty c.replace_entries-result.new.store) c.args.base.now c.args.storage.now c.replace_entries-result.ensures.ok c.replace_entries-result.ensures.frame (on_ok_weaker c.replace_entries-result.result (λ all clean is before. all) c.replace_entries-result.ensures.limits))
+    (on_ok_weaker c.replace_entries-result.result (λ only clean. writes_still (v c.self.inside.store) (v c.replace_entries-result.new.store) (only clean)) c.replace_entries-result.ensures.frame)
+    c.replace_entries-result.ensures.tries c.settled.ensures.ok c.settled.ensures.err c.settled.ensures.told c.settled.ensures.quiet)
