@@ -92,7 +92,7 @@ by_turn_kept (line.Begin height digest size) bytes s found some = tt
 by_turn_kept line.State bytes s found some = tt
 by_turn_kept line.Quit bytes s found some = tt
 
--- an answer that tells of no change is due
+-- an answer that reports no change is due
 pub undone_due : (s : State) (ask : Ask) (given : Answer) → IsUndone given → IsDue s ask (pending.Nothing given)
 undone_due s (Begin height digest bytes) given h = h
 undone_due s (Program file) given h = tt

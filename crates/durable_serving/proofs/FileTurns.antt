@@ -49,7 +49,7 @@ same_bare a b e = λ j. record {
   last = None;
 }
 
--- ---- the last answer behind a turn that counts no frame
+-- ---- the last answer after a turn that counts no frame
 
 either : (b : Bool) (x y : Turn) (last : Option KeptAnswer) → x.after.last ≡ last → y.after.last ≡ last → (cond b x y).after.last ≡ last
 either true x y last h k = h
@@ -69,7 +69,7 @@ forget_last settings s name = either (contains_key s.programs name) _ (told s (R
 next_height : (n : ℕ) → n + 1 ≡ n → ⊥
 next_height n e = omega arith
 
--- a frame behind which all is as it was
+-- a frame after which all is as it was
 uncounted : (settings : Settings) (s : State) (last : Option (List ℕ × List ℕ)) (high : Bool) (wanted : Result Accepted FrameRefusal)
     → (cond high (told s (Refused TooHigh)) (frame_answer settings s wanted)).after ≡ s
     → last_of (cond high (told (bare s) (Refused TooHigh)) (frame_answer settings (bare s) wanted)).after.last last ≡ last
@@ -83,7 +83,7 @@ undone_begin s last (answer.Refused refusal) height digest bytes reply h is fail
 undone_begin s last (answer.Failed failure) height digest bytes reply h is failed = absurd (failed failure refl)
 undone_begin s last other height digest bytes reply h is failed = absurd h
 
--- the last answer behind a turn that changes nothing
+-- the last answer after a turn that changes nothing
 unchanged_last : (settings : Settings) (s : State) (last : Option (List ℕ × List ℕ)) (ask : Ask) (given : Answer) → ask ≢ Last → IsDue s ask (pending.Nothing given)
     → ((failure : Failure) → given ≡ answer.Failed failure → ⊥) → (turn settings (bare s) ask).reply ≡ reply_in s given → (turn settings s ask).after ≡ s
     → last_behind last ask (turn settings (bare s) ask) ≡ last
@@ -139,7 +139,7 @@ by_turn settings s last ask given other h failed reply is =
       },
     )
 
--- `last`, where it is answered by its turn
+-- `last`, if its turn answers it
 last_is : (s : State) (found : Option AnswerRow) → IsByTurn Last s found → (kept : Option KeptAnswer) → s.last ≡ kept → answer_text (last_reply kept) ≡ last_text (last_of kept (option_map answer_parts found))
 last_is s found by (Some kept) is = refl
 last_is s found by None is = ap (λ (o : Option AnswerRow). last_text (option_map answer_parts o)) (sym (by is))

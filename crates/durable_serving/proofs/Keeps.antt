@@ -1,15 +1,16 @@
 -- A change that was kept.
-use Rattle.std.proofs.Common.{◌≡◌, ◌≤◌, ◌⊎◌, ℕ, Bool, true, List, Option, Some, None, IsTrue, false, inl, inr, refl, sym, ap, subst, ◌∙◌, arith}
+use Rattle.std.proofs.Common.{◌≡◌, ◌⊎◌, ℕ, Bool, true, List, Option, Some, None, IsTrue, false, inl, inr, refl, sym, ap, subst, ◌∙◌, arith}
 use Rattle.std.specs.Option.{option_map}
+use Rattle.entry_tree.proofs.Tries.{Quiet}
 use Rattle.session_file.specs.Kept.{HoldsIn, Kept}
 use Rattle.session_file.specs.Opening.{answer_parts}
 use Rattle.session_file.specs.Staging as file
 use Rattle.session_file.proofs.Staged.{sound_open}
 use Rattle.session_file.specs.declared.rows.AnswerRow.{AnswerRow}
 use Rattle.session_states.specs.States.{FileState, KeepsState, file_state, last_of, text_of}
-use Rattle.sqlite_disk.specs.Disk.{MoreFaults}
 use Rattle.sqlite_trees.specs.Tree.{Trees}
 use Rattle.sqlite_trees.specs.View.{View}
+use Rattle.sqlite_trees.specs.declared.store.Store.{Ghosts}
 use Rattle.turns.specs.Pending.{IsMade, after_run_of, turn_of}
 use Rattle.turns.specs.declared.answer.Answer.{Answer}
 use Rattle.turns.specs.declared.answer.Answer.TheVariants as answer
@@ -21,7 +22,7 @@ use Rattle.turns.specs.declared.state.State.{State}
 use Rattle.durable_serving.specs.Durable.{HoldsState}
 use Rattle.durable_serving.specs.Keeping.{IsFoundBehind, IsKeptBy, Spares, Stages, next_state}
 
--- the state behind what was made
+-- the state after what was made
 pub made_after : (s : State) (p : Pending) (given : Answer) (after : State) → IsMade s p given after → after ≡ (turn_of s p).after
 made_after s (pending.Nothing told) given after is = is.1
 made_after s (pending.Program name image text) (answer.Failed failure) after is = absurd is.0
@@ -91,13 +92,19 @@ shut_failed settings old new failed f shut sound (k, keeps, is) closes broken =
     both : (b : Bool) → b ≡ false → b ≡ true → ⊥
     both b shown told = cc
 
--- it stays open from one call to the next, unless the disk failed
-pub open_on : (old mid new : View) (a b c : ℕ) → a ≤ b → b ≤ c → (IsTrue old.is_open → IsTrue mid.is_open ⊎ MoreFaults a b) → (IsTrue mid.is_open → IsTrue new.is_open ⊎ MoreFaults b c)
-    → IsTrue old.is_open → IsTrue new.is_open ⊎ MoreFaults a c
-open_on old mid new a b c up later first second was = elim (first was) [
-  | inl mid_open ↦ elim (second mid_open) [ inl still ↦ inl still | inr more ↦ inr (omega (arith, up, more)) ]
-  | inr more ↦ inr (omega (arith, later, more))
-]
+-- no failure is forgotten from one call to the next
+pub lasts_quiet : {S : Type 0} (g : Ghosts S) (old new : S) → Quiet g old new → file.Lasts g old new
+lasts_quiet g old new q = record { clean = q.clean; counts = q.counts; closes = q.closes }
+
+pub lasts_on : {S : Type 0} (g : Ghosts S) (old mid new : S) → file.Lasts g old mid → file.Lasts g mid new → file.Lasts g old new
+lasts_on g old mid new a b = record {
+  clean = omega (arith, a.clean, b.clean);
+  counts = omega (arith, a.counts, b.counts);
+  closes = λ clean was. elim (a.closes (omega (arith, b.clean, clean)) was) [
+    | inl still ↦ elim (b.closes clean still) [ inl now ↦ inl now | inr more ↦ inr (omega (arith, a.counts, more)) ]
+    | inr more ↦ inr (omega (arith, b.counts, more))
+  ];
+}
 
 -- ---- what a crash leaves
 

@@ -26,7 +26,7 @@ unloaded settings v disk k load.Damaged holds is = λ j other.
     (λ e. is.0 (sym same ∙ e), λ f keeps. is.1 f (subst (λ (x : Kept). KeepsState settings f x) same keeps))
 unloaded settings v disk k load.Memory holds is = tt
 
--- what was found stands in the trees that were opened
+-- what was found is in the trees that were opened
 pub holds_found : (old new : View) (k : Kept) → (old.is_open ≡ false → IsTrue old.is_broken) → IsFresh old → OnlyReads old new → IsKeeping new k → HoldsIn old.trees k
 holds_found old new k shut fresh reads is =
     let still : IsTrue new.is_open = subst (λ (w : View). IsTrue w.is_open) (sym reads) (sound_open old shut fresh.sound) in

@@ -100,7 +100,7 @@ file_turn_is : (settings : Settings) (f : FileState) (ask : Ask) → ask ≢ Las
 file_turn_is settings f Last other = absurd (other refl)
 file_turn_is settings f ask other = refl
 
--- the last answer behind what was pending
+-- the last answer after what was pending
 program_behind : (settings : Settings) (s : State) (last : Option (List ℕ × List ℕ)) (ask : Ask) (file : List ℕ) → ask ≡ Program file → last ≡ last_behind last ask (turn settings (bare s) ask)
 program_behind settings s last ask file is = subst (λ (a : Ask). last ≡ last_behind last a (turn settings (bare s) a)) (sym is) (sym (ap (λ (o : Option KeptAnswer). last_of o last) (program_last (bare s) file)))
 
@@ -209,7 +209,7 @@ module _ (settings : Settings) (s : State) (found : Option AnswerRow) (ask : Ask
   not_broken : (b : Bool) → b ≡ false → IsTrue b → ⊥
   not_broken b is t = cc
 
-  -- what is told of a failure has its cause
+  -- what is reported of a failure has its cause
   refused_for : (f : FileState) → Turned → (IsClean w → v.is_broken ≡ false) → (error : StoreError) → Caused error
       → MayRefuse settings (moment (over s last_now) v m) ask (fault_of_store error) (moment f w n)
   refused_for f is sound store.OutOfMemory cause = tt

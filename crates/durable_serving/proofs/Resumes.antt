@@ -1,4 +1,4 @@
--- What is found where a machine stopped.
+-- What is found after a machine stopped.
 use Rattle.std.proofs.Common.{◌≡◌, ℕ, List, [], ◌∷◌, Option, Some, None, inl, inr, sym, ap, subst, ◌∙◌}
 use Rattle.requests.specs.Requests.{Ask}
 use Rattle.session_file.specs.Kept.{Kept}

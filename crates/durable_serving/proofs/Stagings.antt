@@ -1,18 +1,25 @@
 -- What is pending, staged.
-use Rattle.std.proofs.Common.{◌≡◌, ◌≤◌, ℕ, List, length, Option, Some, None, Ok, refl, sym, ap, subst, ◌∙◌, arith}
+use Rattle.std.proofs.Common.{◌≡◌, ◌≤◌, ℕ, List, length, Option, Some, None, Result, Ok, OnErr, OnOk, inl, inr, refl, sym, ap, subst, ◌∙◌, arith}
+use Rattle.std.proofs.lemmas.Result.{IfErr-weaker, on_ok_weaker}
+use Rattle.std.specs.Prelude.{⊤}
 use Rattle.std.specs.Arc.{arc_value}
 use Rattle.std.specs.FinMap as fin
 use Rattle.sha2.specs.Sha256.{sha256}
 use Rattle.sha2.proofs.Facts256.{length-sha256}
+use Rattle.entry_tree.proofs.Causes.{later_cause, other_limit}
+use Rattle.entry_tree.proofs.Tries.{quiet_on}
 use Rattle.entry_tree.specs.Entries.{IsTooLong}
 use Rattle.elf32.specs.Image.{image_of}
 use Rattle.rv_ledger.specs.declared.rules.Rules.{Rules}
 use Rattle.session_file.specs.Kept.{Kept}
+use Rattle.session_file.specs.Limits.{HasSmallNumbers, IsLongAnswer}
 use Rattle.session_file.specs.Staging as staging
 use Rattle.session_file.specs.declared.rows.SessionRow.{SessionRow}
 use Rattle.session_states.proofs.Changes.{frame_counted, program_forgotten, program_put, session_begun}
 use Rattle.session_states.specs.States.{FileState, KeepsState, row_of, text_of}
 use Rattle.sqlite_trees.specs.View.{View}
+use Rattle.sqlite_trees.specs.declared.error.StoreError.{StoreError}
+use Rattle.sqlite_trees.specs.declared.store.Store.{Ghosts}
 use Rattle.turns.specs.Pending.{after_run_of, turn_of}
 use Rattle.turns.specs.declared.answer.Answer.{Answer}
 use Rattle.turns.specs.declared.pending.Pending.{Pending}
@@ -22,9 +29,9 @@ use Rattle.turns.specs.declared.pending.PendingFrame.{PendingFrame}
 use Rattle.turns.specs.declared.pending.PendingRun.{PendingRun}
 use Rattle.turns.specs.declared.settings.Settings.{Settings}
 use Rattle.turns.specs.declared.state.State.{State}
-use Rattle.durable_serving.specs.Keeping.{IsStorable, Spares, Stages, next_state, over}
+use Rattle.durable_serving.specs.Keeping.{IsBeyond, IsStorable, Spares, Stages, StagesRun, next_state, over}
 
--- a state behind a run has the programs of the one before
+-- a state after a run has the programs of the one before
 pub run_programs : (s : State) (run : Option PendingRun) → (after_run_of s run).programs ≡ s.programs
 run_programs s None = refl
 run_programs s (Some run) = refl
@@ -35,10 +42,6 @@ run_rules s t None e = e
 run_rules s t (Some run) e = refl
 
 module _ (settings : Settings) (s : State) (old : View) where
-  -- the storage that a run leaves
-  abbrev pub StagesRun : Option PendingRun → View → Type 0
-  StagesRun run mid = (t : State) → t.store ≡ s.store → staging.StagesWhere (λ next. next.storage ≡ s.store) (λ next. record next { storage = (after_run_of t run).store }) old mid
-
   -- what is given up leaves the file as it was
   pub spared : (new : View) → staging.GivesUp old new → Spares settings s old new
   spared new gives last k keeps is = gives k k is
@@ -65,7 +68,7 @@ module _ (settings : Settings) (s : State) (old : View) where
       → frame.digest ≡ Some digest
       → row ≡ row_of settings rules frame.height digest
       → ((t : State) → t.rules ≡ s.rules → rules ≡ (after_run_of t frame.run).rules)
-      → StagesRun frame.run one → staging.Stages (λ next. record next { session = Some row }) one two → staging.Stages (λ next. record next { answer = Some (text_of frame.answer) }) two new
+      → StagesRun s.store frame.run old one → staging.Stages (λ next. record next { session = Some row }) one two → staging.Stages (λ next. record next { answer = Some (text_of frame.answer) }) two new
       → Stages settings s (pending.Frame frame) old new
   staged_frame frame digest row rules one two new kept_digest is_row is_rules first second third last k keeps is =
       let f : FileState = over s last in
@@ -77,7 +80,7 @@ module _ (settings : Settings) (s : State) (old : View) where
         third k _ (second k _ (first f.state refl k k keeps.storage is)),
       )
 
-  -- a session that begins anew
+  -- a session that begins again
   pub staged_begin : (begin : PendingBegin) (digest : List ℕ) (row : SessionRow) (one two new : View)
       → begin.digest ≡ Some digest
       → row ≡ row_of settings begin.rules begin.height digest
@@ -93,11 +96,11 @@ module _ (settings : Settings) (s : State) (old : View) where
         third k _ (second k _ (first k k keeps.storage is)),
       )
 
-  -- nothing is staged where nothing is pending
+  -- nothing is staged if nothing is pending
   pub staged_nothing : (told : Answer) → Stages settings s (pending.Nothing told) old old
   staged_nothing told last k keeps is = (k, keeps, is)
 
-  -- the same, where that is what is pending
+  -- the same, if that is what is pending
   pub nothing_pending : (p : Pending) (told : Answer) → p ≡ pending.Nothing told → Stages settings s p old old
   nothing_pending p told is = subst (λ (q : Pending). Stages settings s q old old) (sym is) (staged_nothing told)
 
@@ -113,3 +116,58 @@ pub short_program : (name body : List ℕ) → sha256 body ≡ name → length b
 short_program name body is short long =
     let key : length name ≡ 32 = ap length (sym is) ∙ length-sha256 body in
     omega (arith, key, short, long)
+
+-- ---- one part after another
+
+-- a part that was staged, or refused, said for more than it
+pub staged_as : {S A : Type 0} (g : Ghosts S) {first second given left : View → View → Type 0} {met limit : Type 0} {old new : S} (r : Result A StoreError) → OnOk r (second (g.view old) (g.view new)) → OnErr r (left (g.view old) (g.view new)) → (met → limit)
+    → staging.StagesIn g first given met old new r → staging.StagesIn g second left limit old new r
+staged_as g {met = met} {limit = limit} {old = old} r ok err weaker t = record {
+  ok = ok;
+  still = t.still;
+  err = err;
+  cause = λ clean. IfErr-weaker r _ _ (λ e why. other_limit (g.view old) _ met limit e weaker why) (t.cause clean);
+  told = t.told;
+  quiet = t.quiet;
+}
+
+-- a part after one that was staged
+pub staged_after : {S A B : Type 0} (g : Ghosts S) {first given second left third spared : View → View → Type 0} {before met limit : Type 0} {old mid new : S} {x : A} (r : Result B StoreError)
+    → OnOk r (third (g.view old) (g.view new)) → OnErr r (spared (g.view old) (g.view new)) → (met → limit)
+    → staging.StagesIn g first given before old mid (Ok x) → staging.StagesIn g second left met mid new r → staging.StagesIn g third spared limit old new r
+staged_after g {met = met} {limit = limit} {old = old} {mid = mid} {new = new} r ok err weaker a b = record {
+  ok = ok;
+  still = on_ok_weaker r (λ is clean. is clean ∙ a.still (omega (arith, b.quiet.clean, clean))) b.still;
+  err = err;
+  cause = λ clean. IfErr-weaker r _ _ (λ e why. later_cause (g.view old) (g.view mid) _ _ _ met limit e a.quiet.counts (a.still (omega (arith, b.quiet.clean, clean))) weaker why) (b.cause clean);
+  told = b.told;
+  quiet = quiet_on g old mid new a.quiet b.quiet;
+}
+
+-- two parts that were staged
+pub staged_both : {S A B : Type 0} (g : Ghosts S) {first given second left : View → View → Type 0} {before met : Type 0} {old mid new : S} {x : A} {y : B}
+    → staging.StagesIn g first given before old mid (Ok x) → staging.StagesIn g second left met mid new (Ok y) → staging.StagesIn g (λ was now. ⊤) (λ was now. ⊤) met old new (Ok y)
+staged_both g {y = y} a b = staged_after g (Ok y) tt tt (λ limit. limit) a b
+
+-- the format has no row for a session of this digest
+no_row : (settings : Settings) (rules : Rules) (height : ℕ) (digest : Option (List ℕ)) (own : List ℕ) (row : SessionRow) → digest ≡ Some own → row ≡ row_of settings rules height own → ¬ HasSmallNumbers row
+    → (other : List ℕ) → digest ≡ Some other → ¬ HasSmallNumbers (row_of settings rules height other)
+no_row settings rules height digest own row is same not other also small =
+    let one : own ≡ other = cc in
+    not (subst HasSmallNumbers (ap (row_of settings rules height) (sym one) ∙ sym same) small)
+
+pub frame_beyond : (settings : Settings) (s : State) (frame : PendingFrame) (digest : List ℕ) (row : SessionRow) (rules : Rules) → frame.digest ≡ Some digest → row ≡ row_of settings rules frame.height digest
+    → ((t : State) → t.rules ≡ s.rules → rules ≡ (after_run_of t frame.run).rules) → ¬ HasSmallNumbers row → IsBeyond settings s (pending.Frame frame)
+frame_beyond settings s frame digest row rules is same is_rules not last =
+    let bare : State = (over s last).state in
+    inl (no_row settings (after_run_of bare frame.run).rules frame.height frame.digest digest row is (same ∙ ap (λ (r : Rules). row_of settings r frame.height digest) (is_rules bare refl)) not)
+
+pub begin_beyond : (settings : Settings) (s : State) (begin : PendingBegin) (digest : List ℕ) (row : SessionRow) → begin.digest ≡ Some digest → row ≡ row_of settings begin.rules begin.height digest
+    → ¬ HasSmallNumbers row → IsBeyond settings s (pending.Begin begin)
+begin_beyond settings s begin digest row is same not last = inl (no_row settings begin.rules begin.height begin.digest digest row is same not)
+
+one_answer : (a b : List ℕ × List ℕ) → Some a ≡ Some b → a ≡ b
+one_answer a b is = cc
+
+pub answer_beyond : (settings : Settings) (s : State) (frame : PendingFrame) → IsLongAnswer (text_of frame.answer) → IsBeyond settings s (pending.Frame frame)
+answer_beyond settings s frame long last = inr (λ answer is. subst IsLongAnswer (one_answer (text_of frame.answer) answer is) long)

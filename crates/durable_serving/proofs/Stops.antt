@@ -1,4 +1,4 @@
--- What a crash leaves where a session stops.
+-- What a crash leaves if a session stops.
 use Rattle.std.proofs.Common.{◌≡◌, ◌+◌, ℕ, List, [], ◌∷◌, ◌++◌, Option, Some, None, IfSome, inl, inr, refl, sym, ap, subst, ◌∙◌, append-nil}
 use Rattle.std.specs.Io.KnownBytes.{Appends}
 use Rattle.std.proofs.KnownBytes.{Appends-nil, Appends-trans}
@@ -87,7 +87,7 @@ module _ (settings : Settings) (old now : FileMoment) (before mid : Option (List
       known_some _ a c (known_then _ (Tells limit asked) (λ xs ys. IsStopped settings old xs before last recovers) a b c so read
       (λ xs ys zs s t. at_end fault next told last recovers (λ db found. leaves db ((took ys zs t).1 db found)) xs ys s (took ys zs t).0 tells))
 
-  -- how a session ends where its file is shut
+  -- how a session ends if its file is shut
   shut_end : (may_fail : Type 0) (fault : StoreFault) (next : FileMoment) (was recovers : Trees → Type 0) (xs ys zs : List ℕ) → Serving xs ys
       → (ask : Ask) × ComesFirst ask ys zs × IsShutBy settings now ask fault next × Leaves settings now.session ask was recovers
       → IsDurablyEndedBy may_fail settings (Store fault) old xs next before mid
@@ -128,7 +128,7 @@ module _ (settings : Settings) (old now : FileMoment) (before mid : Option (List
     λ db found. elim (crash db found) [ inl before ↦ inl (leaves db before) | inr next ↦ inr next ],
   )
 
-  -- where the file is shut
+  -- if the file is shut
   pub stopped_shut : (limit : ℕ) (asked : Asked) (was recovers : Trees → Type 0) (a b c : Option (List ℕ))
       → ((db : Trees) → was db → HoldsState settings now.session db) → WhereKnown a b Serving → WhereKnown b c (Tells limit asked)
       → ((xs ys : List ℕ) → Tells limit asked xs ys → (ask : Ask) × ComesFirst ask xs ys × Leaves settings now.session ask was recovers)
@@ -139,7 +139,7 @@ module _ (settings : Settings) (old now : FileMoment) (before mid : Option (List
       let (ask, comes, crash) = took ys zs t in
       in_request ask was recovers leaves crash xs ys zs s comes mid [] (Appends-nil mid) (inl refl)))
 
--- where a write failed in an answer: of that a proper part was written, or all
+-- if a write failed in an answer: of that a proper part was written, or all
 pub stopped_cut : (settings : Settings) (old now : FileMoment) (before mid : Option (List ℕ)) (count limit : ℕ) (asked : Asked) (next : FileMoment) (answer : List ℕ) (last : Option (List ℕ)) (was recovers : Trees → Type 0) (a b c : Option (List ℕ))
     → ((db : Trees) → was db → HoldsState settings now.session db) → ((db : Trees) → recovers db → HoldsState settings next.session db)
     → WhereKnown a b (IsServing (IsFileAnswer settings) old now before mid count) → WhereKnown b c (Tells limit asked)

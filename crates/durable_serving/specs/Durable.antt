@@ -34,7 +34,7 @@ abbrev pub last_text : Option (List ℕ × List ℕ) → List ℕ
 last_text None = answer_text (Refused NoFrame)
 last_text (Some answer) = answer.0 ++ answer.1
 
--- the last answer behind a turn: a frame that counts leaves its own, and a session that begins anew has none
+-- the last answer after a turn: a frame that counts leaves its own, and a session that begins again has none
 abbrev pub last_if_begun : Option (List ℕ × List ℕ) → Reply → Option (List ℕ × List ℕ)
 last_if_begun last (Refused refusal) = last
 last_if_begun last reply = None
@@ -43,7 +43,7 @@ abbrev pub last_behind : Option (List ℕ × List ℕ) → Ask → Turn → Opti
 last_behind last (Begin height digest bytes) t = last_if_begun last t.reply
 last_behind last ask t = last_of t.after.last last
 
--- a session over a file behind a turn of its state
+-- a session over a file after a turn of its state
 abbrev pub behind_turn : Option (List ℕ × List ℕ) → Ask → Turn → FileState
 behind_turn last ask t = record { state = record t.after { last = None }; last = last_behind last ask t }
 
@@ -52,11 +52,11 @@ abbrev pub file_turn : Settings → FileState → Ask → List ℕ × FileState
 file_turn settings f Last = (last_text f.last, f)
 file_turn settings f ask = (answer_text (turn settings f.state ask).reply, behind_turn f.last ask (turn settings f.state ask))
 
--- what is told of a change that the file did not take
+-- what is reported of a change that the file did not take
 abbrev pub failed_store : StoreFault → List ℕ
 failed_store fault = line_text (codes "failed ") (parts_of fault)
 
--- a request changes the file only where it hands in or gives back a program, is a frame that counts, or begins
+-- a request changes the file only if it hands in or gives back a program, is a frame that counts, or begins
 abbrev pub MayChange : Settings → FileState → Ask → Type 0
 MayChange settings f (Program file) = (refusal : Refusals) → (turn settings f.state (Program file)).reply ≢ Refused refusal
 MayChange settings f (Forget name) = (refusal : Refusals) → (turn settings f.state (Forget name)).reply ≢ Refused refusal
@@ -105,7 +105,7 @@ MayRefuse settings old ask fault new = ⊥
 
 -- ---- what is answered
 
--- a request was answered as wanted; or memory ran out where it may, or the file did not take the change, which is told, and all
+-- a request was answered as wanted; or memory ran out, as it may; or the file did not take the change, which is reported, and all
 -- is as it was
 abbrev pub IsFileReply : Settings → FileMoment → Ask → List ℕ → FileMoment → Type 0
 IsFileReply settings old ask text new =
@@ -139,7 +139,7 @@ IsPart settings fault now (ask ∷ asks) part = (part ≡ []) ⊎ ((text : List 
 
 -- Wherever a session stops: the first requests of its input were answered in whole, and of the next answer a proper part at most;
 -- and a crash leaves what the answered requests leave, or the next one too. So as soon as an answer is whole, a crash leaves the
--- session behind it.
+-- session after it.
 abbrev pub IsStopped : Settings → FileMoment → List ℕ → Option (List ℕ) → Option (List ℕ) → (Trees → Type 0) → Type 0
 IsStopped settings old bytes before now recovers =
     (heard : List Ask) × (rest : List Ask) × (text : List ℕ) × (mid : FileMoment) × (part : List ℕ)

@@ -22,11 +22,11 @@ use Rattle.durable_serving.specs.Durable.{HasNoRow}
 use Rattle.durable_serving.specs.declared.opening.SessionFault.{SessionFault}
 use Rattle.durable_serving.specs.declared.opening.SessionFault.TheVariants.{NotASession, OtherVersion, OtherSettings, Damaged, Store}
 
--- the session that trees hold, or a new one where they have no rows
+-- the session that trees hold, or a new one if they have no rows
 abbrev pub IsFoundIn : Settings → Trees → FileState → Type 0
 IsFoundIn settings db f = (k : Kept) × HoldsIn db k × (KeepsState settings f k ⊎ ((k ≡ nothing_kept) × (f ≡ new_state settings)))
 
--- when a refusal comes, where `disk` says that the disk failed meanwhile
+-- when a refusal comes, if `disk` says that the disk failed meanwhile
 abbrev pub IsUnopened : Settings → View → Type 0 → SessionFault → Type 0
 IsUnopened settings v disk NotASession = ¬ HasTrees v
 IsUnopened settings v disk OtherVersion = IsOfOtherVersion (v.trees session_tree)
@@ -34,7 +34,7 @@ IsUnopened settings v disk OtherSettings = (k : Kept) × HoldsIn v.trees k × ((
 IsUnopened settings v disk Damaged = (k : Kept) → HoldsIn v.trees k → (k ≢ nothing_kept) × ((f : FileState) → ¬ KeepsState settings f k)
 IsUnopened settings v disk (Store error) = HasCause v disk (HasNoRow settings (new_session settings)) error
 
--- what is told of it
+-- what is reported of it
 abbrev pub fault_of : SessionFault → StoreFault
 fault_of NotASession = told.NotASession
 fault_of OtherVersion = told.OtherVersion

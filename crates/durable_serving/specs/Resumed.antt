@@ -1,4 +1,4 @@
--- What an open finds where a machine stopped in a session.
+-- What an open finds after a machine stopped in a session.
 use Rattle.std.specs.Prelude.{◌≡◌, ◌⊎◌, ℕ, List, [], ◌∷◌, ◌++◌, Option}
 use Rattle.std.specs.Io.KnownBytes.{Appends}
 use Rattle.requests.specs.Requests.{Ask, requests_of}

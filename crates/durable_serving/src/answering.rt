@@ -23,17 +23,17 @@ use turns::{CallRunner, Settings};
 pub enum DurableFault {
     /// As a session without a file does.
     Session(ServeFault),
-    /// The file is shut: only another open mends it. The request that met this has no answer; the next session tells whether
+    /// The file is shut: only another open mends it. The request that met this has no answer; the next session shows whether
     /// it was kept.
     Store(StoreFault),
 }
 
 /// Answers each request of an input, as `serving::serve` does. What a request changes is on the disk before a byte of its answer is
-/// written. A change that the file did not take, where the file is open and as before, is answered `failed store`, and may be
+/// written. If the file did not take a change, and is open and as before, the answer is `failed store`, and the request may be
 /// given again.
 ///
 /// Wherever the session ends, a crash leaves what the requests that were answered in whole left, or the next one too. By the
-/// crash argument of the file's log the same holds where the machine stops at any moment of it.
+/// crash argument of the file's log the same holds if the machine stops at any moment of it.
 pub fn serve_durably<R: BufferedSource, S: Store, C: CallRunner, W: Destination>(
     alloc: Global,
     input: &mut R,

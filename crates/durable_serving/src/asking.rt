@@ -3,11 +3,9 @@
 ghost use Rattle.std.specs.Prelude.{◌≡◌, ◌≤◌, ℕ, List, false, IsTrue};
 ghost use Rattle.requests.specs.Reading.{Tells, ask_of};
 ghost use Rattle.requests.specs.Requests.{Ask, Is, request_of};
-ghost use Rattle.sqlite_trees.specs.View.{IsClean, doubt};
-ghost use Rattle.session_states.specs.States.{file_state};
+ghost use Rattle.sqlite_trees.specs.View.{doubt};
 ghost use Rattle.turns.specs.Pending.{IsDue, IsNewProgram, IsPending};
-ghost use Rattle.durable_serving.specs.Durable.{moment};
-ghost use Rattle.durable_serving.specs.Keeping.{IsAnsweredBy, IsByTurn, IsFileCourse, IsFoundAsked, IsKeptBy, IsReady, IsStorable, body_in, course_of};
+ghost use Rattle.durable_serving.specs.Keeping.{IsAnsweredBy, IsByTurn, IsCourseIn, IsFoundAsked, IsKeptIn, IsReady, IsUnbroken, IsStorable, body_in, course_of, moment_of};
 
 use crate::keeping::{KeepFault, keep};
 use crate::reply::FileReply;
@@ -43,12 +41,10 @@ pub(crate) fn take_asked<S: Store, C: CallRunner>(
     asked: Asked,
 ) -> FileCourse
     requires ready { C.ready }
-    requires kept { IsKeptBy settings (S.Store.view session.old.file) (file_state session.old.state session.old.found) }
-    requires sound { IsClean (S.Store.view session.old.file) → (S.Store.view session.old.file).is_broken ≡ false }
-    ensures says { (xs ys : List ℕ) → Tells settings.frame_limit asked xs ys
-        → IsFileCourse settings (moment (file_state session.old.state session.old.found) (S.Store.view session.old.file) (S.Store.faults session.old.file)) result session.new.state session.new.found (moment (file_state session.new.state session.new.found) (S.Store.view session.new.file) (S.Store.faults session.new.file))
-        (S.Store.recovers session.old.file) (S.Store.recovers session.new.file) xs ys }
-    ensures kept { IsKeptBy settings (S.Store.view session.new.file) (file_state session.new.state session.new.found) }
+    requires kept { IsKeptIn S.Store settings session.old }
+    requires sound { IsUnbroken S.Store session.old }
+    ensures says { (xs ys : List ℕ) → Tells settings.frame_limit asked xs ys → IsCourseIn S.Store settings session.old result session.new xs ys }
+    ensures kept { IsKeptIn S.Store settings session.new }
     ensures ready { IsReady session.new.found (S.Store.view session.new.file) result }
     ensures clean { doubt (S.Store.view session.old.file).is_clean ≤ doubt (S.Store.view session.new.file).is_clean }
 {
@@ -75,12 +71,10 @@ fn take_request<S: Store, C: CallRunner>(
     request: Request,
 ) -> FileCourse
     requires ready { C.ready }
-    requires kept { IsKeptBy settings (S.Store.view session.old.file) (file_state session.old.state session.old.found) }
-    requires sound { IsClean (S.Store.view session.old.file) → (S.Store.view session.old.file).is_broken ≡ false }
-    ensures says { (xs ys : List ℕ) → request_of xs ≡ Is (ask_of request) ys
-        → IsFileCourse settings (moment (file_state session.old.state session.old.found) (S.Store.view session.old.file) (S.Store.faults session.old.file)) result session.new.state session.new.found (moment (file_state session.new.state session.new.found) (S.Store.view session.new.file) (S.Store.faults session.new.file))
-        (S.Store.recovers session.old.file) (S.Store.recovers session.new.file) xs ys }
-    ensures kept { IsKeptBy settings (S.Store.view session.new.file) (file_state session.new.state session.new.found) }
+    requires kept { IsKeptIn S.Store settings session.old }
+    requires sound { IsUnbroken S.Store session.old }
+    ensures says { (xs ys : List ℕ) → request_of xs ≡ Is (ask_of request) ys → IsCourseIn S.Store settings session.old result session.new xs ys }
+    ensures kept { IsKeptIn S.Store settings session.new }
     ensures ready { IsReady session.new.found (S.Store.view session.new.file) result }
     ensures clean { doubt (S.Store.view session.old.file).is_clean ≤ doubt (S.Store.view session.new.file).is_clean }
 {
@@ -96,7 +90,7 @@ fn take_request<S: Store, C: CallRunner>(
     }
 }
 
-/// Whether a `last` is asked before the first frame of this run, where an answer was found.
+/// Whether a `last` is asked before the first frame of this run, and an answer was found.
 fn is_found_asked(request: &Request, state: &State, found: &Option<AnswerRow>) -> bool
     ensures yes { IsTrue result → IsFoundAsked (ask_of request.now) state.now found.now }
     ensures no { result ≡ false → IsByTurn (ask_of request.now) state.now found.now }
@@ -117,7 +111,7 @@ fn body_of(request: &Request) -> &[u8]
     }
 }
 
-/// Keeps what is pending of a request with these bytes behind its line.
+/// Keeps what is pending of a request with these bytes after its line.
 fn take_pending<S: Store>(
     alloc: Global,
     settings: Settings,
@@ -125,14 +119,13 @@ fn take_pending<S: Store>(
     body: &[u8],
     pending: Pending,
 ) -> FileCourse
-    requires kept { IsKeptBy settings (S.Store.view session.old.file) (file_state session.old.state session.old.found) }
-    requires sound { IsClean (S.Store.view session.old.file) → (S.Store.view session.old.file).is_broken ≡ false }
+    requires kept { IsKeptIn S.Store settings session.old }
+    requires sound { IsUnbroken S.Store session.old }
     requires new { IsNewProgram session.old.state pending }
     requires storable { IsStorable body.now pending }
     ensures says { (ask : Ask) → IsPending settings session.old.state ask pending → IsDue session.old.state ask pending → IsByTurn ask session.old.state session.old.found
-        → IsAnsweredBy settings (moment (file_state session.old.state session.old.found) (S.Store.view session.old.file) (S.Store.faults session.old.file)) ask result session.new.state session.new.found (moment (file_state session.new.state session.new.found) (S.Store.view session.new.file) (S.Store.faults session.new.file))
-        (S.Store.recovers session.old.file) (S.Store.recovers session.new.file) }
-    ensures kept { IsKeptBy settings (S.Store.view session.new.file) (file_state session.new.state session.new.found) }
+        → IsAnsweredBy settings (moment_of S.Store session.old) ask result session.new.state session.new.found (moment_of S.Store session.new) (S.Store.recovers session.old.file) (S.Store.recovers session.new.file) }
+    ensures kept { IsKeptIn S.Store settings session.new }
     ensures ready { IsReady session.new.found (S.Store.view session.new.file) result }
     ensures clean { doubt (S.Store.view session.old.file).is_clean ≤ doubt (S.Store.view session.new.file).is_clean }
 {

@@ -1,4 +1,4 @@
-//! Sessions whose storage, programs and last answer stand in a file: what a request changed is on the disk before a byte of its
+//! Sessions whose storage, programs and last answer are in a file: what a request changed is on the disk before a byte of its
 //! answer is written.
 #![tactic(auto)]
 

@@ -6,7 +6,7 @@ ghost use Rattle.sqlite_trees.specs.Tree.{Trees};
 ghost use Rattle.sqlite_trees.specs.View.{HasCause, IsClean, Tells, doubt};
 ghost use Rattle.session_file.specs.Kept.{HoldsIn};
 ghost use Rattle.session_file.specs.Opening.{IsFresh};
-ghost use Rattle.session_file.specs.Staging.{IsKeeping};
+ghost use Rattle.session_file.specs.Staging.{FailsFor, IsKeeping, Lasts};
 ghost use Rattle.session_states.specs.States.{file_state, new_state, nothing_kept};
 ghost use Rattle.turns.specs.Turn.{new_session};
 ghost use Rattle.durable_serving.specs.Durable.{HasNoRow, HoldsState};
@@ -31,14 +31,14 @@ pub enum SessionFault {
     OtherVersion,
     /// Its session has other settings.
     OtherSettings,
-    /// It has a row that is none of a session.
+    /// It has a row that is not one of a session.
     Damaged,
     /// The store failed, or memory ran out.
     Store(StoreError),
 }
 
 impl SessionFault {
-    /// The fault that is told of it.
+    /// The fault that is reported of it.
     pub fn fault(self) -> StoreFault
         ensures { result ≡ fault_of self }
     {
@@ -52,10 +52,10 @@ impl SessionFault {
     }
 }
 
-/// Opens a store that was just opened, or made with no rows, as a session of these settings, which keep a digest; a new session
-/// begins where it has no rows, and its row is on the disk before this returns. Refused as NotASession, OtherVersion,
-/// OtherSettings and Damaged by what the store has, and as Store where it fails, where the row of a new session is beyond the
-/// format, or where memory runs out; then it is given back.
+/// Opens a store that was just opened, or made with no rows, as a session of these settings, which keep a digest. If it has no
+/// rows, a new session begins, and its row is on the disk before this returns. Refused as NotASession, OtherVersion,
+/// OtherSettings and Damaged by what the store has. Refused as Store if the store fails, if the row of a new session is beyond
+/// the format, or if memory runs out. A refusal returns the store.
 pub fn open_durably<S: Store>(
     alloc: Global,
     settings: Settings,
@@ -123,10 +123,9 @@ fn begin_new<S: Store>(
 fn keep_new<S: Store>(file: &mut SessionFile<S>, settings: Settings) -> Result<(), StoreError>
     ensures ok { OnOk result (IsKeeping (S.Store.view file.old) nothing_kept → IsKeeping (S.Store.view file.new) (new_kept settings)) }
     ensures sound { OnOk result (IsClean (S.Store.view file.new) → (S.Store.view file.new).is_broken ≡ false) }
-    ensures cause { IsClean (S.Store.view file.new) → IfErr result (HasCause (S.Store.view file.old) (MoreFaults (S.Store.faults file.old) (S.Store.faults file.new)) (HasNoRow settings (new_session settings))) }
-    ensures told { IfErr result (Tells (S.Store.blamed file.new)) }
+    ensures fails { FailsFor S.Store (HasNoRow settings (new_session settings)) file.old file.new result }
+    ensures lasts { Lasts S.Store file.old file.new }
     ensures crash { IsKeeping (S.Store.view file.old) nothing_kept → (db : Trees) → S.Store.recovers file.new db → S.Store.recovers file.old db ⊎ HoldsIn db (new_kept settings) }
-    ensures clean { doubt (S.Store.view file.old).is_clean ≤ doubt (S.Store.view file.new).is_clean }
 {
     match file.stage_session(row_of(settings, Rules::One, 0, [0; 32])) {
         Ok(()) => {}
@@ -135,7 +134,7 @@ fn keep_new<S: Store>(file: &mut SessionFile<S>, settings: Settings) -> Result<(
     file.commit()
 }
 
-/// The fault of rows that are none of a session.
+/// The fault of rows that are not those of a session.
 fn fault_of_open(fault: OpenFault) -> SessionFault
     ensures { result ≡ fault_of_open fault }
 {
@@ -147,7 +146,7 @@ fn fault_of_open(fault: OpenFault) -> SessionFault
     }
 }
 
-/// The fault of rows that are no state of a session.
+/// The fault of rows that are not a state of a session.
 fn fault_of_load(fault: LoadFault) -> SessionFault
     ensures { result ≡ fault_of_load fault }
 {

@@ -21,7 +21,7 @@ pub(crate) enum FileReply {
     Failed(StoreFault),
 }
 
-/// Writes an answer in the session that it leaves, and flushes it. Refused where a write failed: a beginning of the answer was written.
+/// Writes an answer in the session that it leaves, and flushes it. Refused if a write failed; a beginning of the answer was written.
 pub(crate) fn write_reply<S: Store, W: Destination>(
     session: &FileSession<S>,
     reply: FileReply,

@@ -11,6 +11,6 @@ pub struct FileSession<S: Store> {
     pub file: SessionFile<S>,
     /// The state in memory.
     pub state: State,
-    /// The last answer that was found in the file. It counts until a frame counts or the session begins anew.
+    /// The last answer that was found in the file. It counts until a frame counts or the session begins again.
     pub found: Option<AnswerRow>,
 }

@@ -1,18 +1,16 @@
 //! Staging what is pending.
 
-ghost use Rattle.std.specs.Prelude.{◌≡◌, ℕ, List, Option, IsSome, IfErr, OnErr, OnOk, map};
+ghost use Rattle.std.specs.Prelude.{◌≡◌, ℕ, List, Option, IsSome, map};
 ghost use Rattle.overlay.specs.Overlay.{Changes};
 ghost use Rattle.rv_ledger.specs.Key.{Storage};
-ghost use Rattle.sqlite_disk.specs.Disk.{MoreFaults};
-ghost use Rattle.sqlite_trees.specs.View.{HasCause, IsClean, IsQuiet};
 ghost use Rattle.session_file.specs.Kept.{Kept};
 ghost use Rattle.session_file.specs.Limits.{IsLongAnswer};
-ghost use Rattle.session_file.specs.Staging.{GivesUp, Stages as StagesAll, StagesWhere};
+ghost use Rattle.session_file.specs.Staging.{GivesUp, Stages as StagesAll, StagesIn};
 ghost use Rattle.session_states.specs.States.{text_of};
 ghost use Rattle.turns.specs.Pending.{after_run_of};
 ghost use Rattle.turns.specs.Stages.{left_of};
 ghost use Rattle.turns.specs.declared.pending.Pending.TheVariants as pending;
-ghost use Rattle.durable_serving.specs.Keeping.{IsBeyond, IsStorable, Spares, Stages};
+ghost use Rattle.durable_serving.specs.Keeping.{IsStorable, StagesPending, StagesRun};
 
 use rv_ledger::Rules;
 use session_file::SessionFile;
@@ -24,7 +22,7 @@ use turns::{
     bytes_of_kept, line_of_kept,
 };
 
-/// Stages what is pending of a request with these bytes behind its line. Refused where the store fails; then nothing is staged.
+/// Stages what is pending of a request with these bytes after its line. Refused if the store fails. Then nothing is staged.
 pub(crate) fn stage<S: Store>(
     file: &mut SessionFile<S>,
     settings: Settings,
@@ -33,11 +31,7 @@ pub(crate) fn stage<S: Store>(
     pending: &Pending,
 ) -> Result<(), StoreError>
     requires { IsStorable body.now pending.now }
-    ensures ok { OnOk result (Stages settings state.now pending.now (S.Store.view file.old) (S.Store.view file.new)) }
-    ensures err { OnErr result (Spares settings state.now (S.Store.view file.old) (S.Store.view file.new)) }
-    ensures still { OnOk result (IsClean (S.Store.view file.new) → (S.Store.view file.new).is_broken ≡ (S.Store.view file.old).is_broken) }
-    ensures cause { IsClean (S.Store.view file.new) → IfErr result (HasCause (S.Store.view file.old) (MoreFaults (S.Store.faults file.old) (S.Store.faults file.new)) (IsBeyond settings state.now pending.now)) }
-    ensures quiet { IsQuiet S.Store.view S.Store.faults S.Store.recovers S.Store.is_shielded file.old file.new }
+    ensures { StagesPending S.Store settings state.now pending.now file.old file.new result }
 {
     match pending {
         Pending::Nothing(_) => Ok(()),
@@ -55,11 +49,7 @@ fn stage_frame<S: Store>(
     state: &State,
     frame: &PendingFrame,
 ) -> Result<(), StoreError>
-    ensures ok { OnOk result (Stages settings state.now (pending.Frame frame.now) (S.Store.view file.old) (S.Store.view file.new)) }
-    ensures err { OnErr result (Spares settings state.now (S.Store.view file.old) (S.Store.view file.new)) }
-    ensures still { OnOk result (IsClean (S.Store.view file.new) → (S.Store.view file.new).is_broken ≡ (S.Store.view file.old).is_broken) }
-    ensures cause { IsClean (S.Store.view file.new) → IfErr result (HasCause (S.Store.view file.old) (MoreFaults (S.Store.faults file.old) (S.Store.faults file.new)) (IsBeyond settings state.now (pending.Frame frame.now))) }
-    ensures quiet { IsQuiet S.Store.view S.Store.faults S.Store.recovers S.Store.is_shielded file.old file.new }
+    ensures { StagesPending S.Store settings state.now (pending.Frame frame.now) file.old file.new result }
 {
     let Some(digest) = frame.digest else {
         return Err(StoreError::Unstorable);
@@ -78,17 +68,13 @@ fn stage_frame<S: Store>(
 
 /// Stages the answer that is kept of a frame.
 fn stage_kept<S: Store>(file: &mut SessionFile<S>, kept: &KeptAnswer) -> Result<(), StoreError>
-    ensures ok { OnOk result (StagesAll (λ next. record next { answer = Some (text_of kept.now) }) (S.Store.view file.old) (S.Store.view file.new)) }
-    ensures err { OnErr result (GivesUp (S.Store.view file.old) (S.Store.view file.new)) }
-    ensures still { OnOk result (IsClean (S.Store.view file.new) → (S.Store.view file.new).is_broken ≡ (S.Store.view file.old).is_broken) }
-    ensures cause { IsClean (S.Store.view file.new) → IfErr result (HasCause (S.Store.view file.old) (MoreFaults (S.Store.faults file.old) (S.Store.faults file.new)) (IsLongAnswer (text_of kept.now))) }
-    ensures quiet { IsQuiet S.Store.view S.Store.faults S.Store.recovers S.Store.is_shielded file.old file.new }
+    ensures { StagesIn S.Store (StagesAll (λ next. record next { answer = Some (text_of kept.now) })) GivesUp (IsLongAnswer (text_of kept.now)) file.old file.new result }
 {
     let line = line_of_kept(kept);
     file.stage_answer(line.as_str().as_bytes(), bytes_of_kept(kept))
 }
 
-/// The rules behind a frame.
+/// The rules after a frame.
 fn rules_behind(rules: Rules, run: &Option<PendingRun>) -> Rules
     ensures { (s : State) → s.rules ≡ rules → result ≡ (after_run_of s run.now).rules }
 {
@@ -104,11 +90,7 @@ fn stage_run<S: Store>(
     base: &rv_ledger::Store,
     run: &Option<PendingRun>,
 ) -> Result<(), StoreError>
-    ensures ok { OnOk result ((s : State) → s.store ≡ base.now → StagesWhere (λ next. next.storage ≡ base.now) (λ next. record next { storage = (after_run_of s run.now).store }) (S.Store.view file.old) (S.Store.view file.new)) }
-    ensures err { OnErr result (GivesUp (S.Store.view file.old) (S.Store.view file.new)) }
-    ensures still { OnOk result (IsClean (S.Store.view file.new) → (S.Store.view file.new).is_broken ≡ (S.Store.view file.old).is_broken) }
-    ensures cause { IsClean (S.Store.view file.new) → IfErr result (HasCause (S.Store.view file.old) (MoreFaults (S.Store.faults file.old) (S.Store.faults file.new)) ⊥) }
-    ensures quiet { IsQuiet S.Store.view S.Store.faults S.Store.recovers S.Store.is_shielded file.old file.new }
+    ensures { StagesIn S.Store (StagesRun base.now run.now) GivesUp ⊥ file.old file.new result }
 {
     let Some(run) = run else {
         return Ok(());
@@ -119,18 +101,14 @@ fn stage_run<S: Store>(
     }
 }
 
-/// Stages a session that begins anew. A session over a file keeps a digest.
+/// Stages a session that begins again. A session over a file keeps a digest.
 fn stage_begin<S: Store>(
     file: &mut SessionFile<S>,
     settings: Settings,
     state: &State,
     begin: &PendingBegin,
 ) -> Result<(), StoreError>
-    ensures ok { OnOk result (Stages settings state.now (pending.Begin begin.now) (S.Store.view file.old) (S.Store.view file.new)) }
-    ensures err { OnErr result (Spares settings state.now (S.Store.view file.old) (S.Store.view file.new)) }
-    ensures still { OnOk result (IsClean (S.Store.view file.new) → (S.Store.view file.new).is_broken ≡ (S.Store.view file.old).is_broken) }
-    ensures cause { IsClean (S.Store.view file.new) → IfErr result (HasCause (S.Store.view file.old) (MoreFaults (S.Store.faults file.old) (S.Store.faults file.new)) (IsBeyond settings state.now (pending.Begin begin.now))) }
-    ensures quiet { IsQuiet S.Store.view S.Store.faults S.Store.recovers S.Store.is_shielded file.old file.new }
+    ensures { StagesPending S.Store settings state.now (pending.Begin begin.now) file.old file.new result }
 {
     let Some(digest) = begin.digest else {
         return Err(StoreError::Unstorable);

@@ -10,9 +10,9 @@ pub returns-in-Err-load_state-clause-refused : goal.returns-in-Err-load_state-cl
 returns-in-Err-load_state-clause-refused g c clean =
     let v = g.S.Store.view in
     let now : IsClean (v c.in-Ok.opened.0) = subst (λ s. IsClean (v s)) c.into_store.ensures.store clean in
-    let first : IsClean (v c.args.store) = omega (arith, now, c.in-Ok.ensures.quiet.clean) in
+    let first : IsClean (v c.args.store) = omega (arith, now, c.in-Ok.ensures.read.quiet.clean) in
     rw c.fault_of_load.ensures (unloaded c.args.settings (v c.args.store) _ (kept_of c.in-Ok.opened.1) c.in-Err-load_state.fault
-    (holds_found (v c.args.store) (v c.in-Ok.opened.0) (kept_of c.in-Ok.opened.1) (g.met.S.Store.broken_if_shut c.args.store) (c.requires.fresh first) (c.in-Ok.ensures.same now) c.in-Ok.ensures.ok)
+    (holds_found (v c.args.store) (v c.in-Ok.opened.0) (kept_of c.in-Ok.opened.1) (g.met.S.Store.broken_if_shut c.args.store) (c.requires.fresh first) (c.in-Ok.ensures.read.same now) c.in-Ok.ensures.ok)
     c.in-Err-load_state.ensures.err)
 
 pub returns-then-loaded-clause-opened : goal.returns-then-loaded-clause-opened
@@ -20,9 +20,9 @@ returns-then-loaded-clause-opened g c =
     let v = g.S.Store.view in
     ok_both c.begin_new.result (λ s new later clean.
     let now : IsClean (v c.in-Ok.opened.0) = omega (arith, later, clean) in
-    let first : IsClean (v c.args.store) = omega (arith, now, c.in-Ok.ensures.quiet.clean) in (
+    let first : IsClean (v c.args.store) = omega (arith, now, c.in-Ok.ensures.read.quiet.clean) in (
       kept_of c.in-Ok.opened.1,
-      holds_found (v c.args.store) (v c.in-Ok.opened.0) (kept_of c.in-Ok.opened.1) (g.met.S.Store.broken_if_shut c.args.store) (c.requires.fresh first) (c.in-Ok.ensures.same now) c.in-Ok.ensures.ok,
+      holds_found (v c.args.store) (v c.in-Ok.opened.0) (kept_of c.in-Ok.opened.1) (g.met.S.Store.broken_if_shut c.args.store) (c.requires.fresh first) (c.in-Ok.ensures.read.same now) c.in-Ok.ensures.ok,
       inr ((loads_new c.args.settings (kept_of c.in-Ok.opened.1) c.in-Ok-load_state.loaded c.in-Ok-load_state.ensures.ok c.if-loaded.true).0, new),
     ))
     c.begin_new.ensures.new c.begin_new.ensures.clean
@@ -34,9 +34,9 @@ returns-clause-kept g c =
 pub returns-clause-opened : goal.returns-clause-opened
 returns-clause-opened g c now =
     let v = g.S.Store.view in
-    let first : IsClean (v c.args.store) = omega (arith, now, c.in-Ok.ensures.quiet.clean) in (
+    let first : IsClean (v c.args.store) = omega (arith, now, c.in-Ok.ensures.read.quiet.clean) in (
       kept_of c.in-Ok.opened.1,
-      holds_found (v c.args.store) (v c.in-Ok.opened.0) (kept_of c.in-Ok.opened.1) (g.met.S.Store.broken_if_shut c.args.store) (c.requires.fresh first) (c.in-Ok.ensures.same now) c.in-Ok.ensures.ok,
+      holds_found (v c.args.store) (v c.in-Ok.opened.0) (kept_of c.in-Ok.opened.1) (g.met.S.Store.broken_if_shut c.args.store) (c.requires.fresh first) (c.in-Ok.ensures.read.same now) c.in-Ok.ensures.ok,
       inl (loads_kept c.args.settings (kept_of c.in-Ok.opened.1) c.in-Ok-load_state.loaded c.in-Ok-load_state.ensures.ok c.if-loaded.false),
     )
 
@@ -45,5 +45,5 @@ returns-then-loaded-clause-refused g c =
     let v = g.S.Store.view in
     IfErr-weaker c.begin_new.result _ _ (λ e (error, is, later, why) clean.
     let now : IsClean (v c.in-Ok.opened.0) = omega (arith, later, clean) in
-    rw is (later_cause (v c.args.store) (v c.in-Ok.opened.0) _ _ _ _ _ error c.in-Ok.ensures.quiet.counts (ap (λ (w : View). w.is_broken) (c.in-Ok.ensures.same now)) (λ none. none) (why clean)))
+    rw is (later_cause (v c.args.store) (v c.in-Ok.opened.0) _ _ _ _ _ error c.in-Ok.ensures.read.quiet.counts (ap (λ (w : View). w.is_broken) (c.in-Ok.ensures.read.same now)) (λ none. none) (why clean)))
     c.begin_new.ensures.refused
