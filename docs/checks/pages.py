@@ -1,9 +1,9 @@
 """What pages name: calls with clauses, files, numbers of lines, and commands. Each has to be there.
 
 A call is named in backquotes as `crate::name`, or `crate::Type::name` if it belongs to a type, with clauses of it after it:
-`crate::name` (`clause`, `clause`), or (proved: `crate::name`, `clause`). A file is named in backquotes with its ending or its folder,
-or in a block of code as a command or its argument. It is looked for at the top, in crates/, docs/, sdk/, bench/, tests/, in each
-folder of examples/, and beside the page.
+`crate::name` (`clause`, `clause`), (`crate::name`, `clause`), or (proved: `crate::name`, `clause`). A file is named in backquotes
+with its ending or its folder, or in a block of code as a command or its argument. It is looked for at the top, in crates/, docs/,
+sdk/, bench/, tests/, in each folder of examples/, and beside the page.
 """
 
 import argparse
@@ -18,7 +18,7 @@ from rvstm_tools import commandline
 from rvstm_tools.errors import UserError
 
 CALL = re.compile(r"`(\w+(?:::\w+)+)`(?:\s+\(((?:`\w+`[,;]?\s*)+)\))?")
-PROVED = re.compile(r"\(proved: ([^()]*(?:\([^()]*\)[^()]*)*)\)")
+PROVED = re.compile(r"\((?:proved: |(?=`\w+::))([^()]*(?:\([^()]*\)[^()]*)*)\)")
 QUOTED = re.compile(r"`([\w:]+)`")
 ENDINGS = "antt|rt|md|c|s|S|h|ld|elf|block|schedule|expect|txt|rs|edit|list|py|functions"
 FILE = re.compile(rf"`([\w.*-]+(?:/[\w.*-]+)*\.(?:{ENDINGS})|[\w.*-]+(?:/[\w.*-]+)+/?)`")

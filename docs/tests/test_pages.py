@@ -10,6 +10,7 @@ RIGHT = """\
 
 A [guide](guide.md#two--words-here), [again](guide.md#twice-1), [here](#guide), [there](https://example.org/x#y).
 `high::quadrupled` (`value`, `boxed`) and (proved: `low::Boxed::doubled`, `even`; `high::quadrupled`, `value`).
+It is doubled (`low::Boxed::doubled`, `even`, over any box).
 `low/specs/Number.antt`, `counter.block`, `crates/rvstm/out/rvstm`, `rvstm-tools preview`, `docs/check --calls low`.
 `docs/check --reading high::quadrupled value` lists 16 lines in 2 files.
 
@@ -24,7 +25,8 @@ A [guide](guide.md#two--words-here), [again](guide.md#twice-1), [here](#guide), 
 """
 WRONG = {
     ("`value`, `boxed`", "`value`, `sum`"): "high::quadrupled has no clause sum",
-    ("`even`", "`odd`"): "low::Boxed::doubled has no clause odd",
+    ("`even`;", "`odd`;"): "low::Boxed::doubled has no clause odd",
+    ("`even`, over", "`odd`, over"): "low::Boxed::doubled has no clause odd",
     ("(proved: `low::Boxed::doubled`", "(proved: `low::Boxed::halved`"): "there is no public low::Boxed::halved",
     ("`low/specs/Number.antt`, `counter", "`low/specs/Numbers.antt`, `counter"): "there is no low/specs/Numbers.antt",
     ("`counter.block`", "`count.block`"): "there is no count.block",
