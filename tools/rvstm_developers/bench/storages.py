@@ -4,15 +4,12 @@ import random
 import statistics
 import tempfile
 from collections.abc import Callable, Mapping, Sequence
-from dataclasses import dataclass
 from pathlib import Path
 
 from rvstm_developers import options, texts
 from rvstm_developers.bench import blocks, processes, tables
 from rvstm_developers.texts import word
-from rvstm_tools.errors import UserError
 from rvstm_tools.options import Command, argument
-from rvstm_tools.programs import finding
 from rvstm_tools.sessions import frames, requests
 from rvstm_tools.sessions.processes import Session, Settings
 from rvstm_tools.sessions.requests import Request, Word
@@ -30,9 +27,8 @@ ODD = 0x9E3779B97F4A7C15  # spreads the sums of the groups
 SOURCES = ("transfer", "put", "remove")
 ACTS = ("transfers", "writes", "removals", "dump", "begin")
 SHOWN_ACTS = ("transfers", "writes", "removals", "begin", "dump")
-PROGRAM_NAMES = ("now", "before")
 COLUMNS = (
-    "keys are", "keys", "program", "a block of transfers, ms", f"times that over {COMPARED:,}", "transfers", "200 keys written",
+    "keys are", "keys", "a block of transfers, ms", f"times that over {COMPARED:,}", "transfers", "200 keys written",
     "200 keys removed", "`begin`", "`dump`", "bytes a key",
 )
 
@@ -68,7 +64,7 @@ def frame(name: str, calls: Sequence[bytes]) -> Request:
 
 class Measured:
     def __init__(self, rvstm: Path, files: Mapping[str, bytes], key: KeyOf, keys: int) -> None:
-        self.session = Session(rvstm, Settings(FRAME_LIMIT))
+        self.session, self.keys = Session(rvstm, Settings(FRAME_LIMIT)), keys
         names = {source: frames.name_of(file) for source, file in files.items()}
         for file in files.values():
             processes.answered(self.session, Request(Word.PROGRAM, (), file))
@@ -88,17 +84,15 @@ class Measured:
         self.times["begin"].clear()
         self.memory = processes.resident(self.session.process.pid)
 
-    def timed(self, act: str) -> bytes:
-        """Makes an act once. Returns the digest of the answers."""
+    def timed(self, act: str) -> None:
         found = [processes.answered(self.session, request) for request in self.acts[act]]
         self.times[act].append(sum(one.processor for one in found) / len(found))
-        return hashlib.sha256(b"".join(one.body for one in found)).digest()
 
-    def add_round(self) -> tuple[bytes, ...]:
-        return tuple(self.timed(act) for act in ACTS)
-
-    def median(self, act: str) -> float:
-        return statistics.median(self.times[act])
+    def row(self, kind: str, least: "Measured") -> list[str]:
+        share = f"{(self.memory - least.memory) / (self.keys - COMPARED):.1f}" if self.keys > COMPARED else "-"
+        ratio = tables.ratio(self.times["transfers"], least.times["transfers"])
+        times = (f"{tables.middle(self.times[act], '.3f')} ms" for act in SHOWN_ACTS)
+        return [kind, f"{self.keys:,}", tables.middle(self.times["transfers"], ".3f"), f"{ratio:.3f}", *times, share]
 
 
 def grown(rvstm: Path, files: Mapping[str, bytes], keys: int) -> str:
@@ -116,69 +110,42 @@ def grown(rvstm: Path, files: Mapping[str, bytes], keys: int) -> str:
     return f"{share:.1f} bytes a key, a block {statistics.median(times):.1f} ms in the middle and {max(times):.1f} at most"
 
 
-@dataclass(frozen=True)
-class Kind:
-    name: str
-    measured: dict[int, list[Measured]]
-
-    def add_round(self) -> None:
-        for keys, sessions in self.measured.items():
-            if len({one.add_round() for one in sessions}) != 1:
-                raise UserError(f"{self.name}, {keys:,} keys: the two programs answer otherwise")
-
-    def cells(self, keys: int, which: int) -> list[str]:
-        sessions, least = self.measured[keys], self.measured[COMPARED][which]
-        one = sessions[which]
-        share = f"{(one.memory - least.memory) / (keys - COMPARED):.1f}" if keys > COMPARED else "-"
-        ratio = tables.ratio(one.times["transfers"], least.times["transfers"])
-        cells = [self.name, f"{keys:,}", PROGRAM_NAMES[which], f"{one.median('transfers'):.3f}", f"{ratio:.3f}"]
-        for act in SHOWN_ACTS:
-            is_compared = which == 0 and len(sessions) == 2
-            cells.append(f"{tables.ratio(one.times[act], sessions[1].times[act]):.3f}" if is_compared else f"{one.median(act):.3f} ms")
-        return [*cells, share]
-
-
-def print_kind(programs: Sequence[Path], files: Mapping[str, bytes], name: str, sizes: Sequence[int], rounds: int) -> None:
-    kind = Kind(name, {keys: [Measured(rvstm, files, KINDS[name], keys) for rvstm in programs] for keys in sizes})
+def print_kind(rvstm: Path, files: Mapping[str, bytes], kind: str, sizes: Sequence[int], rounds: int) -> None:
+    measured = [Measured(rvstm, files, KINDS[kind], keys) for keys in sizes]
     for _ in range(rounds):
-        kind.add_round()
-    for keys in sizes:
-        for which in range(len(programs)):
-            tables.print_row(kind.cells(keys, which))
-    for sessions in kind.measured.values():
-        for one in sessions:
-            one.session.kill()
+        for one in measured:
+            for act in ACTS:
+                one.timed(act)
+    for one in measured:
+        tables.print_row(one.row(kind, measured[0]))
+        one.session.kill()
 
 
 def run(given: argparse.Namespace) -> int:
-    programs = [path for path in (given.rvstm, given.before) if path]
     sizes = [keys for keys in SIZES if keys <= max(given.most, COMPARED)]
     with tempfile.TemporaryDirectory() as place:
-        files = {source: blocks.assemble(programs[0], Path(place), source).read_bytes() for source in SOURCES}
+        files = {source: blocks.assemble(given.rvstm, Path(place), source).read_bytes() for source in SOURCES}
     tables.print_head(COLUMNS)
     for kind in KINDS if given.rounds else ():
-        print_kind(programs, files, kind, sizes, given.rounds)
-    for name, rvstm in zip(PROGRAM_NAMES, programs):
-        print(f"grown by blocks to {given.grown:,} keys, {name}: {grown(rvstm, files, given.grown)}", flush=True)
+        print_kind(given.rvstm, files, kind, sizes, given.rounds)
+    print(f"grown by blocks to {given.grown:,} keys: {grown(given.rvstm, files, given.grown)}")
     return 0
 
 
 COMMAND = Command(
     "storages",
-    "Times blocks with `rvstm chain` over storages of four kinds of keys, with one program or two beside each other.",
+    "Times blocks with `rvstm chain` over storages of four kinds of keys.",
     """
 A key is a small number after zeros; or a SHA-256; or one of sixteen that have one hash, so that the hints of where keys are serve half of
 them at most. A block has 200 calls: transfers between accounts that are there, writes of 200 keys that are not, and then removals of
-these. What counts is the processor time of the session, the median over rounds: in each round all sizes and both programs come in turn,
-and a ratio is the median of the ratios within a round. `begin` with all keys and `dump` are timed too. The share of a key is of what the
+these. What counts is the processor time of the session, the median over rounds: in each round all sizes come in turn, and a ratio is the
+median of the ratios within a round. `begin` with all keys and `dump` are timed too. The share of a key is of what the
 process has in memory more than over 1,000 keys. Last a storage grows by blocks of 1,000 new keys: its bytes a key, and the longest block.
-Both programs have to answer alike.
 """,
     "crates/rvstm/out/rvstm --most 1000 --rounds 3 --grown 10000",
     run,
     (
         options.RVSTM,
-        argument("before", nargs="?", metavar="BEFORE", type=finding.absolute, help="another program, which is timed beside it"),
         argument("--most", type=int, default=SIZES[-1], metavar="KEYS", help="leaves storages with more keys out"),
         argument("--rounds", type=int, default=ROUNDS, metavar="N", help=f"so many rounds ({ROUNDS})"),
         argument("--grown", type=int, default=SIZES[-1], metavar="KEYS", help="how far the last storage grows"),
