@@ -11,6 +11,7 @@ from rvstm_developers import texts
 from rvstm_developers.machine_code import EXECUTE, PAGE, READ, WRITE, Part, elf_of
 from rvstm_developers.models import waits
 from rvstm_developers.texts import word
+from rvstm_tools.exploring.storages import changed_value
 from rvstm_tools.models import charges
 from rvstm_tools.models.charges import StorageCall
 from rvstm_tools.texts import blocks
@@ -208,7 +209,7 @@ class Call:
         change = self.changes.get(key)
         if change is None or isinstance(change, Added):
             self.keys.append(key)
-        value = value_after(self.store.get(key), change)
+        value = self.store.get(key) if change is None else changed_value(self.store.get(key), change)
         copied = 0 if value is None or len(value) > capacity else len(value)
         if self.rules > 1 and not self.charge(copied):
             return False
@@ -221,7 +222,9 @@ class Call:
         """What an ADD makes of the call's own change at a key."""
         if change is None or isinstance(change, Added):
             return Added(((change.amount if change else 0) + amount) % 2**64)
-        return Written(laid(value_after(None, change), amount))
+        value = changed_value(changed_value(None, change), Added(amount))
+        assert value is not None
+        return Written(value)
 
     def bytes(self, address: int, length: int) -> bytes:
         return bytes(self.memory[address - TEXT : address - TEXT + length])
@@ -230,25 +233,6 @@ class Call:
         assert self.end is not None
         changes = dict(sorted(self.changes.items())) if self.end is End.RETURNED else {}
         return Receipt(number, self.end, self.limit - self.left, self.pc, self.output, tuple(self.registers), changes)
-
-
-def laid(value: bytes | None, amount: int) -> bytes:
-    """A value with an amount added: one of eight bytes is a number, and all else is zero."""
-    number = int.from_bytes(value, "little") if value is not None and len(value) == 8 else 0
-    return word((number + amount) % 2**64, 8)
-
-
-def value_after(value: bytes | None, change: Change | None) -> bytes | None:
-    """The value of a key after a change; None if it has none."""
-    match change:
-        case None:
-            return value
-        case Written(written):
-            return written
-        case Added(amount):
-            return laid(value, amount)
-        case Removed():
-            return None
 
 
 def field_of(change: Change) -> str:
@@ -295,7 +279,7 @@ class Block:
 
     def lay(self, changes: Mapping[Key, Change]) -> None:
         for key, change in changes.items():
-            value = value_after(self.left.get(key), change)
+            value = changed_value(self.left.get(key), change)
             if value is None:
                 self.left.pop(key, None)
             else:
