@@ -11,8 +11,8 @@ from rvstm_developers.drawing import programs, sessions
 from rvstm_developers.embedded_library import CLOSE, LETTERS, OPEN, OPEN_WITH, Called, Library, Status
 from rvstm_developers.texts import TOP
 from rvstm_tools.errors import UserError
-from rvstm_tools.options import Command
 from rvstm_tools.models.sessions import HIGHEST
+from rvstm_tools.options import Command
 from rvstm_tools.programs.pipes import Ended
 from rvstm_tools.sessions import requests
 from rvstm_tools.sessions.processes import Session
