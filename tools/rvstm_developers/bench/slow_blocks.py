@@ -65,11 +65,6 @@ def halves(count: int) -> Content:
     return used_up(["work", "reads"], calls[: count // 2] + [CallLine(1, gas, data) for _, gas, data in calls[count // 2 :]])
 
 
-def long_reads(count: int) -> Content:
-    """Calls that read a value that is longer than their buffer: it is kept, and costs no gas for its bytes."""
-    return used_up(["reads"], endless(count), {key(number): bytes(LONGEST_VALUE) for number in range(count)})
-
-
 def drawn(name: str) -> Callable[[int], Content]:
     return lambda count: used_up([slow_programs.program_of(slow_programs.shape_of(name), name)], endless(count))
 
@@ -134,11 +129,6 @@ def writes(_: int) -> Content:
 # ---- sums
 
 
-def one_sum(_: int) -> Content:
-    """1,008 calls that add to a key, and two that read it again and again."""
-    return Content(["bump", "reads"], [CallLine(0, 1_000, key(1))] * 1_008 + [CallLine(1, GAS, key(1))] * 2)
-
-
 def two_sums(_: int) -> Content:
     """1,008 calls that add to two keys, and two that read both in turn again and again."""
     both = b"".join(word(number).ljust(KEY_LENGTH, b"\0") for number in (0, 1))
@@ -171,7 +161,8 @@ RUNS = (SEQ, RUN_1, RUN)
 BLOCKS = (
     Block("work", "mix a word in a loop", Share.GAS, ALL_WAYS, lambda count: used_up(["work"], endless(count))),
     Block("reads", "read one key of their own again and again", Share.GAS, ALL_WAYS, lambda count: used_up(["reads"], endless(count))),
-    Block("long-reads", "the same, of a value that is longer than the buffer", Share.GAS, ALL_WAYS, long_reads),
+    Block("long-reads", "the same, of a value that is longer than the buffer", Share.GAS, ALL_WAYS,
+          lambda count: used_up(["reads"], endless(count), {key(number): bytes(LONGEST_VALUE) for number in range(count)})),
     Block("both", "the first half `work`, the second `reads`", Share.GAS, ALL_WAYS, halves),
     Block("fence", "FENCE alone", Share.GAS, (SEQ,), drawn("fence")),
     Block("two", "jump from each of two pages to the other", Share.GAS, (SEQ,), drawn("two")),
@@ -184,7 +175,8 @@ BLOCKS = (
     Block("pages", "store to 255 pages, and trap", Share.CALL, (SEQ, RUN), short(paged(touching()), 10_000)),
     Block("programs", "the same of 64 programs, with 186 pages from the file each", Share.CALL, (SEQ, RUN), many(touching(), MOST_CALLS)),
     Block("short", "the same with inputs of 4,096 bytes", Share.CALL, (SEQ, RUN), many(touching(), MOST_CALLS, bytes(MOST_INPUT))),
-    Block("one-sum", "1,008 add to a key, 2 read it again and again", Share.GAS, RUNS, one_sum),
+    Block("one-sum", "1,008 add to a key, 2 read it again and again", Share.GAS, RUNS,
+          lambda _: Content(["bump", "reads"], [CallLine(0, 1_000, key(1))] * 1_008 + [CallLine(1, GAS, key(1))] * 2)),
     Block("two-sums", "1,008 add to two keys, 2 read both in turn", Share.GAS, RUNS, two_sums),
     Block("sums", "500 add to the same 256 keys, 500 read each once", Share.GAS, RUNS, table_of_sums),
     Block("many-sums", "50,000 keys: 5 add to each, 2 read it", Share.GAS, RUNS, many_sums),

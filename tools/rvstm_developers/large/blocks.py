@@ -98,10 +98,6 @@ def of_one_key() -> Block:
     return Block([COUNT], [count(1)] * MOST_CALLS)
 
 
-def of_own_keys() -> Block:
-    return Block([COUNT], [count(number) for number in range(MOST_CALLS)])
-
-
 def of_few_keys(calls: int = 300, rounds: int = 300) -> Block:
     return Block([COUNT], [count(number % 7, rounds) for number in range(calls)])
 
@@ -110,10 +106,6 @@ def of_adds() -> Block:
     """Calls that add to keys, and calls that read all of them: each waits for all of the first ones."""
     calls = [each(0, MOST_WRITES, number, StorageCall.ADD) for number in range(256)] + [each(0, MOST_WRITES, 256, StorageCall.READ) for _ in range(256)]
     return Block([EACH], calls, {}, 3)
-
-
-def of_writes(calls: int = MOST_CALLS) -> Block:
-    return Block([EACH], [each(MOST_WRITES * number, MOST_WRITES, 256, StorageCall.WRITE) for number in range(calls)], {}, 2)
 
 
 MAKERS: dict[str, Callable[[], Block]] = {
@@ -125,9 +117,11 @@ MAKERS: dict[str, Callable[[], Block]] = {
     "256 keys of 256 bytes, outputs of 256, and more, under rules two": functools.partial(of_lengths, 2),
     "300 calls on seven keys": of_few_keys,
     "1,024 calls on one key": of_one_key,
-    "1,024 calls on a key each": of_own_keys,
+    "1,024 calls on a key each": lambda: Block([COUNT], [count(number) for number in range(MOST_CALLS)]),
     "256 calls add to 256 keys, 256 read them": of_adds,
-    "262,144 writes of 256 bytes": of_writes,
+    "262,144 writes of 256 bytes": lambda: Block(
+        [EACH], [each(MOST_WRITES * number, MOST_WRITES, 256, StorageCall.WRITE) for number in range(MOST_CALLS)], {}, 2
+    ),
 }
 
 

@@ -38,7 +38,7 @@ class Trial(NamedTuple):
 
 
 class BadBlock(NamedTuple):
-    make: Callable[[], bytes]
+    text: bytes
     words: str
 
 
@@ -54,17 +54,9 @@ def wrong_line(words: list[str]) -> Trial:
 # ---- block files
 
 
-def with_calls(*calls: CallLine) -> bytes:
-    return Block([COUNT], calls).text(["missing"])
-
-
 def with_value(rules: int, length: int, format_two: bool = True) -> bytes:
     begin = HEADS[1] if format_two and rules == 1 else head_of(rules)
     return f"{begin}store {key(1).hex()} {field_of(bytes(length))}\n".encode()
-
-
-def with_programs(number: int) -> bytes:
-    return Block([COUNT] * number, []).text(["missing"] * number)
 
 
 def with_call(*words: str) -> bytes:
@@ -73,30 +65,30 @@ def with_call(*words: str) -> bytes:
 
 # Their programs are not opened. `seq` reports the fault on standard error, and a session in its answer.
 BLOCKS = {
-    "1,025 calls": BadBlock(lambda: with_calls(*[count(1)] * 1025), "block 1027 Limit 7"),
-    "65 programs": BadBlock(lambda: with_programs(65), "block 66 Limit 7"),
-    "a value of 65 bytes in format 1": BadBlock(lambda: with_value(1, 65, False), "block 2 Limit 7"),
-    "a value of 65 bytes under rules one": BadBlock(lambda: with_value(1, 65), "block 3 Limit 7"),
-    "a value of 257 bytes under rules two": BadBlock(lambda: with_value(2, 257), "block 3 Limit 7"),
-    "a value of 257 bytes under rules three": BadBlock(lambda: with_value(3, 257), "block 3 Limit 7"),
-    "an input of 4,097 bytes": BadBlock(lambda: with_call("0", "1", "00" * 4097), "block 3 Limit 7"),
-    "gas of 10,000,001": BadBlock(lambda: with_call("0", "10000001", "-"), "block 3 Limit 7"),
-    "gas of 0": BadBlock(lambda: with_call("0", "0", "-"), "block 3 Limit 7"),
-    "gas of 9,999,999,999": BadBlock(lambda: with_call("0", "9999999999", "-"), "block 3 Limit 7"),
-    "gas of 11 digits": BadBlock(lambda: with_call("0", "10000000000", "-"), "block 3 BadNumber 3"),
-    "a program of the number after the last": BadBlock(lambda: with_call("1", "1", "-"), "block 3 UnknownProgram 6"),
-    "a key of 33 bytes": BadBlock(lambda: f"rvblock 1\nstore {'00' * 33} -\n".encode(), "block 2 BadHex 4"),
+    "1,025 calls": BadBlock(Block([COUNT], [count(1)] * 1025).text(["missing"]), "block 1027 Limit 7"),
+    "65 programs": BadBlock(Block([COUNT] * 65, []).text(["missing"] * 65), "block 66 Limit 7"),
+    "a value of 65 bytes in format 1": BadBlock(with_value(1, 65, False), "block 2 Limit 7"),
+    "a value of 65 bytes under rules one": BadBlock(with_value(1, 65), "block 3 Limit 7"),
+    "a value of 257 bytes under rules two": BadBlock(with_value(2, 257), "block 3 Limit 7"),
+    "a value of 257 bytes under rules three": BadBlock(with_value(3, 257), "block 3 Limit 7"),
+    "an input of 4,097 bytes": BadBlock(with_call("0", "1", "00" * 4097), "block 3 Limit 7"),
+    "gas of 10,000,001": BadBlock(with_call("0", "10000001", "-"), "block 3 Limit 7"),
+    "gas of 0": BadBlock(with_call("0", "0", "-"), "block 3 Limit 7"),
+    "gas of 9,999,999,999": BadBlock(with_call("0", "9999999999", "-"), "block 3 Limit 7"),
+    "gas of 11 digits": BadBlock(with_call("0", "10000000000", "-"), "block 3 BadNumber 3"),
+    "a program of the number after the last": BadBlock(with_call("1", "1", "-"), "block 3 UnknownProgram 6"),
+    "a key of 33 bytes": BadBlock(f"rvblock 1\nstore {'00' * 33} -\n".encode(), "block 2 BadHex 4"),
 }
 
 
 def block_refused(command: str, name: str) -> Trial:
     bad = BLOCKS[name]
-    return refused([command, "block", *(["--workers", "32"] if command == "run" else [])], bad.words, block=bad.make())
+    return refused([command, "block", *(["--workers", "32"] if command == "run" else [])], bad.words, block=bad.text)
 
 
 def frame_refused(name: str) -> Trial:
     bad = BLOCKS[name]
-    asked = [Request(word, (), bad.make()) for word in (Word.FRAME, Word.TRY)]
+    asked = [Request(word, (), bad.text) for word in (Word.FRAME, Word.TRY)]
     return session([], asked, [answers.refused(bad.words.encode())] * 2)
 
 

@@ -104,10 +104,6 @@ def programs_of(number: int) -> list[Program]:
 # ---- sessions
 
 
-def of_long_frames() -> Parts:
-    return [asked(large_blocks.of_inputs(122)), asked(large_blocks.of_inputs())]
-
-
 def of_many_entries() -> Parts:
     """100,000 entries in one frame, which writes some of them, and in the calls of another one."""
     entries = Block([COUNT], [count(1), count(FRAME_KEYS)], keys_of(FRAME_KEYS, 8))
@@ -143,10 +139,6 @@ def of_many_keys() -> Parts:
     return [[begun(keys_of(large_blocks.MANY_KEYS, 8), 1), *listed, *asked(Block([COUNT], [count(1), count(large_blocks.MANY_KEYS)]))]]
 
 
-def of_long_dump() -> Parts:
-    return [[begun(keys_of(DUMP_KEYS, 256), 3), Request(Word.GET, (key_field(numbered_key(DUMP_KEYS - 1)),)), Request(Word.DUMP)]]
-
-
 def of_long_program() -> Parts:
     longest = long_program(LONGEST_PROGRAM)
     block = Block([longest], [count(1), count(2)])
@@ -158,10 +150,6 @@ def long_program(length: int) -> Program:
     return Program(COUNT.source, large_blocks.filled(length - len(COUNT.file) - 32, 1))
 
 
-def of_many_calls() -> Parts:
-    return [asked(large_blocks.of_one_key())]
-
-
 def of_uneven_frames() -> Parts:
     """Frames of many long calls and of few, so that many threads and few take turns. The parts are given to other numbers of workers if a file keeps them."""
     few = [Block([COUNT], [count(number % 3, rounds) for number in range(calls)]) for calls, rounds in ((1, 1), (3, 9), (64, 3000))]
@@ -170,15 +158,17 @@ def of_uneven_frames() -> Parts:
 
 
 MAKERS = {
-    "frames of 1 MB, and of 1,024 calls with inputs of 4,096 bytes": Maker(2, of_long_frames),
+    "frames of 1 MB, and of 1,024 calls with inputs of 4,096 bytes": Maker(2, lambda: [asked(large_blocks.of_inputs(122)), asked(large_blocks.of_inputs())]),
     "100,000 entries in a frame, and 100,000 keys made by calls": Maker(3, of_many_entries),
     "a frame above the default limit": Maker(1, of_long_entries),
     "64 programs in a frame, 1,000 in a session": Maker(2, of_many_programs),
     "10,000 requests": Maker(1, of_many_requests),
     "begin with 262,144 keys": Maker(1, of_many_keys),
-    "begin and dump of 100,000 keys of 256 bytes": Maker(1, of_long_dump),
+    "begin and dump of 100,000 keys of 256 bytes": Maker(
+        1, lambda: [[begun(keys_of(DUMP_KEYS, 256), 3), Request(Word.GET, (key_field(numbered_key(DUMP_KEYS - 1)),)), Request(Word.DUMP)]]
+    ),
     "a program of 131,072 bytes": Maker(2, of_long_program),
-    "1,024 calls on one key": Maker(1, of_many_calls),
+    "1,024 calls on one key": Maker(1, lambda: [asked(large_blocks.of_one_key())]),
     "frames of many calls and of few": Maker(3, of_uneven_frames),
 }
 LIMITS = {"a frame above the default limit": sessions.HIGHEST}
