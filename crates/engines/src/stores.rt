@@ -13,6 +13,7 @@ ghost use Rattle.session_disk.specs.Closing.{AreLeftFolded, MayFailToClose};
 use session_disk::{NamedDisk, NewLog, OpenFault, SystemFolder, abandon, close_files, open_path};
 use session_states::StoreFault;
 use sqlite_disk::{Disk as StoreDisk, Files, Wary};
+use sqlite_std_file::FileFrom;
 use sqlite_store::FileStore;
 use sqlite_trees::error::StoreError;
 use sqlite_trees::store::Store;
@@ -61,7 +62,7 @@ pub trait SessionStores {
 }
 
 /// A file of the system, which looks at the names of a session's files at each sync.
-type StoreFile = NamedDisk<Wary, SystemFolder>;
+type StoreFile = NamedDisk<FileFrom<Wary>, SystemFolder>;
 
 /// The stores of the system's files. Each commit is synced twice.
 #[derive(Drop)]

@@ -1,9 +1,11 @@
 -- Looks that were made one after another.
 use Rattle.std.proofs.Common.{◌≡◌, ◌≢◌, ◌&&◌, ◌∷◌, [], ◌++◌, List, Option, Some, None, true, false, eqb, refl, ap, subst, ◌∙◌, append_assoc}
 use Rattle.std.proofs.lemmas.Bool.{eq-eqb}
+use Rattle.std.specs.Prelude.{ℕ}
 use Rattle.session_disk.specs.Logs.{FolderView, Look}
-use Rattle.session_disk.specs.Looks.{Misses, Sees}
+use Rattle.session_disk.specs.Looks.{Misses, Sees, look}
 use Rattle.session_disk.specs.declared.log_folder.FileNumber.{FileNumber}
+use Rattle.session_disk.specs.declared.log_folder.Links.{Links}
 
 pub sees_then : (a b c : Option FolderView) (xs ys : List Look) → Sees a b xs → Sees b c ys → Sees a c (xs ++ ys)
 sees_then None b c xs ys first second = tt
@@ -39,6 +41,13 @@ misses_later a b c x rest first m = record {
   sees = sees_then a b c (x ∷ []) _ first m.sees;
   differs = m.differs;
 }
+
+-- looks at one path under two names of it
+pub seen_at : (a b : Option FolderView) (p q : List ℕ) (links : Links) (file : Option FileNumber) → p ≡ q → Sees a b (look p links file ∷ []) → Sees a b (look q links file ∷ [])
+seen_at a b p q links file same sees = subst (λ r. Sees a b (look r links file ∷ [])) same sees
+
+pub missed_at : (a b : Option FolderView) (p q : List ℕ) (links : Links) (file : Option FileNumber) → p ≡ q → Misses a b (look p links file ∷ []) → Misses a b (look q links file ∷ [])
+missed_at a b p q links file same missed = subst (λ r. Misses a b (look r links file ∷ [])) same missed
 
 -- numbers that are compared as different differ
 pub other_number : (a b : FileNumber) → (eqb a.device b.device && eqb a.inode b.inode) ≡ false → Some a ≢ Some b

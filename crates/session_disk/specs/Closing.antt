@@ -14,7 +14,7 @@ use Rattle.sqlite_trees.specs.declared.error.StoreError.TheVariants.{OutOfMemory
 use Rattle.sqlite_store.specs.declared.catalog.Wanted.{Wanted}
 use Rattle.sqlite_store.specs.Listing.{IsOurs, file_trees}
 
--- the files stand for a sound database, and these are its rows, with those that list its tables
+-- the files hold a sound database, and these are its rows, with those that list its tables
 pub record HoldsTrees (image : Image) (db : Trees) : Type 0 where
   pub size : ℕ
   pub tables : List Wanted

@@ -36,7 +36,7 @@ path_fault (named.Io e) = system_fault (error_kind e)
 path_fault named.Busy = Busy
 path_fault named.HotJournal = HotJournal
 
--- a failed call is told as Full where writes found no room
-abbrev pub told_fault : ℕ → OpenFault → OpenFault
-told_fault refused Unreadable = if refused == 0 then Unreadable else Full
-told_fault refused fault = fault
+-- the fault that an open reports: Full for a failed call, if writes found no room
+abbrev pub reported_fault : ℕ → OpenFault → OpenFault
+reported_fault refused Unreadable = if refused == 0 then Unreadable else Full
+reported_fault refused fault = fault

@@ -23,7 +23,7 @@ pub record FolderView : Type 0 where
   pub removed : List (List ℕ)
   pub looks : List Look
 
--- where it is known what was removed, these paths are removed then, and no others
+-- if it is known what was removed, these paths are removed then, and no others
 abbrev pub Removes : Option FolderView → Option FolderView → List (List ℕ) → Type 0
 Removes None new paths = ⊤
 Removes (Some old) None paths = ⊥
@@ -37,15 +37,15 @@ abbrev pub paths_of : {A : Type 0} → Option (String A) → List (List ℕ)
 paths_of None = []
 paths_of (Some path) = string_bytes path ∷ []
 
--- the log beside the file that a path leads to, where nothing is there yet; else none
+-- the log beside the file that a path leads to, if nothing is there yet; otherwise none
 abbrev pub IsBeside : Option FolderView → List ℕ → NewLog → Type 0
 IsBeside None path log = ⊤
 IsBeside (Some known) path log = ((known.is_free (log_name known path) ≡ true) × (paths_of log.path ≡ log_name known path ∷ []))
     ⊎ ((known.is_free (log_name known path) ≡ false) × (log.path ≡ None))
 
--- A log with fewer bytes than this holds nothing where its files are refused for that fault. If they are no session's it is one that
--- is shorter than its header and the header of a frame, and so has no commit of another process. Else it is empty: a longer one may
--- mark a session that is only half made
+-- A log with fewer bytes than this holds nothing, if its files are refused for that fault. If they are no session's it is one that
+-- is shorter than its header and the header of a frame, and so has no commit of another process. Otherwise it is empty: a longer one
+-- may mark a session that is only half made
 abbrev pub idle_bound : OpenFault → ℕ
 idle_bound NotASession = 32 + 24
 idle_bound fault = 1
@@ -53,18 +53,18 @@ idle_bound fault = 1
 abbrev pub IsIdle : OpenFault → List ℕ → Type 0
 IsIdle fault log = length log < idle_bound fault
 
--- a file is found idle, or not; not only where it may not be used, or a call failed, or it is not
+-- a file is found idle, or not. It is found not to be idle only if it is not, or may not be used, or a call failed
 abbrev pub IsFoundIdle : {D : Type 0} → Ghosts D → OpenFault → D → D → Bool → Type 0
 IsFoundIdle g fault old new true = IsTrue (g.is_clean new) → IsIdle fault (g.seen new)
 IsFoundIdle g fault old new false = (g.is_usable old ≡ false) ⊎ MoreFaults (g.faults old) (g.faults new) ⊎ (IsTrue (g.is_clean new) → IsIdle fault (g.seen new) → ⊥)
 
--- of a refused open: a log that it made is removed where it is found idle
+-- of a refused open: a log that it made is removed if it is found idle
 pub record IsGivenUp {D : Type 0} (g : Ghosts D) (fault : OpenFault) (old new : D) (log : NewLog) (before after : Option FolderView) : Type 0 where
   pub is_idle : Bool
   pub found : IsFoundIdle g fault old new is_idle
   pub removes : Removes before after (if is_idle then paths_of log.path else [])
 
--- nothing is removed, or the log beside the file that a path leads to, where nothing was there before
+-- nothing is removed, or the log beside the file that a path leads to, if nothing was there before
 abbrev pub RemovesOwn : Option FolderView → Option FolderView → List ℕ → Type 0
 RemovesOwn None new path = ⊤
 RemovesOwn (Some old) new path = Removes (Some old) new []

@@ -12,13 +12,13 @@ abbrev pub file_found : {E : Type 0} → Result FileNumber E → Option FileNumb
 file_found (Ok file) = Some file
 file_found (Err e) = None
 
--- where it is known what was looked at, these looks were made then, and nothing else
+-- if it is known what was looked at, these looks were made then, and no others
 abbrev pub Sees : Option FolderView → Option FolderView → List Look → Type 0
 Sees None new looks = ⊤
 Sees (Some old) None looks = ⊥
 Sees (Some old) (Some new) looks = new ≡ record old { looks = old.looks ++ looks }
 
--- the looks were made one by one, up to one that did not find what it was to find
+-- the looks were made one by one, up to one that did not find what was wanted
 pub record Misses (old new : Option FolderView) (wanted : List Look) : Type 0 where
   pub found : List Look
   pub missed : Look

@@ -30,8 +30,8 @@ MayFail old new AtLimit Wanted NotASession = ¬ Wanted
 MayFail old new AtLimit Wanted Busy = ⊥
 MayFail old new AtLimit Wanted HotJournal = ⊥
 
--- Where the files held this, a crash leaves of a session what it left before, a session, or one that is cut while it is made, and
--- of others what it left before or what stands for the same.
+-- If the files held this, a crash leaves of a session what it left before, a session, or one that is cut while it is made. Of
+-- others it leaves what it left before, or files with the same content.
 pub record LeavesAs (image : Image) (old new : Image → Type 0) : Type 0 where
   pub session : IsSession image → (now : Image) → new now → old now ⊎ ∥ IsCutShort now ∥₁
   pub other : ¬ IsSession image → (now : Image) → new now → old now ⊎ RecoversAs page_size image now

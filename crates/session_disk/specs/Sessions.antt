@@ -19,7 +19,7 @@ abbrev pub BeginsWell : Image → Type 0
 BeginsWell image =
     (pages : PageMap) (first : List ℕ) → raw.Recovers page_size image pages → pages 1 ≡ Some first → length first ≡ page_size → slice_index first 0 ≡ 83
 
--- the files stand for a database with the tables of a session and no other
+-- the files hold a database with the tables of a session and no other
 pub record IsSessionFile (image : Image) : Type 0 where
   pub pages : PageMap
   pub found : Recovers page_size image pages
@@ -33,11 +33,11 @@ IsBereft image = (length image.db ≡ 0) × ((frames : ℕ) × (0 < frames) × r
 abbrev pub IsBegun : Image → Type 0
 IsBegun image = (IsBlankFile page_size image × ¬ IsBereft image) ⊎ ((pages : PageMap) × Recovers page_size image pages × IsEmptyFile page_size pages)
 
--- a session left them, wherever it was cut
+-- a session left them, at whatever moment it was cut
 abbrev pub IsSession : Image → Type 0
 IsSession image = IsSessionFile image ⊎ IsBegun image
 
--- what a session or the making of its database leaves where it is cut. The kit says of such a making that there may be no database
+-- what a session or the making of its database leaves if it is cut. The kit says of such a making that there may be no database
 -- yet, and not what is in the log then
 abbrev pub IsCutShort : Image → Type 0
 IsCutShort image = IsSession image ⊎ IsBlankFile page_size image

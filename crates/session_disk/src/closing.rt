@@ -15,8 +15,8 @@ use sqlite_store::FileStore;
 use sqlite_trees::error::StoreError;
 use sqlite_trees::store::Store;
 
-/// Gives up what is not committed, copies the log into the database file, and gives the two files back. Where this is done the
-/// database file alone has the last commit. Where it fails the store is given back, and a crash leaves nothing new.
+/// Gives up what is not committed, copies the log into the database file, and gives the two files back. The database file alone
+/// has the last commit then. If that fails the store is given back, and a crash leaves nothing new.
 pub fn close_files<D: Disk>(store: FileStore<D>) -> Result<Files<D>, (StoreError, FileStore<D>)>
     ensures folded { IfOk result (λ files. AreLeftFolded D.Disk files (view store)) }
     ensures err { IfErr result (λ e. (db : Trees) → recovers e.1 db → recovers store db) }
@@ -31,8 +31,8 @@ pub fn close_files<D: Disk>(store: FileStore<D>) -> Result<Files<D>, (StoreError
     }
 }
 
-/// Closes a store that is not to be used, as `close_files` does. A log that the open made is removed where that is done, while
-/// the files are locked still; else both files stay.
+/// Closes a store that nobody used, as `close_files` does. If that is done, a log that the open made is removed while the files
+/// are still locked. Otherwise both files stay.
 pub fn abandon<D: Disk, F: LogFolder>(
     folder: &mut F,
     store: FileStore<D>,

@@ -1,4 +1,4 @@
-//! Where the log of a database file stands.
+//! The folders of a database file and its log.
 
 ghost use Rattle.std.specs.Prelude.{◌≡◌, [], ◌∷◌, IfOk, IfSome, None, Option};
 ghost use Rattle.std.specs.String.{string_bytes};
@@ -29,13 +29,13 @@ pub enum Links {
     Kept,
 }
 
-/// Where a database file stands, and its log beside it.
+/// The folder of a database file, and of its log beside it.
 pub trait LogFolder {
-    /// What is at which path, what was removed so far, and what looks found, where that is known.
+    /// What is at which path, what was removed so far, and what looks found, if that is known.
     ghost view: { Self → Option FolderView };
 
-    /// The path that a path leads to, with links followed; the path itself where nothing is there. Refused where that can't be
-    /// told.
+    /// The path that a path leads to, with links followed; the path itself if nothing is there. Refused if the system can't say
+    /// that.
     fn real_path(&self, alloc: Global, path: &str) -> io::Result<String>
         ensures { IfOk result (λ real. IfSome (view self.now) (λ known. string_bytes real ≡ known.leads path.now)) };
 
@@ -43,7 +43,7 @@ pub trait LogFolder {
     fn is_free(&self, path: &str) -> bool
         ensures { IfSome (view self.now) (λ known. result ≡ known.is_free path.now) };
 
-    /// Removes the file at a path. Where the system refuses that, the file stays.
+    /// Removes the file at a path. If the system refuses that, the file stays.
     fn remove(&mut self, path: &str)
         ensures { Removes (view self.old) (view self.new) (path.now ∷ []) };
 

@@ -1,21 +1,18 @@
 //! A file of a session, as a disk whose syncs look at the names of both files, and which has no room past the limit of a file.
 
-ghost use Rattle.std.proofs.Common.{inl, refl};
-ghost use Rattle.std.specs.Prelude.{◌≡◌, ◌+◌, ◌&&◌, not, ℕ, List, IfErr, IfOk, IfSome, MatchBool, is_ok, IsErr, IsTrue, OnErr, OnOk};
+ghost use Rattle.std.specs.Prelude.{◌≡◌, ◌+◌, ◌&&◌, not, ℕ, List, IfErr, IfOk, MatchBool, is_ok, IsErr, IsTrue, OnErr, OnOk};
+ghost use Rattle.std_io.specs.declared.io.kind.ErrorKind.TheVariants.{FileTooLarge};
+ghost use Rattle.std_io.specs.IoError.{error_kind};
 ghost use Rattle.sqlite_disk.specs.Disk.{CountsFault, MoreFaults, Only, StaysFrozen};
-ghost use Rattle.sqlite_disk.specs.Fair.{fair_if_honest};
-ghost use Rattle.sqlite_disk.specs.Modelled.{start_of};
 ghost use Rattle.sqlite_disk.specs.Refusal.{finds_no_room};
 ghost use Rattle.sqlite_disk.specs.Tally.{CountsRefusal};
 ghost use Rattle.session_disk.specs.Looks.{Misses, Sees};
-ghost use Rattle.session_disk.specs.Named.{IsNamedBy, disk_names, looked_names, with_limit};
-ghost use Rattle.session_disk.specs.Names.{AreNamesOf, all_there, first_looks};
+ghost use Rattle.session_disk.specs.Named.{IsNamedBy, with_limit};
+ghost use Rattle.session_disk.specs.Names.{all_there, view_of};
 
-use crate::log_folder::{FileNumber, Links, LogFolder};
+use crate::log_folder::LogFolder;
 use crate::names::Names;
-use crate::new_log::log_path;
-use sqlite_disk::{Disk, Start, Tally};
-use sqlite_std_file::FileFrom;
+use sqlite_disk::{Disk, Tally};
 use std::alloc::Global;
 use std::io;
 
@@ -23,52 +20,33 @@ use std::io;
 /// is refused, and the file may not be used any more. A write past the limit of a file's size (EFBIG) is refused as one to a full
 /// disk.
 #[derive(Drop)]
-pub struct NamedDisk<S: Start, F: LogFolder> {
-    inner: FileFrom<S>,
+pub struct NamedDisk<D, F> {
+    inner: D,
     folder: F,
-    /// The path of the database file, as it was given.
-    given: String,
-    /// The path that it led to.
-    real: String,
-    /// The path of the log.
-    log: String,
-    db_file: FileNumber,
-    log_file: FileNumber,
+    names: Names,
     missed: u64,
     too_large: u64,
     is_lost: bool,
 }
 
-impl<S: Start, F: LogFolder + Copy> NamedDisk<S, F> {
+impl<D: Disk, F: LogFolder + Copy> NamedDisk<D, F> {
     /// One of the two files at a path, which were just opened, with the names of both as they are in a folder. The file is given
-    /// back if a name can't be followed, leads to nothing or can't be looked at, or if memory ran out.
+    /// back if `Names::look_at` refuses.
     pub(crate) fn at(
         alloc: Global,
         folder: F,
         path: &str,
-        inner: FileFrom<S>,
-    ) -> Result<NamedDisk<S, F>, (io::Error, FileFrom<S>)>
-        ensures named { IfOk result (λ named. IsNamedBy F.LogFolder.view folder path.now ⟦<FileFrom<S> as Disk>⟧ inner named) }
+        inner: D,
+    ) -> Result<NamedDisk<D, F>, (io::Error, D)>
+        ensures named { IfOk result (λ named. IsNamedBy F.LogFolder.view folder path.now D.Disk inner named) }
         ensures back { IfErr result (λ e. e.1 ≡ inner) }
     {
         let mut folder = folder;
-        match look_at_names(alloc, &mut folder, path, &inner) {
-            Ok(
-                Looked {
-                    given,
-                    real,
-                    log,
-                    db_file,
-                    log_file,
-                },
-            ) => Ok(NamedDisk {
+        match Names::look_at(alloc, &mut folder, path, &inner) {
+            Ok(names) => Ok(NamedDisk {
                 inner,
                 folder,
-                given,
-                real,
-                log,
-                db_file,
-                log_file,
+                names,
                 missed: 0,
                 too_large: 0,
                 is_lost: false,
@@ -78,52 +56,19 @@ impl<S: Start, F: LogFolder + Copy> NamedDisk<S, F> {
     }
 
     /// The file without its names.
-    pub(crate) fn into_inner(self) -> FileFrom<S>
+    pub(crate) fn into_inner(self) -> D
         ensures { result ≡ self.inner }
     {
         self.inner
     }
 }
 
-/// The names of two files, and the files that looks found there.
-#[derive(Drop)]
-struct Looked {
-    given: String,
-    real: String,
-    log: String,
-    db_file: FileNumber,
-    log_file: FileNumber,
-}
-
-/// Looks at the names of the two files at a path, one of which is this one.
-fn look_at_names<D: Disk, F: LogFolder>(
-    alloc: Global,
-    folder: &mut F,
-    path: &str,
-    file: &D,
-) -> io::Result<Looked>
-    ensures named { IfOk result (λ looked. IfSome (F.LogFolder.view folder.old) (λ known. AreNamesOf known path.now (looked_names looked))) }
-    ensures looked { IfOk result (λ looked. Only (D.Disk.seen file.now) (D.Disk.may_leave file.now) → Sees (F.LogFolder.view folder.old) (F.LogFolder.view folder.new) (first_looks (looked_names looked))) }
-{
-    let real = folder.real_path(alloc, path)?;
-    let log = log_path(alloc, real.as_str())?;
-    let given = String::from_str(alloc, path)?;
-    let db_file = folder.file_at(real.as_str(), Links::Kept, file)?;
-    let log_file = folder.file_at(log.as_str(), Links::Kept, file)?;
-    Ok(Looked {
-        given,
-        real,
-        log,
-        db_file,
-        log_file,
-    })
-}
-
-/// The answer of a write or of a change of the length, counted if the file would be larger than the system allows: this is told
-/// as a full disk is.
+/// The answer of a write or of a change of the length. If the file would be larger than the system allows, that is counted, and
+/// the answer is that of a full disk.
 fn full_if_too_large(answer: io::Result<()>, too_large: &mut u64) -> io::Result<()>
     ensures ok { is_ok result ≡ is_ok answer }
     ensures err { IsErr answer → IsErr result }
+    ensures limit { IfErr answer (λ e. error_kind e ≡ FileTooLarge → IsTrue (finds_no_room result)) }
     ensures counted { MatchBool (finds_no_room result && not (finds_no_room answer)) (MoreFaults too_large.old too_large.new) (too_large.new ≡ too_large.old) }
     ensures full { IsTrue (finds_no_room answer) → IsTrue (finds_no_room result) }
 {
@@ -136,32 +81,32 @@ fn full_if_too_large(answer: io::Result<()>, too_large: &mut u64) -> io::Result<
     }
 }
 
-impl<S: Start, F: LogFolder> Disk for NamedDisk<S, F> {
-    ghost seen = { λ f. (⟦<FileFrom<S> as Disk>⟧).seen f.inner };
+impl<D: Disk, F: LogFolder> Disk for NamedDisk<D, F> {
+    ghost seen = { λ f. D.Disk.seen f.inner };
 
-    ghost may_leave = { λ f. (⟦<FileFrom<S> as Disk>⟧).may_leave f.inner };
+    ghost may_leave = { λ f. D.Disk.may_leave f.inner };
 
-    ghost is_usable = { λ f. (⟦<FileFrom<S> as Disk>⟧).is_usable f.inner && not f.is_lost };
+    ghost is_usable = { λ f. D.Disk.is_usable f.inner && not f.is_lost };
 
-    ghost faults = { λ f. (⟦<FileFrom<S> as Disk>⟧).faults f.inner + f.missed };
+    ghost faults = { λ f. D.Disk.faults f.inner + f.missed };
 
-    ghost tally_of = { λ f. with_limit ((⟦<FileFrom<S> as Disk>⟧).tally_of f.inner) f.too_large };
+    ghost tally_of = { λ f. with_limit (D.Disk.tally_of f.inner) f.too_large };
 
-    ghost is_rotten = { λ f. (⟦<FileFrom<S> as Disk>⟧).is_rotten f.inner };
+    ghost is_rotten = { λ f. D.Disk.is_rotten f.inner };
 
-    ghost key_of = { λ f. (⟦<FileFrom<S> as Disk>⟧).key_of f.inner };
+    ghost key_of = { λ f. D.Disk.key_of f.inner };
 
-    ghost is_frozen = { λ f. (⟦<FileFrom<S> as Disk>⟧).is_frozen f.inner };
+    ghost is_frozen = { λ f. D.Disk.is_frozen f.inner };
 
-    ghost is_clean = { λ f. (⟦<FileFrom<S> as Disk>⟧).is_clean f.inner };
+    ghost is_clean = { λ f. D.Disk.is_clean f.inner };
 
-    ghost is_fair = { λ f. (⟦<FileFrom<S> as Disk>⟧).is_fair f.inner };
+    ghost is_fair = { λ f. D.Disk.is_fair f.inner };
 
-    ghost fair_if_clean = { λ f. fair_if_honest (start_of S.Start f.inner) f.inner.calls.log.events };
+    ghost fair_if_clean = { λ f. D.Disk.fair_if_clean f.inner };
 
-    ghost seen_may_stay = { λ f. inl refl };
+    ghost seen_may_stay = { λ f. D.Disk.seen_may_stay f.inner };
 
-    ghost is_mixing = { λ f. (⟦<FileFrom<S> as Disk>⟧).is_mixing f.inner };
+    ghost is_mixing = { λ f. D.Disk.is_mixing f.inner };
 
     fn mixes(&self) -> bool {
         self.inner.mixes()
@@ -206,32 +151,25 @@ impl<S: Start, F: LogFolder> Disk for NamedDisk<S, F> {
     }
 
     fn sync(&mut self) -> io::Result<()>
-        requires { IsTrue ((⟦<FileFrom<S> as Disk>⟧).is_usable self.old.inner && not self.old.is_lost) }
-        ensures durable { OnOk result (Only ((⟦<FileFrom<S> as Disk>⟧).seen self.old.inner) ((⟦<FileFrom<S> as Disk>⟧).may_leave self.new.inner)) }
-        ensures faults { CountsFault result ((⟦<FileFrom<S> as Disk>⟧).faults self.old.inner + self.old.missed) ((⟦<FileFrom<S> as Disk>⟧).faults self.new.inner + self.new.missed) }
-        ensures clean { IsTrue ((⟦<FileFrom<S> as Disk>⟧).is_clean self.new.inner) → IsTrue ((⟦<FileFrom<S> as Disk>⟧).is_clean self.old.inner) }
-        ensures calm { (⟦<FileFrom<S> as Disk>⟧).is_clean self.new.inner ≡ (⟦<FileFrom<S> as Disk>⟧).is_clean self.old.inner }
-        ensures fair { (⟦<FileFrom<S> as Disk>⟧).is_fair self.new.inner ≡ (⟦<FileFrom<S> as Disk>⟧).is_fair self.old.inner }
-        ensures frozen { IsTrue ((⟦<FileFrom<S> as Disk>⟧).is_frozen self.old.inner) → IsErr result × StaysFrozen (⟦<FileFrom<S> as Disk>⟧).seen (⟦<FileFrom<S> as Disk>⟧).may_leave (⟦<FileFrom<S> as Disk>⟧).is_clean (⟦<FileFrom<S> as Disk>⟧).is_frozen self.old.inner self.new.inner }
-        ensures seen { (⟦<FileFrom<S> as Disk>⟧).seen self.new.inner ≡ (⟦<FileFrom<S> as Disk>⟧).seen self.old.inner }
-        ensures tally { CountsRefusal result (with_limit ((⟦<FileFrom<S> as Disk>⟧).tally_of self.old.inner) self.old.too_large) (with_limit ((⟦<FileFrom<S> as Disk>⟧).tally_of self.new.inner) self.new.too_large) }
-        ensures key { (⟦<FileFrom<S> as Disk>⟧).key_of self.new.inner ≡ (⟦<FileFrom<S> as Disk>⟧).key_of self.old.inner }
-        ensures rot { (⟦<FileFrom<S> as Disk>⟧).is_rotten self.new.inner ≡ (⟦<FileFrom<S> as Disk>⟧).is_rotten self.old.inner }
-        ensures usable { ((⟦<FileFrom<S> as Disk>⟧).is_usable self.new.inner && not self.new.is_lost) ≡ is_ok result }
-        ensures crash { (c : List ℕ) → (⟦<FileFrom<S> as Disk>⟧).may_leave self.new.inner c → (⟦<FileFrom<S> as Disk>⟧).may_leave self.old.inner c }
-        ensures there { OnOk result (Sees (F.LogFolder.view self.old.folder) (F.LogFolder.view self.new.folder) (all_there (disk_names self.old))) }
-        ensures gone { OnErr result (IsTrue ((⟦<FileFrom<S> as Disk>⟧).is_usable self.new.inner) → Misses (F.LogFolder.view self.old.folder) (F.LogFolder.view self.new.folder) (all_there (disk_names self.old))) }
-        ensures names { disk_names self.new ≡ disk_names self.old }
+        requires { IsTrue (D.Disk.is_usable self.old.inner && not self.old.is_lost) }
+        ensures durable { OnOk result (Only (D.Disk.seen self.old.inner) (D.Disk.may_leave self.new.inner)) }
+        ensures faults { CountsFault result (D.Disk.faults self.old.inner + self.old.missed) (D.Disk.faults self.new.inner + self.new.missed) }
+        ensures clean { IsTrue (D.Disk.is_clean self.new.inner) → IsTrue (D.Disk.is_clean self.old.inner) }
+        ensures calm { D.Disk.is_clean self.new.inner ≡ D.Disk.is_clean self.old.inner }
+        ensures fair { D.Disk.is_fair self.new.inner ≡ D.Disk.is_fair self.old.inner }
+        ensures frozen { IsTrue (D.Disk.is_frozen self.old.inner) → IsErr result × StaysFrozen D.Disk.seen D.Disk.may_leave D.Disk.is_clean D.Disk.is_frozen self.old.inner self.new.inner }
+        ensures seen { D.Disk.seen self.new.inner ≡ D.Disk.seen self.old.inner }
+        ensures tally { CountsRefusal result (with_limit (D.Disk.tally_of self.old.inner) self.old.too_large) (with_limit (D.Disk.tally_of self.new.inner) self.new.too_large) }
+        ensures key { D.Disk.key_of self.new.inner ≡ D.Disk.key_of self.old.inner }
+        ensures rot { D.Disk.is_rotten self.new.inner ≡ D.Disk.is_rotten self.old.inner }
+        ensures usable { (D.Disk.is_usable self.new.inner && not self.new.is_lost) ≡ is_ok result }
+        ensures crash { (c : List ℕ) → D.Disk.may_leave self.new.inner c → D.Disk.may_leave self.old.inner c }
+        ensures there { OnOk result (Sees (F.LogFolder.view self.old.folder) (F.LogFolder.view self.new.folder) (all_there (view_of self.old.names))) }
+        ensures gone { OnErr result (IsTrue (D.Disk.is_usable self.new.inner) → Misses (F.LogFolder.view self.old.folder) (F.LogFolder.view self.new.folder) (all_there (view_of self.old.names))) }
+        ensures names { view_of self.new.names ≡ view_of self.old.names }
     {
         self.inner.sync()?;
-        let names = Names {
-            given: self.given.as_str(),
-            real: self.real.as_str(),
-            log: self.log.as_str(),
-            db_file: self.db_file,
-            log_file: self.log_file,
-        };
-        if names.lead_there(&mut self.folder, &self.inner) {
+        if self.names.lead_there(&mut self.folder, &self.inner) {
             return Ok(());
         }
         self.is_lost = true;

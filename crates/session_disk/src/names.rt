@@ -1,43 +1,71 @@
 //! The names of a session's two files.
 
-ghost use Rattle.std.specs.Prelude.{◌≡◌, List, [], ◌∷◌, Some, IsTrue, false};
+ghost use Rattle.std.specs.Prelude.{◌≡◌, List, [], ◌∷◌, Some, IfOk, IfSome, IsTrue, false};
 ghost use Rattle.sqlite_disk.specs.Disk.{Only};
 ghost use Rattle.session_disk.specs.Logs.{FolderView};
 ghost use Rattle.session_disk.specs.Looks.{Misses, Sees, look};
-ghost use Rattle.session_disk.specs.Names.{all_there, names_of};
+ghost use Rattle.session_disk.specs.Names.{AreNamesOf, all_there, first_looks, view_of};
 
 use crate::log_folder::{FileNumber, Links, LogFolder};
+use crate::new_log::log_path;
 use sqlite_disk::Disk;
+use std::alloc::Global;
+use std::io;
 
 /// The names of a session's two files, and which files they led to right after the open.
-#[derive(Clone, Copy)]
-pub struct Names<'a> {
+#[derive(Drop)]
+pub struct Names {
     /// The path of the database file, as it was given.
-    pub given: &'a str,
+    given: String,
     /// The path that it led to.
-    pub real: &'a str,
+    real: String,
     /// The path of the log.
-    pub log: &'a str,
+    log: String,
     /// The database file.
-    pub db_file: FileNumber,
+    db_file: FileNumber,
     /// The log.
-    pub log_file: FileNumber,
+    log_file: FileNumber,
 }
 
-impl<'a> Names<'a> {
-    /// Whether the names lead to these files now, after all that was written to one of them was on the disk.
-    pub(crate) fn lead_there<D: Disk, F: LogFolder>(self, folder: &mut F, file: &D) -> bool
-        requires { Only (D.Disk.seen file.now) (D.Disk.may_leave file.now) }
-        ensures yes { IsTrue result → Sees (F.LogFolder.view folder.old) (F.LogFolder.view folder.new) (all_there (names_of self.entry)) }
-        ensures no { result ≡ false → Misses (F.LogFolder.view folder.old) (F.LogFolder.view folder.new) (all_there (names_of self.entry)) }
+impl Names {
+    /// Looks at the names of the two files at a path, one of which is this one. Refused if a name can't be followed, leads to
+    /// nothing or can't be looked at, or if memory ran out.
+    pub(crate) fn look_at<D: Disk, F: LogFolder>(
+        alloc: Global,
+        folder: &mut F,
+        path: &str,
+        file: &D,
+    ) -> io::Result<Names>
+        ensures named { IfOk result (λ names. IfSome (F.LogFolder.view folder.old) (λ known. AreNamesOf known path.now (view_of names))) }
+        ensures looked { IfOk result (λ names. Only (D.Disk.seen file.now) (D.Disk.may_leave file.now) → Sees (F.LogFolder.view folder.old) (F.LogFolder.view folder.new) (first_looks (view_of names))) }
     {
-        if !finds(folder, self.given, Links::Followed, self.db_file, file) {
+        let real = folder.real_path(alloc, path)?;
+        let log = log_path(alloc, real.as_str())?;
+        let given = String::from_str(alloc, path)?;
+        let db_file = folder.file_at(real.as_str(), Links::Kept, file)?;
+        let log_file = folder.file_at(log.as_str(), Links::Kept, file)?;
+        Ok(Names {
+            given,
+            real,
+            log,
+            db_file,
+            log_file,
+        })
+    }
+
+    /// Whether the names lead to these files now, after all that was written to one of them was on the disk.
+    pub(crate) fn lead_there<D: Disk, F: LogFolder>(&self, folder: &mut F, file: &D) -> bool
+        requires { Only (D.Disk.seen file.now) (D.Disk.may_leave file.now) }
+        ensures yes { IsTrue result → Sees (F.LogFolder.view folder.old) (F.LogFolder.view folder.new) (all_there (view_of self.now)) }
+        ensures no { result ≡ false → Misses (F.LogFolder.view folder.old) (F.LogFolder.view folder.new) (all_there (view_of self.now)) }
+    {
+        if !finds(folder, self.given.as_str(), Links::Followed, self.db_file, file) {
             return false;
         }
-        if !finds(folder, self.real, Links::Kept, self.db_file, file) {
+        if !finds(folder, self.real.as_str(), Links::Kept, self.db_file, file) {
             return false;
         }
-        finds(folder, self.log, Links::Kept, self.log_file, file)
+        finds(folder, self.log.as_str(), Links::Kept, self.log_file, file)
     }
 }
 

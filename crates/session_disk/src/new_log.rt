@@ -8,15 +8,15 @@ use crate::log_folder::LogFolder;
 use std::alloc::{AllocError, Global};
 use std::io;
 
-/// The log beside a database file, where the open of that file makes it.
+/// The log beside a database file, if the open of that file makes it.
 #[derive(Drop)]
 pub struct NewLog {
     path: Option<String>,
 }
 
 impl NewLog {
-    /// The log beside the file that a path leads to, before that is opened: where nothing is there, the open makes it. Refused
-    /// where the path can't be followed, or memory ran out.
+    /// The log beside the file that a path leads to, before that is opened. If nothing is there, the open makes it. Refused if the
+    /// path can't be followed, or memory ran out.
     pub(crate) fn beside<F: LogFolder>(alloc: Global, folder: &F, path: &str) -> io::Result<NewLog>
         ensures { IfOk result (λ log. IsBeside (F.view folder.now) path.now log) }
     {
@@ -29,7 +29,7 @@ impl NewLog {
         }
     }
 
-    /// Removes the log, if the open made it. Nothing that was committed may stand in it, and the files are locked still.
+    /// Removes the log, if the open made it. It must hold nothing that was committed, and the files must still be locked.
     pub(crate) fn remove<F: LogFolder>(self, folder: &mut F)
         ensures { Removes (F.view folder.old) (F.view folder.new) (paths_of self.path) }
     {
@@ -39,7 +39,7 @@ impl NewLog {
     }
 }
 
-/// The path of the log: it stands beside the database file.
+/// The path of the log, beside the database file.
 pub(crate) fn log_path(alloc: Global, path: &str) -> Result<String, AllocError>
     ensures { IfOk result (λ log. string_bytes log ≡ path.now ++ codes "-wal") }
 {

@@ -39,7 +39,7 @@ fn session_page_size() -> PageSize
     PageSize::new(PAGE_SIZE).unwrap()
 }
 
-/// Whether the files hold no database yet, which is the case before a first open and where one was cut early.
+/// Whether the files hold no database yet: before a first open, or after one that was cut early.
 fn is_blank<D: Disk>(alloc: Global, files: &mut Files<D>) -> Result<bool, OpenFault>
     requires log { IsTrue (D.Disk.is_usable files.old.log) }
     requires db { IsTrue (D.Disk.is_usable files.old.db) }
@@ -109,7 +109,7 @@ fn is_empty<D: Disk>(file: &mut D) -> io::Result<bool>
     Ok(file.len()? == 0)
 }
 
-/// The files with the tables that they are to have, or as they were where memory ran out.
+/// The files with the tables that they will have, or as they were if memory ran out.
 fn unopened<D: Disk>(alloc: Global, files: Files<D>, seed: u64) -> Result<Unopened<D>, Files<D>>
     requires log { IsTrue (D.Disk.is_usable files.log) }
     requires db { IsTrue (D.Disk.is_usable files.db) }
@@ -131,7 +131,7 @@ fn unopened<D: Disk>(alloc: Global, files: Files<D>, seed: u64) -> Result<Unopen
     }
 }
 
-/// Makes the tables where there is no database, or one with no table.
+/// Makes the tables of files without a database, or with one that has no table.
 fn make<D: Disk>(files: Unopened<D>) -> Result<FileStore<D>, (OpenFault, Unopened<D>)>
     requires unopened { IsUnopened files }
     requires whole { IsTrue (state_of files).is_clean → ¬ IsBereft (image files) }
@@ -148,7 +148,7 @@ fn make<D: Disk>(files: Unopened<D>) -> Result<FileStore<D>, (OpenFault, Unopene
     }
 }
 
-/// Opens a database. Where it has no table yet, as after a first open that was cut, they are made.
+/// Opens a database. If it has no table yet, such as after a first open that was cut, the tables are made.
 fn adopt<D: Disk>(mut files: Unopened<D>) -> Result<FileStore<D>, (OpenFault, Unopened<D>)>
     requires unopened { IsUnopened files }
     requires some { IsTrue (state_of files).is_clean → ¬ IsBlankFile page_size (image files) }
@@ -226,10 +226,10 @@ fn adopt_files<D: Disk>(
     }
 }
 
-/// Opens the log and the database file as the store of a session. Where they hold no database, or one with no table, the tables
-/// are made; they have no rows then. Files that a session left are refused only for memory, a fault of the disk or a limit of
-/// the format. An empty database file beside a log with a commit is refused, and no session's. Where files are refused they are given back: a crash then leaves those of a session as such files, and others so
-/// that they stand for what they stood for.
+/// Opens the log and the database file as the store of a session. If they hold no database, or one with no table, the tables are
+/// made; they have no rows then. Files that a session left are refused only for memory, a fault of the disk or a limit of the
+/// format. An empty database file beside a log with a commit is refused: it is no session's. Refused files are given back. A crash
+/// then leaves those of a session as files of a session, and the content of others is what it was.
 pub fn open_files<D: Disk>(
     alloc: Global,
     files: Files<D>,

@@ -7,7 +7,7 @@ ghost use Rattle.sqlite_disk.specs.Tally.{both_counts};
 ghost use Rattle.sqlite_wal.specs.Recovery.{Image};
 ghost use Rattle.sqlite_trees.specs.View.{IsClean};
 ghost use Rattle.sqlite_store.specs.FileStore.{is_shielded, state, view};
-ghost use Rattle.session_disk.specs.Faults.{path_fault, system_fault, told_fault};
+ghost use Rattle.session_disk.specs.Faults.{path_fault, system_fault, reported_fault};
 ghost use Rattle.session_file.specs.Opening.{IsFresh};
 ghost use Rattle.session_disk.specs.Named.{IsNamedBy};
 ghost use Rattle.session_disk.specs.Logs.{idle_bound, IsBeside, IsFoundIdle, IsGivenUp, Removes, RemovesOwn};
@@ -53,14 +53,14 @@ fn io_fault(error: io::Error) -> OpenFault
 }
 
 /// Opens the database file at a path, or makes it, as the store of a session, and has it for this process alone until the store
-/// is dropped. A log that this open made is removed again where it refuses the file; where the file is opened and not wanted,
+/// is dropped. A log that this open made is removed again if it refuses the file; if the file is opened and not wanted,
 /// `abandon` removes it. From then on each sync looks at the names of both files.
 pub fn open_path<S: Start, F: LogFolder + Copy>(
     rt: &HostRuntime,
     folder: &mut F,
     path: &str,
     start: S,
-) -> Result<(FileStore<NamedDisk<S, F>>, NewLog), OpenFault>
+) -> Result<(FileStore<NamedDisk<FileFrom<S>, F>>, NewLog), OpenFault>
     ensures ok { IfOk result (λ opened. IsTrue (view opened.0).is_clean → IsOpened (image_at S.Start) opened.0) }
     ensures fresh { IfOk result (λ opened. IsClean (view opened.0) → IsFresh (view opened.0)) }
     ensures left { IfOk result (λ opened. IsTrue (view opened.0).is_clean → (now : Image) → (state opened.0).may_leave now → ∥ IsSessionFile now ∥₁) }
@@ -100,7 +100,7 @@ fn named_files<S: Start, F: LogFolder + Copy>(
     folder: F,
     path: &str,
     files: Files<FileFrom<S>>,
-) -> Result<Files<NamedDisk<S, F>>, (io::Error, Files<FileFrom<S>>)>
+) -> Result<Files<NamedDisk<FileFrom<S>, F>>, (io::Error, Files<FileFrom<S>>)>
     ensures log { IfOk result (λ named. IsNamedBy F.LogFolder.view folder path.now ⟦<FileFrom<S> as Disk>⟧ files.log named.log) }
     ensures db { IfOk result (λ named. IsNamedBy F.LogFolder.view folder path.now ⟦<FileFrom<S> as Disk>⟧ files.db named.db) }
     ensures back { IfErr result (λ e. (e.1.log ≡ files.log) × (e.1.db ≡ files.db)) }
@@ -122,7 +122,7 @@ fn named_files<S: Start, F: LogFolder + Copy>(
     }
 }
 
-/// Opens the two files, with the log that the open of them made. Where they are refused they are given back, and a log that holds
+/// Opens the two files, with the log that the open of them made. If they are refused they are given back, and a log that holds
 /// nothing is removed.
 fn open_beside<D: Disk, F: LogFolder>(
     alloc: Global,
@@ -139,39 +139,39 @@ fn open_beside<D: Disk, F: LogFolder>(
     ensures guarded { IfOk result (λ opened. IsTrue (view opened.0).is_clean → is_shielded opened.0) }
     ensures log { IfOk result (λ opened. opened.1 ≡ log) }
     ensures keeps { OnOk result (Removes (F.view folder.old) (F.view folder.new) []) }
-    ensures given_up { IfErr result (λ e. (rest : Leftover D D.Disk) × (fault : OpenFault) × (IsCleanLeft rest → FailsToOpen files rest fault) × (e.0 ≡ told_fault (both_counts (D.Disk.tally_of (files_left rest).0) (D.Disk.tally_of (files_left rest).1)).refused fault)
+    ensures given_up { IfErr result (λ e. (rest : Leftover D D.Disk) × (fault : OpenFault) × (IsCleanLeft rest → FailsToOpen files rest fault) × (e.0 ≡ reported_fault (both_counts (D.Disk.tally_of (files_left rest).0) (D.Disk.tally_of (files_left rest).1)).refused fault)
         × IsGivenUp D.Disk fault (files_left rest).0 e.1.log log (F.view folder.old) (F.view folder.new)) }
 {
     match open_files(alloc, files, seed) {
         Ok(store) => Ok((store, log)),
         Err((fault, rest)) => {
             let mut files = rest.into_files();
-            let told = give_up(folder, &mut files, log, fault);
-            Err((told, files))
+            let reported = give_up(folder, &mut files, log, fault);
+            Err((reported, files))
         }
     }
 }
 
-/// Removes a log that the open made and that holds nothing, and returns what is told of a refused open. The files are locked
-/// still.
+/// Removes a log that the open made and that holds nothing, and returns the fault that a refused open reports. The files are
+/// still locked.
 fn give_up<D: Disk, F: LogFolder>(
     folder: &mut F,
     files: &mut Files<D>,
     log: NewLog,
     fault: OpenFault,
 ) -> OpenFault
-    ensures told { result ≡ told_fault (both_counts (D.Disk.tally_of files.old.log) (D.Disk.tally_of files.old.db)).refused fault }
+    ensures reported { result ≡ reported_fault (both_counts (D.Disk.tally_of files.old.log) (D.Disk.tally_of files.old.db)).refused fault }
     ensures removes { IsGivenUp D.Disk fault files.old.log files.new.log log (F.view folder.old) (F.view folder.new) }
 {
     if is_idle(&mut files.log, fault) {
         log.remove(folder);
     }
-    told_fault(fault, files.tally())
+    reported_fault(fault, files.tally())
 }
 
-/// The fault of an open: a failed call is told as Full where a write found no room.
-fn told_fault(fault: OpenFault, tally: Tally) -> OpenFault
-    ensures { result ≡ told_fault tally.refused fault }
+/// The fault that an open reports: Full for a failed call, if a write found no room.
+fn reported_fault(fault: OpenFault, tally: Tally) -> OpenFault
+    ensures { result ≡ reported_fault tally.refused fault }
 {
     match fault {
         OpenFault::Unreadable if tally.refused != 0 => OpenFault::Full,
@@ -179,7 +179,7 @@ fn told_fault(fault: OpenFault, tally: Tally) -> OpenFault
     }
 }
 
-/// A log with fewer bytes holds nothing where its files are refused for a fault.
+/// A log with fewer bytes holds nothing, if its files are refused for a fault.
 fn idle_bound(fault: OpenFault) -> usize
     ensures { result ≡ idle_bound fault }
 {

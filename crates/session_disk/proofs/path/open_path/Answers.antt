@@ -22,5 +22,5 @@ returns-in-Ok-open_beside-clause-ok g c clean =
 
 pub returns-clause-own : goal.returns-clause-own
 returns-clause-own g c =
-    let (rest, fault, why, told, up) = c.in-Err-open_beside.ensures.given_up in
+    let (rest, fault, why, shown, up) = c.in-Err-open_beside.ensures.given_up in
     removes_own (g.F.LogFolder.view c.args.folder.now) (g.F.LogFolder.view c.open_beside.new.folder) c.args.path.now c.in-Ok-beside.log up.is_idle c.in-Ok-beside.ensures up.removes
