@@ -1,7 +1,7 @@
--- What stays where a file is put at a path.
-use Rattle.std.proofs.Common.{◌≡◌, ◌⊎◌, ℕ, List, refl, inl, inr}
+-- What stays if a file is put at a path.
+use Rattle.std.proofs.Common.{◌≡◌, ◌⊎◌, ℕ, List, inl, inr}
 use Rattle.std.specs.Prelude.{Option, Some, None}
-use Rattle.system_files.specs.Entries.{AreApart, Entries, IsNewPath, KeepsBut, KeepsFile, Stays}
+use Rattle.system_files.specs.Entries.{AreApart, Entries, IsNewPath, KeepsBut, KeepsFile}
 
 at_file : (old : Entries) (new : Entries) (file out : List ℕ) → AreApart (Some old) file out → (IsNewPath out file ⊎ (file ≡ out)) ⊎ (new file ≡ old file) → KeepsFile (Some old) (Some new) file out
 at_file old new file out apart (inl (inl beside)) = inr (inl beside)
@@ -14,12 +14,3 @@ pub keeps_file : (old new : Option Entries) (file out : List ℕ) → AreApart o
 keeps_file None new file out apart kept = tt
 keeps_file (Some old) None file out apart kept = kept
 keeps_file (Some old) (Some new) file out apart kept = at_file old new file out apart (kept file)
-
--- where nothing is done all stays
-pub same_file : (entries : Option Entries) (file out : List ℕ) → KeepsFile entries entries file out
-same_file None file out = tt
-same_file (Some old) file out = inr (inr refl)
-
-pub same_entry : (entries : Option Entries) (path : List ℕ) → Stays entries entries path
-same_entry None path = tt
-same_entry (Some old) path = inr refl

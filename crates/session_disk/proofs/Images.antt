@@ -46,21 +46,11 @@ not_blank image pages found begins other now blank =
     let gate = first_byte page_size (omega arith) in
     begun_is_not_blank (sealed (first_page page_size)) first page_size other now.stored now.found is len (omega arith) (byte ∙ sym gate) (λ none. let never = sym gate ∙ none in omega arith) blank
 
--- files that stand for pages have a database file
+-- files with pages have a database file
 pub not_bereft : (size : ℕ) (image : Image) (pages : PageMap) → Recovers size image pages → ¬ IsBereft image
 not_bereft size image pages found (none, log) = let some = found.found.present in omega (arith, some, none)
 
--- nor are files that are not blank
-pub some_not_bereft : (image : Image) → ¬ IsBlankFile page_size image → ¬ IsBereft image
-some_not_bereft image some (none, log) = some (inl none)
-
--- files without their database file are no session's
-pub bereft_is_foreign : (image : Image) → IsBereft image → ¬ IsSession image
-bereft_is_foreign image bereft (inl file) = not_bereft page_size image file.pages file.found bereft
-bereft_is_foreign image bereft (inr (inl blank)) = blank.1 bereft
-bereft_is_foreign image bereft (inr (inr empty)) = not_bereft page_size image empty.0 empty.1 bereft
-
--- files of a session that are not blank stand for pages
+-- files of a session that are not blank have pages
 pub some_file : (image : Image) → IsSession image → ¬ IsBlankFile page_size image → (pages : PageMap) × Recovers page_size image pages × ((schema : List Wanted) × IsFile page_size schema pages)
 some_file image (inl file) some = (file.pages, file.found, (session_schema, file.ours.file))
 some_file image (inr (inl blank)) some = absurd (some blank.0)

@@ -43,9 +43,6 @@ module _ {D : Type 0} (g : Ghosts D) (old new : Files D) (log : OnlyReads g old.
 
 -- files that were not read
 module _ {D : Type 0} (g : Ghosts D) (files rest : Files D) (log : rest.log ≡ files.log) (db : rest.db ≡ files.db) where
-  pub still_clean : AreClean g rest.log rest.db → AreClean g files.log files.db
-  still_clean clean = subst (λ d. AreClean g files.log d) db (subst (λ l. AreClean g l rest.db) log clean)
-
   pub leaves_still : LeavesFiles {g = g} files (left.Files rest)
   leaves_still = only_reads _ _ _ (λ now may. (subst (λ l. g.may_leave l now.log) log may.0, subst (λ d. g.may_leave d now.db) db may.1))
 

@@ -17,7 +17,6 @@ pub use fault::OpenFault;
 pub use leftover::Leftover;
 pub use log_folder::{FileNumber, Links, LogFolder, SystemFolder};
 pub use named_disk::NamedDisk;
-pub use names::Names;
 pub use new_log::NewLog;
 pub use opening::open_files;
 pub use path::open_path;

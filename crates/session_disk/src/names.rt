@@ -14,7 +14,7 @@ use std::io;
 
 /// The names of a session's two files, and which files they led to right after the open.
 #[derive(Drop)]
-pub struct Names {
+pub(crate) struct Names {
     /// The path of the database file, as it was given.
     given: String,
     /// The path that it led to.
