@@ -59,7 +59,13 @@ impl Names {
         ensures yes { IsTrue result → Sees (F.LogFolder.view folder.old) (F.LogFolder.view folder.new) (all_there (view_of self.now)) }
         ensures no { result ≡ false → Misses (F.LogFolder.view folder.old) (F.LogFolder.view folder.new) (all_there (view_of self.now)) }
     {
-        if !finds(folder, self.given.as_str(), Links::Followed, self.db_file, file) {
+        if !finds(
+            folder,
+            self.given.as_str(),
+            Links::Followed,
+            self.db_file,
+            file,
+        ) {
             return false;
         }
         if !finds(folder, self.real.as_str(), Links::Kept, self.db_file, file) {
