@@ -9,7 +9,7 @@ import time
 from collections.abc import Sequence
 from pathlib import Path
 
-from gate import authors, commands, examples, library, nodes, outside, pages, products, rows, scheduling, sessions, stumbles
+from gate import authors, commands, examples, frames, large, library, many, nodes, outside, pages, products, rows, scheduling, sessions, stumbles, tables
 from gate.calls import tool_words
 from gate.cases import TOP, Case, Setting
 from gate.scheduling import Outcome
@@ -22,7 +22,7 @@ SLOWNESS = 8
 
 def all_cases() -> list[Case]:
     """All cases. No two have one name."""
-    groups = (authors, commands, examples, rows, products, stumbles, sessions, nodes, outside, library, pages)
+    groups = (authors, commands, tables, many, large, examples, rows, products, stumbles, sessions, frames, nodes, outside, library, pages)
     return [case for group in groups for case in group.cases()]
 
 

@@ -13,16 +13,11 @@ use std::test::Fail;
 /// The gas limit of each call of `job_of_inputs`.
 const GAS: u32 = 1000;
 
-/// The image of a file.
-pub fn image_of(alloc: Global, file: &[u8]) -> Result<Arc<Image>, Fail> {
-    let image = load(alloc, file)?;
-    Ok(Arc::new(alloc, image)?)
-}
-
 /// The image of a program.
-fn image_of_words(alloc: Global, words: &[u32]) -> Result<Arc<Image>, Fail> {
+pub fn image_of(alloc: Global, words: &[u32]) -> Result<Arc<Image>, Fail> {
     let file = elf_of(alloc, words)?;
-    image_of(alloc, file.as_slice())
+    let image = load(alloc, file.as_slice())?;
+    Ok(Arc::new(alloc, image)?)
 }
 
 /// A call of an image with an input.
@@ -31,19 +26,14 @@ fn call_of_image(alloc: Global, image: &Arc<Image>, input: &[u8]) -> Result<Call
     Ok(Call::new(Arc::try_clone(image)?, GAS, input)?)
 }
 
-/// A job of calls of one image, each with its input, over an empty storage.
-pub fn job_of_image(alloc: Global, image: &Arc<Image>, inputs: &[&[u8]]) -> Result<Job, Fail> {
-    let mut calls = Vec::new(alloc);
-    for input in inputs {
-        calls.push(call_of_image(alloc, image, input)?)?;
-    }
-    Ok(Job::new(calls, Store::new(alloc))?)
-}
-
 /// A job of calls of one program, each with its input, over an empty storage.
 pub fn job_of_inputs(alloc: Global, words: &[u32], inputs: &[&[u8]]) -> Result<Job, Fail> {
-    let image = image_of_words(alloc, words)?;
-    job_of_image(alloc, &image, inputs)
+    let image = image_of(alloc, words)?;
+    let mut calls = Vec::new(alloc);
+    for input in inputs {
+        calls.push(call_of_image(alloc, &image, input)?)?;
+    }
+    Ok(Job::new(calls, Store::new(alloc))?)
 }
 
 /// The call of a line.
@@ -54,7 +44,7 @@ fn call_of_line(alloc: Global, programs: &[&[u32]], line: CallLine) -> Result<Ca
         input,
     } = line;
     let words = programs.get(program).copied().unwrap_or(&[]);
-    Ok(Call::new(image_of_words(alloc, words)?, gas, input)?)
+    Ok(Call::new(image_of(alloc, words)?, gas, input)?)
 }
 
 /// The calls of lines.

@@ -1,7 +1,6 @@
 //! A block whose run by threads is refused, since the arena is full.
 
 use crate::calls::image_of;
-use crate::sources::assembled;
 use rv_ledger::{Call, Job, Store};
 use std::alloc::Global;
 use std::sync::atomic::{AtomicU64, Ordering};
@@ -11,12 +10,32 @@ use std::thread::{Threads, yield_now};
 use workers::{Executor, Gate, RunFault};
 
 /// Reads the keys 0 to 4, and writes an empty value at each key from the first word of its input on, up to the second.
-const FLOOD: &str = "addi s0,sp,-64\nlw s1,0(a0)\nlw s2,4(a0)\naddi s3,x0,0\naddi s4,x0,5\n\
-    read: sw s3,28(s0)\naddi a0,s0,0\naddi a1,s0,0\naddi a2,x0,0\naddi a7,x0,0\necall\n\
-    addi s3,s3,1\nbne s3,s4,read\n\
-    write: sw s1,28(s0)\naddi a0,s0,0\naddi a1,s0,0\naddi a2,x0,0\naddi a7,x0,1\necall\n\
-    addi s1,s1,1\nbne s1,s2,write\n\
-    addi a1,x0,0\naddi a7,x0,3\necall\n";
+const FLOOD: &[u32] = &[
+    0xfc01_0413, // addi x8,x2,-64
+    0x0005_2483, // lw x9,0(x10)
+    0x0045_2903, // lw x18,4(x10)
+    0x0000_0993, // addi x19,x0,0
+    0x0050_0a13, // addi x20,x0,5
+    0x0134_2e23, // sw x19,28(x8)
+    0x0004_0513, // addi x10,x8,0
+    0x0004_0593, // addi x11,x8,0
+    0x0000_0613, // addi x12,x0,0
+    0x0000_0893, // addi x17,x0,0
+    0x0000_0073, // ecall
+    0x0019_8993, // addi x19,x19,1
+    0xff49_92e3, // bne x19,x20,-28
+    0x0094_2e23, // sw x9,28(x8)
+    0x0004_0513, // addi x10,x8,0
+    0x0004_0593, // addi x11,x8,0
+    0x0000_0613, // addi x12,x0,0
+    0x0010_0893, // addi x17,x0,1
+    0x0000_0073, // ecall
+    0x0014_8493, // addi x9,x9,1
+    0xff24_92e3, // bne x9,x18,-28
+    0x0000_0593, // addi x11,x0,0
+    0x0030_0893, // addi x17,x0,3
+    0x0000_0073, // ecall
+];
 
 /// The gas limit of each call.
 const GAS: u32 = 200_000;
@@ -94,8 +113,7 @@ impl Gate for Rounds {
 
 /// Calls that write the keys 0 to 4, and a thousand calls of 256 writes.
 fn flood(alloc: Global) -> Result<Job, Fail> {
-    let file = assembled(alloc, &mut FLOOD.as_bytes())?;
-    let image = image_of(alloc, file.as_slice())?;
+    let image = image_of(alloc, FLOOD)?;
     let mut calls = Vec::new(alloc);
     for call in 0..WORKERS + ROUND as u32 {
         let (first, end) = if call < WORKERS {

@@ -4,12 +4,9 @@
 ghost use Rattle.std.specs.Prelude.{◌≡◌, ◌≤◌, All, IfOk};
 ghost use Rattle.workers.specs.DoneCell.{IsPassOf};
 
-use crate::asserts::{assert_right, has_pieces};
 use crate::blocks::{forty_count_lines, is_forty_counts};
-use crate::calls::{image_of, job_of, job_of_image, text_in_order, text_of};
-use crate::rows::{COUNT, ECHO, LATE_WRITER, READ_OF_ABSENCE, Row, WITHDRAWN_WRITE};
-use crate::sizes::result_of_echoes;
-use crate::sources::assembled;
+use crate::calls::{job_of, text_in_order, text_of};
+use crate::rows::{COUNT, ECHO};
 use rv_ledger::{Counts, Job};
 use std::alloc::Global;
 use std::marker::Brand;
@@ -31,43 +28,20 @@ const ONE_ECHO: &str = "call 0 100 0102\n";
 
 const TWO_ECHOES: &str = "call 0 100 0102\ncall 0 100 0102\n";
 
+/// What two echoes print.
+const TWO_RESULTS: &str = "call 0 returned gas 13 pc 00010004 out 0102\n\
+    regs 00000000 00000000 00110000 00000000 00000000 00000000 00000000 00000000 \
+    00000000 00000000 00100000 00000002 00000000 00000000 00000000 00000000 \
+    00000000 00000003 00000000 00000000 00000000 00000000 00000000 00000000 \
+    00000000 00000000 00000000 00000000 00000000 00000000 00000000 00000000\n\
+    call 1 returned gas 13 pc 00010004 out 0102\n\
+    regs 00000000 00000000 00110000 00000000 00000000 00000000 00000000 00000000 \
+    00000000 00000000 00100000 00000002 00000000 00000000 00000000 00000000 \
+    00000000 00000003 00000000 00000000 00000000 00000000 00000000 00000000 \
+    00000000 00000000 00000000 00000000 00000000 00000000 00000000 00000000\n\
+    end\n";
+
 const THREE_ECHOES: &str = "call 0 1000 -\ncall 0 1000 01\ncall 0 1000 0102\n";
-
-/// Counts up a word of its data, and returns it.
-const TOUCH: &str =
-    "li t0,cell\nlw t1,0(t0)\naddi t1,t1,1\nsw t1,0(t0)\naddi a0,t0,0\naddi a1,x0,4\n\
-    addi a7,x0,3\necall\n.data\ncell: .word 7\n";
-
-/// The ends of two echoes.
-const TWO_ENDS: &[&str] = &[
-    "call 0 returned gas 13 pc 00010004 out 0102\n",
-    "call 1 returned gas 13 pc 00010004 out 0102\n",
-];
-
-/// Blocks that two threads run.
-const BLOCKS: &[Row] = &[
-    Row {
-        name: "echo",
-        programs: &[ECHO],
-        lines: ONE_ECHO,
-        pieces: &["call 0 returned gas 13 pc 00010004 out 0102\n"],
-    },
-    Row {
-        name: "two_at_once",
-        programs: &[ECHO],
-        lines: TWO_ECHOES,
-        pieces: TWO_ENDS,
-    },
-    Row {
-        name: "three_echoes",
-        programs: &[ECHO],
-        lines: THREE_ECHOES,
-        pieces: &["call 2 returned gas 13 pc 00010004 out 0102\n"],
-    },
-    LATE_WRITER,
-    READ_OF_ABSENCE,
-    WITHDRAWN_WRITE,
-];
 
 /// The text of the outcome of a job that so many workers run.
 fn run_text<R: Threads + Wait + Sync>(
@@ -102,51 +76,6 @@ fn forty_counts_by_threads(rt: HostRuntime) -> Result<(), Fail> {
         assert!(rt; are_counted(&rt, rt.alloc(), &mut executor, workers)?);
         assert!(rt; are_counted(&rt, rt.alloc(), &mut executor, workers)?);
     }
-    Ok(())
-}
-
-/// Whether two workers come to what the calls of a row come to in order, and its pieces are there.
-fn is_row<R: Threads + Wait + Sync>(
-    rt: &R,
-    alloc: Global,
-    executor: &mut Executor,
-    row: &Row,
-) -> Result<bool, Fail> {
-    let job = job_of(alloc, row.programs, row.lines)?;
-    let wanted = text_in_order(alloc, &job)?;
-    let text = run_text(rt, alloc, executor, job, 2)?;
-    Ok(text.as_str() == wanted.as_str() && has_pieces(text.as_bytes(), row.pieces))
-}
-
-#[test]
-fn answers_ok(rt: HostRuntime) -> Result<(), Fail> {
-    let mut executor = Executor::new(rt.alloc());
-    for row in BLOCKS {
-        let is_right = is_row(&rt, rt.alloc(), &mut executor, row)?;
-        assert_right(&rt, is_right, row.name);
-    }
-    Ok(())
-}
-
-/// The input of each call of TOUCH.
-const NO_INPUT: &[u8] = b"";
-
-/// A job of eight calls of TOUCH, which share its image.
-fn touch_job(alloc: Global) -> Result<Job, Fail> {
-    let file = assembled(alloc, &mut TOUCH.as_bytes())?;
-    let image = image_of(alloc, file.as_slice())?;
-    job_of_image(alloc, &image, &[NO_INPUT; 8])
-}
-
-/// What a call of TOUCH ends as.
-const TOUCHED: &str = " returned gas 24 pc 00010020 out 08000000\n";
-
-/// Calls of one program share its pages, and none sees what another wrote to its own.
-#[test]
-fn eight_touches(rt: HostRuntime) -> Result<(), Fail> {
-    let job = touch_job(rt.alloc())?;
-    let text = run_text(&rt, rt.alloc(), &mut Executor::new(rt.alloc()), job, 4)?;
-    assert!(rt; has_pieces(text.as_bytes(), &[TOUCHED; 8]));
     Ok(())
 }
 
@@ -372,8 +301,7 @@ fn echo_at_gate<R: Threads + Wait + Sync>(
     let job = job_of(alloc, &[ECHO], TWO_ECHOES)?;
     let outcome = executor.run_block_with(rt, alloc, job, 2, &gate)?;
     let text = text_of(alloc, &outcome)?;
-    let wanted = result_of_echoes(alloc, 2)?;
-    Ok((text.as_str() == wanted.as_str(), gate.is_met()))
+    Ok((text.as_str() == TWO_RESULTS, gate.is_met()))
 }
 
 #[test]

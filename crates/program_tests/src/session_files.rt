@@ -1,0 +1,84 @@
+//! Sessions one after another over one file: the second goes on where a cut of the power ended the first.
+
+use crate::answers::{Answer, answer_over};
+use crate::fake_disk::Stored;
+use crate::fake_stores::FakeStores;
+use std::alloc::{AllocError, Global};
+use std::sync::Wait;
+use std::test::Fail;
+use std::thread::Threads;
+
+/// What a frame is answered that has no call.
+pub const DONE: &str = "\
+    ok 4\n\
+    end\n";
+
+/// A frame of one entry.
+pub const PUT_ONE: &str = "\
+    frame 84\n\
+    rvblock 1\n\
+    store 0000000000000000000000000000000000000000000000000000000000000009 0a\n";
+
+/// What a frame of no bytes is answered.
+const NO_HEADER: &str = "refused block 1 BadHeader 1\n";
+
+/// What a session with options is answered over a file.
+pub fn answer_in<R: Threads + Wait + Sync>(
+    rt: &R,
+    alloc: Global,
+    stores: &mut FakeStores,
+    options: &str,
+    input: &[u8],
+) -> Result<Answer, AllocError> {
+    let line = format!(in alloc; "rvstm chain{options} --store f")?;
+    let stored = Stored::new(alloc, usize::MAX);
+    let mut input = input;
+    let mut out = Vec::new(alloc);
+    let mut errors = Vec::new(alloc);
+    let status = answer_over(
+        rt,
+        alloc,
+        line.as_str().as_bytes(),
+        &stored,
+        stores,
+        &mut input,
+        &mut out,
+        &mut errors,
+    );
+    Ok(Answer {
+        status,
+        out,
+        errors,
+    })
+}
+
+/// What the next session over the file is asked: the last answer, and the storage.
+const NEXT: &[u8] = b"\
+    last\n\
+    list 0000000000000000000000000000000000000000000000000000000000000000 9\n";
+
+/// What it answers after a frame of one entry and a frame of no bytes.
+const KEPT: &str = "\
+    refused block 1 BadHeader 1\n\
+    ok 74\n\
+    store 0000000000000000000000000000000000000000000000000000000000000009 0a\n";
+
+/// Whether the next session over a file goes on after two frames, if the first one ended by a cut of the power.
+fn goes_on<R: Threads + Wait + Sync>(rt: &R, alloc: Global) -> Result<bool, AllocError> {
+    let mut stores = FakeStores::new(alloc);
+    let mut input = Vec::new(alloc);
+    input.extend_from_slice(PUT_ONE.as_bytes())?;
+    input.extend_from_slice(b"frame 0\n")?;
+    let mut first = Vec::new(alloc);
+    if !stores.answer_cut_off(input.as_slice(), &mut first) {
+        return Ok(false);
+    }
+    let next = answer_in(rt, alloc, &mut stores, "", NEXT)?;
+    Ok(first.as_slice().ends_with(NO_HEADER.as_bytes()) && next.is(0, KEPT, ""))
+}
+
+#[test]
+fn a_session_goes_on_behind_a_power_cut(rt: HostRuntime) -> Result<(), Fail> {
+    assert!(rt; goes_on(&rt, rt.alloc())?);
+    Ok(())
+}
