@@ -1,7 +1,6 @@
 //! The calls of cmdline.
 
 use crate::asserts::assert_right;
-use clap::Error;
 use cmdline::{Request, request_of};
 use std::alloc::{AllocError, Global};
 use std::process::Abort;
@@ -164,95 +163,6 @@ fn is_request(alloc: Global, line: &str, asked: &Request<'_>) -> Result<bool, Al
 fn reads_lines(rt: HostRuntime) -> Result<(), AllocError> {
     for (line, asked) in LINES {
         let is_right = is_request(rt.alloc(), line, asked)?;
-        assert_right(&rt, is_right, line);
-    }
-    Ok(())
-}
-
-/// The error that a line is answered with; None where it is a request.
-fn error_of(alloc: Global, line: &str) -> Result<Option<Error>, AllocError> {
-    let words = words_of(alloc, line)?;
-    Ok(request_of(alloc, words.as_slice()).err())
-}
-
-/// Whether a line is refused on standard error.
-fn is_wrong(alloc: Global, line: &str) -> Result<bool, AllocError> {
-    Ok(match error_of(alloc, line)? {
-        Some(error) => error.use_stderr(),
-        None => false,
-    })
-}
-
-/// Lines that are refused.
-const WRONG_LINES: &[&str] = &[
-    "rvstm",
-    "rvstm sec a.block",
-    "rvstm seq",
-    "rvstm seq a.block b.block",
-    "rvstm seq --fast a.block",
-    "rvstm asm a.s",
-    "rvstm asm --out a.elf",
-    "rvstm dis",
-    "rvstm dis a.elf --out b",
-    "rvstm run a.block",
-    "rvstm run a.block --workers 0",
-    "rvstm run a.block --workers 33",
-    "rvstm run a.block --workers 2 --call 0",
-    "rvstm debug a.block",
-    "rvstm debug a.block --call 1024",
-    "rvstm debug a.block --call -1",
-    "rvstm debug a.block --workers 2",
-    "rvstm drive a.block --workers 2",
-    "rvstm drive a.block --schedule b.schedule",
-    "rvstm drive --workers 2 --schedule b.schedule",
-    "rvstm drive a.block --workers 0 --schedule b.schedule",
-    "rvstm drive a.block --workers 33 --schedule b.schedule",
-    "rvstm drive a.block --workers -1 --schedule b.schedule",
-    "rvstm drive a.block --workers two --schedule b.schedule",
-    "rvstm drive a.block --workers 2 --workers 2 --schedule b.schedule",
-    "rvstm chain --frame-gas 10000000000",
-    "rvstm chain --digest --digest",
-    "rvstm chain --store",
-    "rvstm chain --store --brief",
-    "rvstm chain --store=",
-    "rvstm chain --store ",
-    "rvstm chain --store a --store a",
-    "rvstm seq a.block --store a",
-];
-
-#[test]
-fn refuses_wrong_lines(rt: HostRuntime) -> Result<(), AllocError> {
-    for line in WRONG_LINES {
-        let is_right = is_wrong(rt.alloc(), line)?;
-        assert_right(&rt, is_right, line);
-    }
-    Ok(())
-}
-
-/// Lines that ask for help or the version, each with a part of the answer.
-const HELPS: &[(&str, &str)] = &[
-    ("rvstm --help", "Executes blocks"),
-    ("rvstm help seq", "The block file"),
-    ("rvstm seq --help", "The block file"),
-    ("rvstm drive --help", "--workers <N>"),
-    ("rvstm debug --help", "--call <N>"),
-    ("rvstm chain --help", "--store <FILE>"),
-    ("rvstm --version", "rvstm 0.2.0"),
-];
-
-/// Whether a line is answered on standard output, by a text with this part.
-fn is_help(alloc: Global, line: &str, part: &str) -> Result<bool, AllocError> {
-    let Some(error) = error_of(alloc, line)? else {
-        return Ok(false);
-    };
-    let text = format!(in alloc; "{error}")?;
-    Ok(!error.use_stderr() && text.contains(part))
-}
-
-#[test]
-fn answers_requests_for_help(rt: HostRuntime) -> Result<(), AllocError> {
-    for (line, part) in HELPS {
-        let is_right = is_help(rt.alloc(), line, part)?;
         assert_right(&rt, is_right, line);
     }
     Ok(())

@@ -1,6 +1,5 @@
 //! The calls of elf32.
 
-use crate::asserts::assert_right;
 use crate::program_file::ECHO;
 use elf32::*;
 use rv_mem::Memory;
@@ -21,35 +20,6 @@ const TWO_SEGMENTS: [u8; 124] = [
     0, 0, 0, 0, 0, 0x10, 0, 0, 6, 0, 0, 0, 4, 0, 0, 0, // p_filesz to p_align
     0x93, 0x08, 0x30, 0, 0x73, 0, 0, 0, // text
 ];
-
-// Why `load` refuses the bytes, if it does.
-fn refusal(alloc: Global, bytes: &[u8]) -> Option<ElfError> {
-    match load(alloc, bytes) {
-        Ok(_) => None,
-        Err(error) => Some(error),
-    }
-}
-
-// The file with the bytes at these places replaced.
-fn changed(alloc: Global, file: &[u8], changes: &[(usize, u8)]) -> Result<Vec<u8>, AllocError> {
-    let mut bytes = Vec::from_slice(alloc, file)?;
-    for (at, byte) in changes {
-        if *at < bytes.len() {
-            bytes[*at] = *byte;
-        }
-    }
-    Ok(bytes)
-}
-
-// Why `load` refuses the file with the bytes at these places replaced, if it does.
-fn refusal_of_changed(
-    alloc: Global,
-    file: &[u8],
-    changes: &[(usize, u8)],
-) -> Result<Option<ElfError>, Fail> {
-    let bytes = changed(alloc, file, changes)?;
-    Ok(refusal(alloc, &bytes))
-}
 
 // Whether a segment has this place and this size, and these bytes in the file.
 fn is_segment(segment: &Segment, address: u32, size: u32, content: &[u8]) -> bool {
@@ -90,34 +60,6 @@ fn echo_loads(rt: HostRuntime) -> Result<(), Fail> {
     Ok(())
 }
 
-// Why `load` refuses a file of so many bytes: one that ends within the headers, or within the text.
-fn fault_of_length(len: usize) -> ElfError {
-    if len < 84 {
-        ElfError::Truncated
-    } else {
-        ElfError::SegmentRange
-    }
-}
-
-#[test]
-fn short_files(rt: HostRuntime) -> Result<(), Fail> {
-    assert!(rt; refusal(rt.alloc(), &ECHO[..51]) == Some(ElfError::Truncated));
-    let no_headers = refusal_of_changed(rt.alloc(), &ECHO[..52], &[(44, 0)])?;
-    assert!(rt; no_headers == Some(ElfError::BadCount));
-    Ok(())
-}
-
-#[test]
-fn malicious_files(rt: HostRuntime) -> Result<(), Fail> {
-    for len in 0..92 {
-        assert!(rt; refusal(rt.alloc(), &ECHO[..len]) == Some(fault_of_length(len)));
-    }
-    let far_table = &[(28, 0xff), (29, 0xff), (30, 0xff), (31, 0xff)];
-    let far_table = refusal_of_changed(rt.alloc(), &ECHO, far_table)?;
-    assert!(rt; far_table == Some(ElfError::Truncated));
-    Ok(())
-}
-
 // Whether the second of two segments is this one.
 fn is_second(segments: &[Segment], address: u32, size: u32, content: &[u8]) -> bool {
     match segments {
@@ -145,101 +87,6 @@ fn memory_only_segment(rt: HostRuntime) -> Result<(), Fail> {
     assert!(rt; is_zero(rt.alloc(), &image)?);
     assert!(rt; is_second(image.segments(), 0x000f_f000, 4096, &[]));
     assert!(rt; word_count(rt.alloc(), &image)? == 2);
-    let longer = refusal_of_changed(rt.alloc(), &TWO_SEGMENTS, &[(104, 1)])?;
-    assert!(rt; longer == Some(ElfError::SegmentRange));
-    Ok(())
-}
-
-// Rows of a place in `ECHO`, the byte that is put there, and why `load` refuses the file.
-const CHANGES: &[(usize, u8, Option<ElfError>)] = &[
-    (0, 0x7e, Some(ElfError::BadMagic)),
-    (3, 0x47, Some(ElfError::BadMagic)),
-    (4, 2, Some(ElfError::BadClassOrData)),
-    (5, 2, Some(ElfError::BadClassOrData)),
-    (6, 0, Some(ElfError::BadVersion)),
-    (7, 9, None), // ignored
-    (16, 3, Some(ElfError::NotExec)),
-    (18, 0xf2, Some(ElfError::NotRiscv)),
-    (20, 2, Some(ElfError::BadVersion)),
-    (24, 4, None), // the last word
-    (24, 2, Some(ElfError::BadEntry)),
-    (24, 8, Some(ElfError::BadEntry)),
-    (25, 0x80, Some(ElfError::BadEntry)),
-    (32, 1, None), // e_shoff
-    (36, 1, Some(ElfError::BadFlags)),
-    (40, 51, Some(ElfError::BadHeaderSize)),
-    (42, 31, Some(ElfError::BadHeaderSize)),
-    (44, 0, Some(ElfError::BadCount)),
-    (44, 2, Some(ElfError::Truncated)),
-    (44, 9, Some(ElfError::BadCount)),
-    (52, 2, Some(ElfError::BadType)),
-    (52, 0, Some(ElfError::BadEntry)), // PT_NULL: no segment
-    (56, 0x55, Some(ElfError::SegmentRange)),
-    (62, 0, Some(ElfError::SegmentRange)),
-    (62, 0x10, Some(ElfError::SegmentRange)),
-    (64, 1, None), // p_paddr
-    (68, 9, Some(ElfError::SegmentRange)),
-    (72, 7, Some(ElfError::SegmentRange)),
-    (76, 1, None), // PF_X alone
-    (76, 4, Some(ElfError::BadEntry)),
-    (76, 13, None), // another bit
-    (76, 7, Some(ElfError::WriteExecute)),
-    (80, 1, None), // p_align
-];
-
-#[test]
-fn one_field_changed(rt: HostRuntime) -> Result<(), Fail> {
-    for (at, byte, expected) in CHANGES {
-        let refusal = refusal_of_changed(rt.alloc(), &ECHO, &[(*at, *byte)])?;
-        assert!(rt; refusal == *expected, "{byte} at {at}");
-    }
-    Ok(())
-}
-
-// Rows of bytes that are put at places of `TWO_SEGMENTS`, and why `load` refuses the file.
-const SEGMENT_CHANGES: &[(&[(usize, u8)], Option<ElfError>)] = &[
-    // the second segment at 0x00010000, 0x00010f00 and 0x00011000
-    (
-        &[(93, 0x00), (94, 0x01), (95, 0)],
-        Some(ElfError::PageShared),
-    ),
-    (
-        &[(93, 0x0f), (94, 0x01), (95, 0)],
-        Some(ElfError::PageShared),
-    ),
-    (&[(93, 0x10), (94, 0x01), (95, 0)], None),
-    // the first at 0x000fff00
-    (
-        &[(61, 0xff), (62, 0x0f), (63, 0)],
-        Some(ElfError::SegmentOrder),
-    ),
-    // the second with p_memsz 0: it has no byte, but its range, order and rights are checked
-    (&[(93, 0x00), (94, 0x01), (105, 0)], None),
-    (
-        &[(93, 0xff), (94, 0x00), (105, 0)],
-        Some(ElfError::SegmentRange),
-    ),
-    (&[(88, 0x7c), (89, 0x00), (105, 0)], None),
-    (
-        &[(88, 0x7d), (89, 0x00), (105, 0)],
-        Some(ElfError::SegmentRange),
-    ),
-    (
-        &[(61, 0xff), (62, 0x0f), (105, 0)],
-        Some(ElfError::SegmentOrder),
-    ),
-    (
-        &[(108, 7), (109, 0), (105, 0)],
-        Some(ElfError::WriteExecute),
-    ),
-];
-
-#[test]
-fn two_segments_changed(rt: HostRuntime) -> Result<(), Fail> {
-    for (changes, expected) in SEGMENT_CHANGES {
-        let refusal = refusal_of_changed(rt.alloc(), &TWO_SEGMENTS, changes)?;
-        assert!(rt; refusal == *expected, "{changes:?}");
-    }
     Ok(())
 }
 
@@ -311,33 +158,5 @@ fn write_refusal(alloc: Global, program: &Program) -> Option<ElfError> {
 fn no_text(rt: HostRuntime) -> Result<(), Fail> {
     let program = program(rt.alloc(), &[], &[1])?;
     assert!(rt; write_refusal(rt.alloc(), &program) == Some(ElfError::BadEntry));
-    Ok(())
-}
-
-const TEXTS: &[(ElfError, &str)] = &[
-    (ElfError::Truncated, "Truncated 1"),
-    (ElfError::BadMagic, "BadMagic 2"),
-    (ElfError::BadClassOrData, "BadClassOrData 3"),
-    (ElfError::BadVersion, "BadVersion 4"),
-    (ElfError::NotExec, "NotExec 5"),
-    (ElfError::NotRiscv, "NotRiscv 6"),
-    (ElfError::BadFlags, "BadFlags 7"),
-    (ElfError::BadHeaderSize, "BadHeaderSize 8"),
-    (ElfError::BadCount, "BadCount 9"),
-    (ElfError::BadType, "BadType 10"),
-    (ElfError::SegmentRange, "SegmentRange 11"),
-    (ElfError::SegmentOrder, "SegmentOrder 12"),
-    (ElfError::PageShared, "PageShared 13"),
-    (ElfError::WriteExecute, "WriteExecute 14"),
-    (ElfError::BadEntry, "BadEntry 15"),
-    (ElfError::Memory, "Memory 16"),
-];
-
-#[test]
-fn texts(rt: HostRuntime) -> Result<(), Fail> {
-    for (error, expected) in TEXTS {
-        let text = format!(in rt.alloc(); "{error}")?;
-        assert_right(&rt, text.as_str() == *expected, expected);
-    }
     Ok(())
 }

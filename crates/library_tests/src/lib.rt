@@ -1,5 +1,5 @@
-//! Tests of the public calls of the libraries, each library's in a file of its own. They stand here, and not in
-//! those crates, since a crate with tests is proved twice. They stand in one crate, since each crate of tests
+//! Tests of the public calls of the libraries, each library's in a file of its own. They are here, and not in
+//! those crates, since a crate with tests is proved twice. They are in one crate, since each crate of tests
 //! reads all that its calls' clauses cite.
 #![tactic(auto)]
 
@@ -11,8 +11,6 @@ mod block_file_calls;
 mod byte_streams_calls;
 #[cfg(test)]
 mod cmdline_calls;
-#[cfg(test)]
-mod disassembler_calls;
 #[cfg(test)]
 mod ecalls_calls;
 #[cfg(test)]
@@ -44,11 +42,7 @@ mod rv_program_calls;
 #[cfg(test)]
 mod rv_text_calls;
 #[cfg(test)]
-mod second_format;
-#[cfg(test)]
 mod source_lines;
-#[cfg(test)]
-mod texts;
 #[cfg(test)]
 mod validate_calls;
 #[cfg(test)]

@@ -1,19 +1,10 @@
 //! Worked sources.
 
 use crate::asserts::assert_right;
-use crate::texts::around;
-use rv_text::{AsmCause, assemble, disassemble};
+use rv_text::{assemble, disassemble};
 use std::alloc::{AllocError, Global};
 use std::process::Abort;
 use std::test::Fail;
-
-/// The line and the cause of a source's fault, if it has one.
-fn refusal(alloc: Global, source: &str) -> Option<(usize, AsmCause)> {
-    match assemble(alloc, source) {
-        Ok(_) => None,
-        Err(fault) => Some((fault.line, fault.cause)),
-    }
-}
 
 /// Whether a source has these text words and data bytes.
 fn gives(alloc: Global, source: &str, text: &[u32], bytes: &[u8]) -> bool {
@@ -21,17 +12,6 @@ fn gives(alloc: Global, source: &str, text: &[u32], bytes: &[u8]) -> bool {
         Ok(program) => program.text() == text && program.data() == bytes,
         Err(_) => false,
     }
-}
-
-/// The line and the cause of the fault of `before`, then `nop` in `count` lines, then `after`.
-fn refusal_around(
-    alloc: Global,
-    before: &str,
-    count: usize,
-    after: &str,
-) -> Result<Option<(usize, AsmCause)>, AllocError> {
-    let source = around(alloc, before, "nop\n", count, after)?;
-    Ok(refusal(alloc, source.as_str()))
 }
 
 /// A source, its text words and its data bytes.
@@ -108,81 +88,6 @@ fn worked_sources(rt: HostRuntime) {
         let is_right = gives(rt.alloc(), row.source, row.text, row.bytes);
         assert_right(&rt, is_right, row.name);
     }
-}
-
-const FAULTS: &[(&str, Option<(usize, AsmCause)>)] = &[
-    (".data\naddi x1,x0,1", Some((2, AsmCause::BadOperand))),
-    ("addi x1,x0,2048", Some((1, AsmCause::ImmediateRange))),
-    ("j nowhere", Some((1, AsmCause::UnknownLabel))),
-    ("a:\na:", Some((2, AsmCause::DuplicateLabel))),
-    ("j nowhere\nfoo", Some((2, AsmCause::UnknownMnemonic))),
-    (".data\n.zero 61440\n.byte 1", Some((3, AsmCause::TooLarge))),
-];
-
-const READINGS: &[(&str, Option<(usize, AsmCause)>)] = &[
-    // A label belongs to the section before its line's directive.
-    ("x: .data\n.word 1\n.text\nbeq x0,x0,x", None),
-    (
-        ".data\nx: .text\nbeq x0,x0,x",
-        Some((3, AsmCause::LabelRange)),
-    ),
-    // The label is what comes before the first colon.
-    ("a : nop", Some((1, AsmCause::BadOperand))),
-    ("a: \t nop", None),
-    // Of several causes on one line the least number is reported.
-    ("1a: foo", Some((1, AsmCause::UnknownMnemonic))),
-    ("1a: nop", Some((1, AsmCause::BadOperand))),
-    ("a: a: nop", Some((1, AsmCause::UnknownMnemonic))),
-    ("a:\na: foo", Some((2, AsmCause::UnknownMnemonic))),
-    (
-        "a:\na: addi x1,x0,2048",
-        Some((2, AsmCause::ImmediateRange)),
-    ),
-    (
-        "a:\n.data\n.zero 61440\na: .byte 1",
-        Some((4, AsmCause::DuplicateLabel)),
-    ),
-    // CR is not a blank, and letters keep their case.
-    ("nop\r\nnop", Some((1, AsmCause::UnknownMnemonic))),
-    ("NOP", Some((1, AsmCause::UnknownMnemonic))),
-    ("a:\nA: j a", None),
-    ("mv X1,x2", Some((1, AsmCause::BadOperand))),
-    // Only a decimal may have a sign, and it has at most ten digits.
-    ("addi x1,x0,-0x1", Some((1, AsmCause::BadOperand))),
-    ("addi x1,x0,-0", None),
-    ("addi x1,x0,00000000001", Some((1, AsmCause::BadOperand))),
-    ("addi x1,x0,0000000001", None),
-    // Odd distances, as numbers and to labels.
-    ("beq x0,x0,3", Some((1, AsmCause::ImmediateRange))),
-    ("j 3", Some((1, AsmCause::ImmediateRange))),
-    (
-        "j odd\n.data\n.byte 1\nodd: .byte 2",
-        Some((1, AsmCause::LabelRange)),
-    ),
-    ("j even\n.data\n.byte 1\n.byte 2\neven: .word 3", None),
-    ("j x1", Some((1, AsmCause::UnknownLabel))),
-    ("x1: j x1", None),
-    // Two empty operands, and the most zeros that can be written.
-    (".text ,", Some((1, AsmCause::BadOperand))),
-    (".data\n.zero 65536", Some((2, AsmCause::TooLarge))),
-    (".data\n.zero 65537", Some((2, AsmCause::ImmediateRange))),
-];
-
-#[test]
-fn assembler_faults(rt: HostRuntime) -> Result<(), Fail> {
-    for rows in [FAULTS, READINGS] {
-        for (source, fault) in rows {
-            assert_right(&rt, refusal(rt.alloc(), source) == *fault, source);
-        }
-    }
-    let alloc = rt.alloc();
-    let far = refusal_around(alloc, "beq x0,x0,far\n", 1023, "far:\n")?;
-    let near = refusal_around(alloc, "beq x0,x0,near\n", 1022, "near:\n")?;
-    assert!(rt; far == Some((1, AsmCause::LabelRange)) && near == None);
-    let full = refusal_around(alloc, "", 16_384, "end: # here\n")?;
-    let too_long = refusal_around(alloc, "", 16_383, "li x1,0\n")?;
-    assert!(rt; full == None && too_long == Some((16_384, AsmCause::TooLarge)));
-    Ok(())
 }
 
 /// Words whose texts stand for them.
