@@ -159,8 +159,8 @@ def replays(run: Run) -> None:
 def cases() -> list[Case]:
     """All of them, by the names of the tests that they were."""
     return [
-        Case("many: forty_counts_along_mixed_lists", counts),
-        Case("many: forty_bumps_and_forty_bumps_one_worker", bumps),
+        Case("many: forty_counts, forty_counts_along_mixed_lists", counts),
+        Case("many: forty_bumps, forty_bumps_one_worker", bumps),
         Case("many: forty_bumps_by_threads", bumps_by_threads),
         Case("many: forty_counts_by_threads", counts_by_threads, cost=2, needs_speed=True),
         Case("many: eight_touches", touches),
