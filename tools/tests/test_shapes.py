@@ -136,6 +136,10 @@ class Values(unittest.TestCase):
             with self.subTest(shape):
                 self.assertEqual(view_of(f"row:lots {shape}").value(LAMP, data), wanted)
 
+    def test_the_longest(self) -> None:
+        """The fields before the last may have all bytes of a value; the last one, which has no length, is empty then."""
+        self.assertEqual(view_of("row:lots bytes:256 bytes").value(LAMP, b""), "-  (not its shape: it has 0 bytes in place of at least 256)")
+
     def test_which_shape(self) -> None:
         """That of the key is before that of its table; other keys have none."""
         view = view_of("row:lots u8 u8", "row:lots:lamp sum:u16", "key:total u64")

@@ -3,7 +3,7 @@
 A program is a function of its shape and of its name. `shape_of` draws a shape by a name, so the name alone brings a program back:
 `17` is drawn afresh, `17.3.8` is what two changes of 17 lead to, and `17-fence` has no FENCE.
 
-The code is cut into runs of equal length. At the end of a run stands a leap to the next one, in an order that the shape names; a
+The code is cut into runs of equal length. Each run ends with a leap to the next one, in an order that the shape names; a
 branch in a run leads to the beginning of a run near it, or to the next word. Behind the last run of the code the program begins
 again. The file's code may be mapped to several places, one behind the other. A leap `swap` goes on at a place that a register
 keeps, and keeps its own there: so the program goes through all copies at the same time.

@@ -1,4 +1,4 @@
-"""Tables as pages have them, and what stands in their cells: medians, and medians of ratios within a round."""
+"""Tables as pages have them, and the texts of their cells: medians, and medians of ratios within a round."""
 
 import statistics
 from collections.abc import Iterable, Sequence

@@ -163,7 +163,7 @@ class Walk:
             rounds += 1
         for worker in workers:
             self.step(worker)
-        need(all(self.state.dones), "some worker was not told that all is done")
+        need(all(self.state.dones), "some worker does not know that all is done")
         return rounds
 
 

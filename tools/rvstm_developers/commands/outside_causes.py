@@ -134,7 +134,7 @@ class Check:
         functions = self.uses.functions.get(name, []) if name is not None else []
         if name is not None and len(functions) == 1 and CAUSE.match(functions[0].result) and self.follow_calls(place.kind, name):
             place.call = name
-            return f"told by {name}"
+            return f"reported by {name}"
         return None
 
     def follow(self, kind: Kind, name: str, function: str | None) -> bool:
@@ -159,9 +159,9 @@ def run(given: argparse.Namespace) -> int:
         path = place.path.relative_to(TOP) if TOP in place.path.parents else place.path
         where = f"{path}:{place.line}: {place.name}"
         if place.refuser is None:
-            print(f"{where} is told, and no error of its kind leads here")
+            print(f"{where} is reported, and no error of its kind leads here")
         elif not place.is_of_area():
-            print(f"{where} is told where {place.call} refused, which is none of its area's calls")
+            print(f"{where} is reported if {place.call} refused, which is none of its area's calls")
         elif given.places:
             print(f"{where} by {place.refuser}")
     wrong = sum(place.refuser is None or not place.is_of_area() for place in places)

@@ -42,8 +42,8 @@ class BadBlock(NamedTuple):
     words: str
 
 
-def refused(words: list[str], told: str, **files: bytes) -> Trial:
-    return Trial(words, b"", f"rvstm: {told}\n".encode(), REFUSED, files=files)
+def refused(words: list[str], message: str, **files: bytes) -> Trial:
+    return Trial(words, b"", f"rvstm: {message}\n".encode(), REFUSED, files=files)
 
 
 def wrong_line(words: list[str]) -> Trial:
@@ -165,13 +165,13 @@ SESSIONS: dict[str, Make] = {
 # ---- schedules, programs and sources
 
 
-def driven(schedule: bytes, told: str) -> Trial:
-    return refused(["drive", "block", "--workers", "32", "--schedule", "schedule"], told, block=b"rvblock 1\n", schedule=schedule)
+def driven(schedule: bytes, message: str) -> Trial:
+    return refused(["drive", "block", "--workers", "32", "--schedule", "schedule"], message, block=b"rvblock 1\n", schedule=schedule)
 
 
-def program_refused(file: bytes, told: str, command: str = "seq") -> Trial:
+def program_refused(file: bytes, message: str, command: str = "seq") -> Trial:
     words = ["seq", "block"] if command == "seq" else ["dis", "0.elf"]
-    return refused(words, told, **{"block": ONE.text(["0.elf"]), "0.elf": file})
+    return refused(words, message, **{"block": ONE.text(["0.elf"]), "0.elf": file})
 
 
 def with_headers(number: int) -> bytes:
@@ -194,8 +194,8 @@ def taken(file: bytes) -> Trial:
     return Trial(["seq", "block"], ONE.result(), files={"block": ONE.text(["0.elf"]), "0.elf": file})
 
 
-def assembled(source: str, told: str) -> Trial:
-    return refused(["asm", "source", "--out", "made"], told, source=source.encode())
+def assembled(source: str, message: str) -> Trial:
+    return refused(["asm", "source", "--out", "made"], message, source=source.encode())
 
 
 OTHERS: dict[str, Make] = {

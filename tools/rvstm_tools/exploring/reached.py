@@ -22,7 +22,7 @@ from rvstm_tools.texts.blocks import CallLine, Rules
 from rvstm_tools.texts.keys import Storage
 from rvstm_tools.texts.results import End, Receipt
 
-MOST_WAYS = 1000  # that are told apart by a worker
+MOST_WAYS = 1000  # that a worker keeps apart
 MOST_KEYS = 1000  # of a storage over which a call is replayed
 
 
