@@ -7,7 +7,7 @@ from dataclasses import dataclass
 from pathlib import Path
 
 import refusals
-from checks import book, book_page, calls, crates, definitions, layers, markdown, pages, reading, rule_calls, sources, unused, versions
+from checks import book, book_page, calls, crates, definitions, layers, markdown, names, pages, reading, rule_calls, sources, unused, versions
 from rvstm_tools import errors
 from rvstm_tools.errors import MisuseError
 
@@ -40,6 +40,7 @@ PRINTERS = (
     Printer("--crates", "CRATE", "*", "the crates, and what each is for", crates.listed),
     Printer("--definitions", "CRATE", "*", "the files of definitions in reading order, and what each defines", definitions.listed),
     Printer("--lemmas", "CRATE", "*", "the crates whose lemmas each crate's proofs cite", crates.lemmas),
+    Printer("--names", "CRATE", "*", "the names that several definitions have", names.listed),
     Printer("--unused", "CRATE", "*", "the public names, definitions and lemmas that nothing uses", unused.listed),
     Printer("--refusals", "", "", "what rvstm refuses, and when: the rows of docs/messages.md", lambda words: refusals.table_lines()),
     Printer(
@@ -82,10 +83,10 @@ def faults() -> Iterator[str]:
 
 def check() -> int:
     missing = list(faults())
-    names = sum(pages.count_of_names(page.read_text()) for page in pages.page_files())
+    count = sum(pages.count_of_names(page.read_text()) for page in pages.page_files())
     print(*missing, sep="\n", end="\n" if missing else "")
     print(versions.line_of_sources())
-    print(f"{names} names, {len(missing)} missing")
+    print(f"{count} names, {len(missing)} missing")
     return errors.Status.FAILED if missing else errors.Status.DONE
 
 
