@@ -6,6 +6,7 @@ import os
 import random
 import re
 import sqlite3
+import struct
 from collections.abc import Iterator
 from pathlib import Path
 
@@ -19,6 +20,8 @@ COUNTER = TOP / "examples/counter"
 KEY, ZEROS, LAST_KEY = f"{1:064x}", "0" * 64, "f" * 64
 MOST_HEIGHT = 9_999_999_999
 KILLS, DAMAGES = 12, 60
+LONG_PROGRAMS, MOST_BYTES = 60, 131_072
+"""How many programs with the most bytes a session takes before it starts again."""
 OUTCOME = b"".join(
     b"call %d returned gas 639 pc 00010034 out -\nwrite %d %s 0%d000000\n" % (number, number, KEY.encode(), number + 1) for number in range(3)
 ) + b"end\n"
@@ -245,6 +248,7 @@ def refused_files(run: Run) -> None:
     for name, statement in (
         ("OtherVersion 5", "UPDATE session SET version = 2"),
         ("OtherSettings 6", "UPDATE session SET brief = 0"),
+        ("OtherSettings 6", "UPDATE session SET brief = 0; UPDATE program SET file = x'00'"),
         ("Damaged 7", "UPDATE session SET rules = 4"),
         ("Damaged 7", "DELETE FROM session"),
         ("Damaged 7", "UPDATE storage SET value = zeroblob(257)"),
@@ -254,8 +258,7 @@ def refused_files(run: Run) -> None:
     ):
         put(path, sound)
         base = sqlite3.connect(path)
-        base.execute(statement)
-        base.commit()
+        base.executescript(statement)
         base.close()
         refuses(run, path, name, statement)
     for name, data in (("NotASession 4", b"a text, which is no database\n"), ("NotASession 4", b"SQLite format 3\0" + b"x" * 9_999)):
@@ -311,6 +314,36 @@ def damaged(run: Run) -> None:
         holds(status == 1 and not out and bool(is_named), f"status {status}, {errors}", "status 1 and rvstm: store NAME NUMBER")
         holds(path.read_bytes() == bytes(data), "a changed file", "the file as it was")
     run.note(", ".join(f"{number} {what}" for what, number in came.items()))
+
+
+def long_program(number: int) -> bytes:
+    """A program of one page, in a file of the most bytes: an ebreak, a number, and zeros that no segment has."""
+    header = b"\x7fELF\x01\x01\x01".ljust(16, b"\0") + struct.pack("<HHIIIIIHHHHHH", 2, 243, 1, 0x10000, 52, 0, 0, 52, 32, 1, 0, 0, 0)
+    segment = struct.pack("<IIIIIIII", 1, len(header) + 32, 0x10000, 0x10000, 8, 8, 5, 0)
+    return (header + segment + struct.pack("<II", 0x0010_0073, number)).ljust(MOST_BYTES, b"\0")
+
+
+def most_memory(session: Session) -> int:
+    """The most bytes of addresses that a session had."""
+    found = re.search(r"^VmPeak:\s+(\d+) kB$", Path(f"/proc/{session.process.pid}/status").read_text(), re.M)
+    assert found
+    return 1024 * int(found[1])
+
+
+def restarted(run: Run) -> None:
+    """A session of long files starts again in the memory that it ran in: an open loads one program after another."""
+    path, peaks = run.place / "file", list[int]()
+    with Session(run.program, "--brief", "--store", path) as session:
+        for number in range(LONG_PROGRAMS):
+            program = long_program(number)
+            session.expect(asks("program", program), done(name_of(program) + b"\n"))
+        peaks.append(most_memory(session))
+        same(session.end(), (b"", "", 0))
+    with Session(run.program, "--brief", "--store", path) as session:
+        session.expect(asks("state"), state(1, 0, 0, LONG_PROGRAMS))
+        peaks.append(most_memory(session))
+    run.note(f"{peaks[0]} bytes, and {peaks[1]} after a start")
+    holds(peaks[1] <= 1.05 * peaks[0] + 2 * MOST_BYTES, f"{peaks[1]} bytes", f"at most 1.05 times {peaks[0]}, and two files")
 
 
 def killed(run: Run) -> None:
@@ -422,6 +455,7 @@ def cases() -> list[Case]:
         Case("session over a file: tables", tables, (Tool.SQLITE,)),
         Case("session over a file: refused files", refused_files, cost=2),
         Case("session over a file: damage", damaged, cost=2),
+        Case("session over a file: a start takes no more memory", restarted, needs_speed=True, cost=2),
         Case("session over a file: a dozen kills", killed, cost=6),
         Case("session over a file: faults of files and disks", faults, cost=18),
         Case("session over a file: two syncs before an answer", synced, (Tool.STRACE,)),

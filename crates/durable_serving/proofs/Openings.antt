@@ -24,7 +24,6 @@ unloaded settings v disk k load.OtherSettings holds is = (k, holds, is)
 unloaded settings v disk k load.Damaged holds is = λ j other.
     let same : j ≡ k = holds_once v.trees j k other holds in
     (λ e. is.0 (sym same ∙ e), λ f keeps. is.1 f (subst (λ (x : Kept). KeepsState settings f x) same keeps))
-unloaded settings v disk k load.Memory holds is = tt
 
 -- what was found is in the trees that were opened
 pub holds_found : (old new : View) (k : Kept) → (old.is_open ≡ false → IsTrue old.is_broken) → IsFresh old → OnlyReads old new → IsKeeping new k → HoldsIn old.trees k

@@ -36,11 +36,6 @@ pub run_programs : (s : State) (run : Option PendingRun) → (after_run_of s run
 run_programs s None = refl
 run_programs s (Some run) = refl
 
--- what a run leaves of two states with one storage
-pub run_rules : (s t : State) (run : Option PendingRun) → s.rules ≡ t.rules → (after_run_of s run).rules ≡ (after_run_of t run).rules
-run_rules s t None e = e
-run_rules s t (Some run) e = refl
-
 module _ (settings : Settings) (s : State) (old : View) where
   -- what is given up leaves the file as it was
   pub spared : (new : View) → staging.GivesUp old new → Spares settings s old new

@@ -15,7 +15,6 @@ use Rattle.session_states.specs.declared.loading.LoadFault.{LoadFault}
 use Rattle.session_states.specs.declared.loading.LoadFault.TheVariants as load
 use Rattle.sqlite_trees.specs.Tree.{Trees}
 use Rattle.sqlite_trees.specs.View.{View, HasCause}
-use Rattle.sqlite_trees.specs.declared.error.StoreError.TheVariants.{OutOfMemory}
 use Rattle.turns.specs.Turn.{new_session}
 use Rattle.turns.specs.declared.settings.Settings.{Settings}
 use Rattle.durable_serving.specs.Durable.{HasNoRow}
@@ -52,7 +51,6 @@ fault_of_open (below.Store error) = Store error
 abbrev pub fault_of_load : LoadFault → SessionFault
 fault_of_load load.OtherSettings = OtherSettings
 fault_of_load load.Damaged = Damaged
-fault_of_load load.Memory = Store OutOfMemory
 
 -- a file of a new session
 abbrev pub new_kept : Settings → Kept

@@ -16,7 +16,7 @@ ghost use Rattle.durable_serving.specs.Opened.{IsFoundIn, new_kept, IsUnopened, 
 use crate::session::FileSession;
 use rv_ledger::Rules;
 use session_file::{OpenFault, SessionFile, open_session};
-use session_states::{LoadFault, Loaded, StoreFault, load_state, row_of};
+use session_states::{LoadFault, Loaded, ProgramLoader, StoreFault, load_state, row_of};
 use sqlite_trees::error::StoreError;
 use sqlite_trees::store::Store;
 use std::alloc::Global;
@@ -71,7 +71,7 @@ pub fn open_durably<S: Store>(
     ensures told { IfErr result (λ e. (error : StoreError) → e.0 ≡ SessionFault.Store error → Tells (S.Store.blamed e.1) error) }
     ensures left { IfErr result (λ e. (db : Trees) → S.Store.recovers e.1 db → S.Store.recovers store db ⊎ HoldsState settings (new_state settings) db) }
 {
-    let (file, found) = match open_session(alloc, store) {
+    let (file, found) = match open_session(alloc, store, ProgramLoader::new(alloc)) {
         Ok(opened) => opened,
         Err((fault, store)) => return Err((fault_of_open(fault), store)),
     };
@@ -153,6 +153,5 @@ fn fault_of_load(fault: LoadFault) -> SessionFault
     match fault {
         LoadFault::OtherSettings => SessionFault::OtherSettings,
         LoadFault::Damaged => SessionFault::Damaged,
-        LoadFault::Memory => SessionFault::Store(StoreError::OutOfMemory),
     }
 }

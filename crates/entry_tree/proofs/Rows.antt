@@ -120,14 +120,6 @@ none_gone m k is = same_bytes _ _ (λ q. get-remove nat_list_cmp_total m k q ∙
     go q false t = refl
     go q true t = sym is ∙ get_tied nat_list_cmp_total m q k (equal _ t)
 
--- the same value again changes nothing
-pub same_again : (m : ByteMap) (k v : List ℕ) → get m k ≡ Some v → insert m k v ≡ m
-same_again m k v is = same_bytes _ _ (λ q. get-insert nat_list_cmp_total m k v q ∙ go q (eq_by_cmp R q k) refl)
-  where
-    go : (q : List ℕ) (b : Bool) → eq_by_cmp R q k ≡ b → cond b (Some v) (get m q) ≡ get m q
-    go q false t = refl
-    go q true t = sym is ∙ get_tied nat_list_cmp_total m q k (equal _ t)
-
 pub gone_then : (m : ByteMap) (k v : List ℕ) → insert (remove m k) k v ≡ insert m k v
 gone_then m k v = same_bytes _ _ (λ q. get-insert nat_list_cmp_total (remove m k) k v q ∙ ap (cond (eq_by_cmp R q k) (Some v)) (get-remove nat_list_cmp_total m k q)
     ∙ go (eq_by_cmp R q k) (get m q) ∙ sym (get-insert nat_list_cmp_total m k v q))

@@ -6,14 +6,9 @@ use lib.Ieee.{is_nan}
 use Rattle.std.proofs.lemmas.List.Elements.{All-from_recursion}
 use Rattle.sqlite_value.specs.Order.{Row, number}
 use Rattle.sqlite_trees.specs.View.{IsStorableRow}
-use Rattle.session_file.specs.Kept.{answer_row, number_or_null, session_row}
+use Rattle.session_file.specs.Kept.{answer_row, session_row}
 use Rattle.session_file.specs.Limits.{IsLongAnswer}
 use Rattle.session_file.specs.declared.rows.SessionRow.{SessionRow}
-
-any_number : (o : Option ℕ) → NotNan (number (number_or_null o))
-unfolding is_nan
-any_number None = tt
-any_number (Some n) = tt
 
 session_storable : (s : SessionRow) → length s.digest ≡ 32 → IsStorableRow 0 (session_row s)
 unfolding is_nan

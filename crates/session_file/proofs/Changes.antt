@@ -1,5 +1,5 @@
 -- Making the changes of a storage one after another in the rows of its tree.
-use Rattle.std.proofs.Common.{◌≡◌, ◌≤◌, ℕ, length, IfSome, List, [], ◌∷◌, fold, Some, None, cond, T, refl, sym, ap, subst, ◌∙◌, Ordering, Less, Equal, Greater, is_eq}
+use Rattle.std.proofs.Common.{◌≡◌, ◌≤◌, ℕ, length, IfSome, List, [], ◌∷◌, fold, Some, None, cond, T, refl, sym, ap, ◌∙◌, Ordering, Less, Equal, Greater, is_eq}
 use Rattle.std.specs.List.{AllByRecursion}
 use Rattle.std.specs.Cmp.Lexicographic.{nat_list_cmp_total}
 use Rattle.std.specs.FinMap.{find, get, entries, entries_sorted, get-entries, is_sorted}
@@ -64,14 +64,6 @@ none_differ s (e ∷ es) = (refl, none_differ s es)
 -- nothing is made yet
 pub at_first : (base : Storage) (d : Changes) (rows : List Row) → rows ≡ rows_of base → IsPartWay base (with_changes base d) rows (entries d)
 at_first base d rows is = record { at = base; shows = is; more = all_changes base d; agrees = none_differ base (entries d); limits = λ all. all }
-
--- all is made
-pub at_last : (base goal : Storage) (rows : List Row) → IsPartWay base goal rows [] → rows ≡ rows_of goal
-at_last base goal rows h = h.shows ∙ ap rows_of h.more
-
--- then its limits are kept
-pub limits_kept : (base goal : Storage) (rows : List Row) → IsPartWay base goal rows [] → AreEntries base → AreEntries goal
-limits_kept base goal rows h all = subst AreEntries h.more (h.limits all)
 
 still_agrees : (base at : Storage) (k : List ℕ) (c : Content) (es : Entries) → AllByRecursion (λ f. key_cmp k f.0 ≡ Less) es → AgreesOn at base es → AgreesOn (set_content at k c) base es
 still_agrees base at k c [] low h = tt

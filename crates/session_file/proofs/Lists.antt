@@ -1,9 +1,10 @@
 -- Entries by ascending keys: reading them one after another, and writing them.
 use Rattle.std.proofs.Common.{◌≡◌, ◌≤◌, ◌++◌, ℕ, List, [], ◌∷◌, append_assoc, map, length, Option, Some, None, T, refl, sym, ap, subst, ◌∙◌, Less, arith}
+use Rattle.std.specs.Bool.{⊤}
 use Rattle.std.specs.List.{AllByRecursion}
 use Rattle.std.specs.Cmp.{tied_itself}
 use Rattle.std.specs.Cmp.Lexicographic.{nat_list_cmp_total}
-use Rattle.std.specs.FinMap.{empty, entries, entries_sorted, entries-insert, from_entries, insert, is_sorted, len-empty, len-entries, put}
+use Rattle.std.specs.FinMap.{empty, entries, entries_sorted, entries-insert, insert, is_sorted, len-empty, len-entries, put}
 use Rattle.std.proofs.lemmas.List.{append-nil, map-append}
 use Rattle.sqlite_value.specs.Keys.{plain}
 use Rattle.sqlite_value.specs.Order.{Row}
@@ -11,12 +12,15 @@ use Rattle.sqlite_trees.specs.Tree.{insert_entry, remove_entry}
 use Rattle.rv_ledger.specs.Key.{key_cmp}
 use Rattle.entry_tree.specs.Entries.{ByteMap, row_of, rows_of}
 use Rattle.entry_tree.proofs.Rows.{below_first, row_order, sorted_rest}
-use Rattle.session_file.specs.Kept.{AreNamed}
-use Rattle.session_file.specs.Opening.{AreRising}
-use Rattle.session_file.specs.Rows.{DoFit, IsAbove}
+use Rattle.session_file.specs.Rows.{AreTaken, DoFit, IsAbove}
 
 abbrev pub Pairs : Type 0
 Pairs = List (List ℕ × List ℕ)
+
+-- entries by ascending keys
+abbrev pub AreRising : Pairs → Type 0
+AreRising [] = ⊤
+AreRising (e ∷ es) = AllByRecursion (λ f. key_cmp e.0 f.0 ≡ Less) es × AreRising es
 
 -- the key of the last entry
 abbrev pub last_key : Pairs → Option (List ℕ)
@@ -40,10 +44,6 @@ above_all key (e ∷ f ∷ es) up h =
 pub all_pushed : (P : List ℕ × List ℕ → Type 0) (es : Pairs) (e : List ℕ × List ℕ) → AllByRecursion P es → P e → AllByRecursion P (es ++ e ∷ [])
 all_pushed P [] e all this = (this, tt)
 all_pushed P (f ∷ fs) e all this = (all.0, all_pushed P fs e all.1 this)
-
-pub rising_pushed : (es : Pairs) (e : List ℕ × List ℕ) → AreRising es → AllByRecursion (λ f. key_cmp f.0 e.0 ≡ Less) es → AreRising (es ++ e ∷ [])
-rising_pushed [] e up low = (tt, tt)
-rising_pushed (f ∷ fs) e up low = (all_pushed _ fs e up.0 low.0, rising_pushed fs e up.1 low.1)
 
 sorted_rising : (es : Pairs) → T (is_sorted key_cmp es) → AreRising es
 sorted_rising [] up = tt
@@ -87,25 +87,10 @@ no_entries = none (entries (empty {X = List ℕ} {R = key_cmp})) (sym (len-entri
     none [] h = refl
     none (e ∷ es) h = absurd (omega arith)
 
-put_first : (e : List ℕ × List ℕ) (es : Pairs) → AllByRecursion (λ f. key_cmp e.0 f.0 ≡ Less) es → put key_cmp e.0 e.1 es ≡ e ∷ es
-put_first e [] low = refl
-put_first e (f ∷ fs) low = rw low.0 refl
-
--- the map of ascending entries has these
-pub entries-from_rising : (es : Pairs) → AreRising es → entries (from_entries {R = key_cmp} es) ≡ es
-entries-from_rising [] up = no_entries
-entries-from_rising (e ∷ es) up = entries-insert nat_list_cmp_total (from_entries es) e.0 e.1 ∙ ap (put key_cmp e.0 e.1) (entries-from_rising es up.1) ∙ put_first e es up.0
-
--- so have its rows
-pub rows-from_rising : (es : Pairs) → AreRising es → map row_of es ≡ rows_of (from_entries es)
-rows-from_rising es up = ap (map row_of) (sym (entries-from_rising es up))
-
-all_named : (fits : List ℕ → Type 0) (es : Pairs) → DoFit fits es → AllByRecursion (λ e. length e.0 ≡ 32) es
+-- so do they whose keys have 32 bytes and whose values fit
+pub all_named : (fits : List ℕ → Type 0) (es : Pairs) → DoFit fits es → AllByRecursion (λ e. length e.0 ≡ 32) es
 all_named fits [] all = tt
 all_named fits (e ∷ es) all = (all.0.0, all_named fits es all.1)
-
-pub named-from_rising : (fits : List ℕ → Type 0) (es : Pairs) → AreRising es → DoFit fits es → AreNamed (from_entries es)
-named-from_rising fits es up all = subst (AllByRecursion (λ e. length e.0 ≡ 32)) (sym (entries-from_rising es up)) (all_named fits es all)
 
 keep_above : (e : List ℕ × List ℕ) (es : Pairs) → AllByRecursion (λ f. key_cmp e.0 f.0 ≡ Less) es → remove_entry plain (row_of e) (map row_of es) ≡ map row_of es
 keep_above e [] low = refl
@@ -158,13 +143,6 @@ one_more all Before Begun rows now e es before is key value up h = record {
   shows = λ begun. is begun ∙ ap (insert_entry plain (row_of e)) (h.shows (before begun)) ∙ last_inserted h.done e (before_below h.done e es (subst AreRising (sym h.whole) up));
 }
 
--- all are inserted
-pub at_last : (all : Pairs) (Begun : Type 0) (rows : List Row) → IsInserted all [] Begun rows → Begun → rows ≡ map row_of all
-at_last all Begun rows h begun = h.shows begun ∙ ap (map row_of) (sym (append-nil h.done) ∙ h.whole)
-
-pub all_fit : (all : Pairs) (Begun : Type 0) (rows : List Row) → IsInserted all [] Begun rows → DoFit (λ v. length v ≤ 256) all
-all_fit all Begun rows h = subst (DoFit (λ v. length v ≤ 256)) (sym (append-nil h.done) ∙ h.whole) h.fits
-
 -- a row that was read next, in a tree of a map
 pub found_next : (fits : List ℕ → Type 0) (taken : Pairs) (given : Row) (rest left rows : List Row) (m : ByteMap) → map row_of taken ++ rest ≡ rows → rest ≡ given ∷ left → rows ≡ rows_of m → DoFit fits (entries m) → IsNext fits taken given
 found_next fits taken given rest left rows m was step is all = next_entry fits taken given left (entries m) (ap (λ l. map row_of taken ++ l) (sym step) ∙ was ∙ is) (map_rising m) all
@@ -175,10 +153,51 @@ rows_pushed taken e now given rest left rows is row step was =
     ap (λ t. map row_of t ++ left) is ∙ ap (λ l. l ++ left) (map-append row_of taken (e ∷ [])) ∙ append_assoc (map row_of taken) (row_of e ∷ []) left
     ∙ ap (λ r. map row_of taken ++ r ∷ left) (sym row) ∙ ap (λ l. map row_of taken ++ l) (sym step) ∙ was
 
-named_fit : (es : Pairs) → AllByRecursion (λ e. length e.0 ≡ 32) es → DoFit (λ v. Unit {0}) es
-named_fit [] all = tt
-named_fit (e ∷ es) all = ((all.0, tt), named_fit es all.1)
+-- The rows before a cursor were taken: what took them is made of their entries, and this is the key of the last one. After a failure
+-- (not `clean`) they may be other rows.
+pub record AreTakenUpTo (made_of : ByteMap → Type 0) (fits : List ℕ → Type 0) (key : Option (List ℕ)) (clean : Type 0) (left rows : List Row) : Type 0 where
+  pub taken : ByteMap
+  pub made : made_of taken
+  pub fit : DoFit fits (entries taken)
+  pub last : key ≡ last_key (entries taken)
+  pub before : clean → map row_of (entries taken) ++ left ≡ rows
+
+-- none is taken yet
+pub none_taken : (made_of : ByteMap → Type 0) (fits : List ℕ → Type 0) (clean : Type 0) (left rows : List Row) → made_of empty → (clean → left ≡ rows) → AreTakenUpTo made_of fits None clean left rows
+none_taken made_of fits clean left rows made is = record {
+  taken = empty;
+  made = made;
+  fit = rw no_entries tt;
+  last = rw no_entries refl;
+  before = λ now. rw no_entries (is now);
+}
+
+-- one more is taken
+pub one_taken : (before_of after_of : ByteMap → Type 0) (fits : List ℕ → Type 0) (last : Option (List ℕ)) (before after : Type 0) (key value : List ℕ) (given : Row) (rest left rows : List Row)
+    → ((m : ByteMap) → AllByRecursion (λ e. key_cmp e.0 key ≡ Less) (entries m) → before_of m → after_of (insert m key value)) → IsAbove key last → length key ≡ 32 → fits value → given ≡ row_of (key, value)
+    → (after → before) → (after → rest ≡ given ∷ left) → AreTakenUpTo before_of fits last before rest rows → AreTakenUpTo after_of fits (Some key) after left rows
+one_taken before_of after_of fits last before after key value given rest left rows takes above count fit row earlier step h =
+    let es = entries h.taken in
+    let low = above_all key es (map_rising h.taken) (subst (IsAbove key) h.last above) in
+    let is : entries (insert h.taken key value) ≡ es ++ (key, value) ∷ [] = entries-inserted h.taken key value low in record {
+      taken = insert h.taken key value;
+      made = takes h.taken low h.made;
+      fit = subst (DoFit fits) (sym is) (all_pushed _ es (key, value) h.fit (count, fit));
+      last = sym (ap last_key is ∙ last_pushed es (key, value));
+      before = λ now. rows_pushed es (key, value) (entries (insert h.taken key value)) given rest left rows is row (step now) (h.before (earlier now));
+    }
+
+-- all are taken
+pub all_taken : (made_of : ByteMap → Type 0) (fits : List ℕ → Type 0) (last : Option (List ℕ)) (clean now : Type 0) (left rows : List Row) → (now → clean) → (now → left ≡ []) → AreTakenUpTo made_of fits last clean left rows
+    → AreTaken made_of fits now rows
+all_taken made_of fits last clean now left rows earlier none h = record {
+  taken = h.taken;
+  made = h.made;
+  fit = h.fit;
+  are_all = λ is. sym (h.before (earlier is)) ∙ ap (λ l. map row_of (entries h.taken) ++ l) (none is) ∙ append-nil (map row_of (entries h.taken));
+}
 
 -- programs with names of 32 bytes have files that fit
-pub programs_fit : (m : ByteMap) → AreNamed m → DoFit (λ v. Unit {0}) (entries m)
-programs_fit m all = named_fit (entries m) all
+pub programs_fit : (fits : List ℕ → Type 0) (es : Pairs) → ((file : List ℕ) → fits file) → AllByRecursion (λ e. length e.0 ≡ 32) es → DoFit fits es
+programs_fit fits [] takes all = tt
+programs_fit fits (e ∷ es) takes all = ((all.0, takes e.1), programs_fit fits es takes all.1)

@@ -1,5 +1,5 @@
 -- Staging a part, committing and giving up.
-use Rattle.std.proofs.Common.{◌≡◌, ◌≢◌, ◌⊎◌, ◌≤◌, ℕ, eq-eqb, ne_eqb, pos, Bool, true, false, true≢false, List, [], ◌∷◌, Option, Some, None, Result, Ok, Err, OnErr, OnOk, IsTrue, refl, sym, ap, subst, ◌∙◌, inl, inr, arith}
+use Rattle.std.proofs.Common.{◌≡◌, ◌≢◌, ◌≤◌, ℕ, eq-eqb, ne_eqb, pos, Bool, true, false, true≢false, List, [], ◌∷◌, Option, Some, None, Result, Ok, Err, OnErr, OnOk, IsTrue, refl, sym, ap, subst, ◌∙◌, arith}
 use Rattle.std.specs.Cmp.{tied_itself}
 use Rattle.sqlite_value.specs.declared.value.Value.TheVariants.{Int}
 use Rattle.sqlite_value.specs.Order.{Row}
@@ -65,10 +65,6 @@ pub on_ok_both : {X E P Q R : Type 0} (r : Result X E) → (P → Q → R) → O
 on_ok_both (Ok x) f p q = f p q
 on_ok_both (Err e) f p q = tt
 
-pub on_ok_all3 : {X E P Q R Z : Type 0} (r : Result X E) → (P → Q → R → Z) → OnOk r P → OnOk r Q → OnOk r R → OnOk r Z
-on_ok_all3 (Ok x) f p q r = f p q r
-on_ok_all3 (Err e) f p q r = tt
-
 -- what is committed is kept
 pub committed : (old new : View) → (new.is_clean ≡ false → new.is_open ≡ false) → (IsClean new → Commits old new) → CommitsStaged old new
 committed old new shut commits k next was h =
@@ -78,11 +74,6 @@ committed old new shut commits k next was h =
       committed = subst (λ db. HoldsIn db next) (sym (ap (λ (v : View). v.committed) is)) it.written;
       written = subst (λ db. HoldsIn db next) (sym (ap (λ (v : View). v.trees) is)) it.written;
     }
-
--- a commit that a crash meets leaves what was staged, or what could be left before
-pub may_leave : (old : View) (k next : Kept) (db : Trees) (Before : Type 0) → (old.is_open ≡ false → IsTrue old.is_broken) → IsStaged old k next → ((old.is_broken ≡ false) × (db ≡ old.trees)) ⊎ Before → HoldsIn db next ⊎ Before
-may_leave old k next db Before shut it (inl (sound, is)) = inl (subst (λ d. HoldsIn d next) (sym is) (it (sound_open old shut sound)).written)
-may_leave old k next db Before shut it (inr before) = inr before
 
 -- one tree of a transaction was edited
 pub staged : (old new : View) (tree : ℕ) (edit : List Row → List Row) (k next after : Kept) → (new.is_clean ≡ false → new.is_open ≡ false) → (IsClean new → OnlyWrites old new)

@@ -1,9 +1,6 @@
 -- What an open finds, and why it may be refused.
-use Rattle.std.specs.Prelude.{◌≡◌, ◌≢◌, ℕ, pos, false, List, [], ◌∷◌, map, ⊤, Result, Err, IfErr, OnOk}
-use Rattle.std.specs.FinMap.{from_entries}
-use Rattle.std.specs.List.{AllByRecursion}
+use Rattle.std.specs.Prelude.{◌≡◌, ◌≢◌, ℕ, pos, false, List, [], ◌∷◌, Result, Err, IfErr, OnOk}
 use Rattle.std.specs.Option.{option_map}
-use Rattle.std.specs.declared.cmp.Ordering.TheVariants.{Less}
 use Rattle.sqlite_value.specs.declared.value.Value.{Value}
 use Rattle.sqlite_value.specs.declared.value.Value.TheVariants.{Int}
 use Rattle.sqlite_value.specs.Order.{Row, column}
@@ -12,33 +9,23 @@ use Rattle.sqlite_exec.specs.Calls.{OnlyReads}
 use Rattle.sqlite_trees.specs.View.{View, HasCause, IsClean, IsQuiet, Tells}
 use Rattle.sqlite_trees.specs.declared.error.StoreError.{StoreError}
 use Rattle.sqlite_trees.specs.declared.store.Store.{Ghosts}
-use Rattle.rv_ledger.specs.Key.{key_cmp}
+use Rattle.entry_tree.specs.Entries.{ByteMap}
 use Rattle.session_file.specs.Kept.{Kept, HoldsIn, format_version, session_tree}
 use Rattle.session_file.specs.Staging.{HasTrees}
 use Rattle.session_file.specs.declared.rows.AnswerRow.{AnswerRow}
 use Rattle.session_file.specs.declared.rows.Found.{Found}
-use Rattle.session_file.specs.declared.rows.ProgramRow.{ProgramRow}
 use Rattle.session_file.specs.declared.fault.OpenFault.{OpenFault}
 use Rattle.session_file.specs.declared.fault.OpenFault.TheVariants.{Damaged, NotASession, OtherVersion, Store}
-
--- a program's name and its file
-abbrev pub program_entry : ProgramRow → List ℕ × List ℕ
-program_entry p = (p.name, p.file.items)
 
 -- an answer's line and its bytes
 abbrev pub answer_parts : AnswerRow → List ℕ × List ℕ
 answer_parts a = (a.line.items, a.bytes.items)
 
--- entries by ascending keys
-abbrev pub AreRising : List (List ℕ × List ℕ) → Type 0
-AreRising [] = ⊤
-AreRising (e ∷ es) = AllByRecursion (λ f. key_cmp e.0 f.0 ≡ Less) es × AreRising es
-
--- what was found, as what is kept
-abbrev pub kept_of : Found → Kept
-kept_of found = record {
+-- what was found, and the files of the programs by their names, as what is kept
+abbrev pub kept_of : {P : Type 0} → ByteMap → Found P → Kept
+kept_of files found = record {
   storage = found.storage;
-  programs = from_entries (map program_entry found.programs.items);
+  programs = files;
   session = found.session;
   answer = option_map answer_parts found.answer;
 }
@@ -77,5 +64,5 @@ pub record ReadsIn {S A : Type 0} (g : Ghosts S) (why : View → Type 0 → Open
   pub quiet : IsQuiet g.view g.faults g.recovers g.is_shielded old new
 
 -- the same of a call that was refused
-abbrev pub RefusesIn : {S : Type 0} → Ghosts S → (View → Type 0 → OpenFault → Type 0) → S → S → OpenFault → Type 0
-RefusesIn g why old new fault = ReadsIn {A = Found} g why old new (Err fault)
+abbrev pub RefusesIn : {S : Type 0} → (P : Type 0) → Ghosts S → (View → Type 0 → OpenFault → Type 0) → S → S → OpenFault → Type 0
+RefusesIn P g why old new fault = ReadsIn {A = Found P} g why old new (Err fault)

@@ -4,6 +4,7 @@ use Rattle.std.specs.List.{AllByRecursion}
 use Rattle.std.specs.FinMap.{entries}
 use Rattle.std.specs.declared.cmp.Ordering.TheVariants.{Less}
 use Rattle.sqlite_trees.specs.View.{View, HasCause}
+use Rattle.sqlite_value.specs.Order.{Row}
 use Rattle.rv_ledger.specs.Key.{Storage, key_cmp}
 use Rattle.entry_tree.specs.Entries.{ByteMap, rows_of}
 use Rattle.session_file.specs.Kept.{AreEntries, IsSessionInLimits, answer_row, answer_tree, rows_if_any, session_row, session_tree, storage_tree}
@@ -15,6 +16,14 @@ use Rattle.session_file.specs.declared.fault.OpenFault.TheVariants.{Damaged, Not
 -- entries with keys of 32 bytes and with values that fit
 abbrev pub DoFit : (List ℕ → Type 0) → List (List ℕ × List ℕ) → Type 0
 DoFit fits es = AllByRecursion (λ e. (length e.0 ≡ 32) × fits e.1) es
+
+-- All rows of a tree were taken: what took them is made of their entries, whose keys have 32 bytes and whose values fit. After a
+-- failure (not `clean`) they may be other rows.
+pub record AreTaken (made_of : ByteMap → Type 0) (fits : List ℕ → Type 0) (clean : Type 0) (rows : List Row) : Type 0 where
+  pub taken : ByteMap
+  pub made : made_of taken
+  pub fit : DoFit fits (entries taken)
+  pub are_all : clean → rows ≡ rows_of taken
 
 -- a key is above the last one, if there is one
 abbrev pub IsAbove : List ℕ → Option (List ℕ) → Type 0

@@ -12,8 +12,9 @@ mod reading;
 mod rows;
 mod writing;
 
+pub use entries::Entries;
 pub use fault::OpenFault;
 pub use file::SessionFile;
 pub use laws::held_session_is_one;
 pub use opening::open_session;
-pub use rows::{AnswerRow, Found, ProgramRow, SessionRow};
+pub use rows::{AnswerRow, Found, SessionRow};

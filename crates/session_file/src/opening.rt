@@ -1,18 +1,20 @@
 //! Opening the store of a session.
 
-ghost use Rattle.std.specs.Prelude.{◌≡◌, false, map, IfErr, IfOk, IsTrue, Ok, OnOk};
+ghost use Rattle.std.specs.Prelude.{◌≡◌, ℕ, List, false, IfErr, IfOk, IsTrue, Ok, OnOk};
+ghost use Rattle.std.specs.FinMap.{empty};
 ghost use Rattle.sqlite_trees.specs.View.{IsClean};
 ghost use Rattle.sqlite_value.specs.Keys.{plain};
-ghost use Rattle.entry_tree.specs.Entries.{rows_of};
+ghost use Rattle.entry_tree.specs.Entries.{ByteMap, rows_of};
 ghost use Rattle.session_file.specs.Kept.{AreEntries, HoldsIn, storage_tree};
-ghost use Rattle.session_file.specs.Opening.{AreRising, IsFresh, IsRefused, ReadsIn, RefusesIn, kept_of, program_entry};
+ghost use Rattle.session_file.specs.Opening.{IsFresh, IsRefused, ReadsIn, RefusesIn, kept_of};
 ghost use Rattle.session_file.specs.Rows.{HasNoStorage, IsReadFault};
 ghost use Rattle.session_file.specs.Staging.{HasTrees, IsKeeping, IsShaped};
 
+use crate::entries::Entries;
 use crate::fault::OpenFault;
 use crate::file::SessionFile;
 use crate::reading::{read_answer, read_entries, read_session};
-use crate::rows::{Found, ProgramRow};
+use crate::rows::Found;
 use crate::writing::{ANSWER_TREE, PROGRAM_TREE, SESSION_TREE, STORAGE_TREE};
 use rv_ledger::StoreBuilder;
 use sqlite_trees::store::{Shape, Store};
@@ -34,10 +36,16 @@ fn has_trees<S: Store>(store: &S) -> bool
 }
 
 /// Reads what a store that was just opened keeps.
-fn load<S: Store>(alloc: Global, store: &mut S) -> Result<Found, OpenFault>
-    requires { IsClean (S.Store.view store.old) → IsFresh (S.Store.view store.old) }
-    ensures ok { IfOk result (λ found. IsClean (S.Store.view store.new) → HoldsIn (S.Store.view store.new).trees (kept_of found)) }
-    ensures rising { IfOk result (λ found. AreRising (map program_entry found.programs.items)) }
+fn load<S: Store, P: Entries + Drop>(
+    alloc: Global,
+    store: &mut S,
+    programs: P,
+) -> Result<Found<P>, OpenFault>
+    requires fresh { IsClean (S.Store.view store.old) → IsFresh (S.Store.view store.old) }
+    requires empty { P.Entries.is_made_of programs empty }
+    requires takes { (file : List ℕ) → P.Entries.fits file }
+    ensures ok { IfOk result (λ found. (files : ByteMap) × P.Entries.is_made_of found.programs files
+        × (IsClean (S.Store.view store.new) → HoldsIn (S.Store.view store.new).trees (kept_of files found))) }
     ensures trees { OnOk result (HasTrees (S.Store.view store.old)) }
     ensures reads { ReadsIn S.Store IsRefused store.old store.new result }
 {
@@ -47,7 +55,7 @@ fn load<S: Store>(alloc: Global, store: &mut S) -> Result<Found, OpenFault>
     let mut row = Row::new(alloc);
     let session = read_session(alloc, store, &mut row)?;
     let answer = read_answer(alloc, store, &mut row)?;
-    let mut programs: Vec<ProgramRow> = Vec::new(alloc);
+    let mut programs = programs;
     read_entries(store, PROGRAM_TREE, &mut row, &mut programs)?;
     let storage = load_storage(alloc, store, &mut row)?;
     Ok(Found {
@@ -74,20 +82,23 @@ fn load_storage<S: Store>(
     Ok(entries.finish()?)
 }
 
-/// Opens a store that was just opened, or made with no rows, as that of a session, and reads what it keeps. If this is refused,
+/// Opens a store that was just opened, or made with no rows, as that of a session, and reads what it keeps. `programs` has taken
+/// nothing, and takes each program's name and file; the bytes of a file are there no longer than it takes them. If this is refused,
 /// it returns the store. Nothing is written.
-pub fn open_session<S: Store>(
+pub fn open_session<S: Store, P: Entries + Drop>(
     alloc: Global,
     store: S,
-) -> Result<(SessionFile<S>, Found), (OpenFault, S)>
-    requires { IsClean (S.Store.view store) → IsFresh (S.Store.view store) }
-    ensures ok { IfOk result (λ r. IsKeeping (S.Store.view r.0) (kept_of r.1)) }
-    ensures rising { IfOk result (λ r. AreRising (map program_entry r.1.programs.items)) }
+    programs: P,
+) -> Result<(SessionFile<S>, Found<P>), (OpenFault, S)>
+    requires fresh { IsClean (S.Store.view store) → IsFresh (S.Store.view store) }
+    requires empty { P.Entries.is_made_of programs empty }
+    requires takes { (file : List ℕ) → P.Entries.fits file }
+    ensures ok { IfOk result (λ r. (files : ByteMap) × P.Entries.is_made_of r.1.programs files × IsKeeping (S.Store.view r.0) (kept_of files r.1)) }
     ensures read { IfOk result (λ r. ReadsIn S.Store IsRefused store r.0 (Ok r.1)) }
-    ensures refused { IfErr result (λ e. RefusesIn S.Store IsRefused store e.1 e.0) }
+    ensures refused { IfErr result (λ e. RefusesIn P S.Store IsRefused store e.1 e.0) }
 {
     let mut store = store;
-    match load(alloc, &mut store) {
+    match load(alloc, &mut store, programs) {
         Ok(found) => Ok((SessionFile::over(alloc, store), found)),
         Err(fault) => Err((fault, store)),
     }

@@ -1,16 +1,13 @@
 //! Reading the parts of a session from the trees of a store.
 
-ghost use Rattle.std.specs.Prelude.{◌≡◌, ◌++◌, ℕ, List, [], ◌∷◌, length, map, false, IfOk, IfSome, IsTrue, OnOk};
-ghost use Rattle.std.specs.List.{AllByRecursion};
+ghost use Rattle.std.specs.Prelude.{◌≡◌, false, IfOk, IfSome, IsTrue, OnOk};
+ghost use Rattle.std.specs.FinMap.{empty};
 ghost use Rattle.std.specs.Option.{option_map};
-ghost use Rattle.std.specs.declared.cmp.Ordering.TheVariants.{Less};
 ghost use Rattle.sqlite_trees.specs.View.{IsClean, KeepsSchema};
 ghost use Rattle.sqlite_value.specs.Keys.{plain};
-ghost use Rattle.entry_tree.specs.Entries.{row_of};
-ghost use Rattle.rv_ledger.specs.Key.{key_cmp};
 ghost use Rattle.session_file.specs.Kept.{IsSessionInLimits, answer_row, answer_tree, rows_if_any, session_row, session_tree};
-ghost use Rattle.session_file.specs.Opening.{AreRising, ReadsIn, answer_parts};
-ghost use Rattle.session_file.specs.Rows.{DoFit, HasNoAnswer, HasNoEntries, HasNoSession, IsAbove, IsReadFault};
+ghost use Rattle.session_file.specs.Opening.{ReadsIn, answer_parts};
+ghost use Rattle.session_file.specs.Rows.{AreTaken, HasNoAnswer, HasNoEntries, HasNoSession, IsAbove, IsReadFault};
 
 use crate::decoding::{answer_in, bytes_of, is_of_other_version, key_in, session_in};
 use crate::entries::Entries;
@@ -42,10 +39,8 @@ pub(crate) fn read_entries<S: Store, E: Entries>(
     list: &mut E,
 ) -> Result<(), OpenFault>
     requires shape { IsClean (S.Store.view store.old) → (S.Store.view store.old).shape tree ≡ Shape.Index plain }
-    requires empty { E.Entries.taken list.old ≡ [] }
-    ensures ok { OnOk result (IsClean (S.Store.view store.new) → (S.Store.view store.old).trees tree ≡ map row_of (E.Entries.taken list.new)) }
-    ensures rising { OnOk result (AreRising (E.Entries.taken list.new)) }
-    ensures fits { OnOk result (DoFit E.Entries.fits (E.Entries.taken list.new)) }
+    requires empty { E.Entries.is_made_of list.old empty }
+    ensures ok { OnOk result (AreTaken (E.Entries.is_made_of list.new) E.Entries.fits (IsClean (S.Store.view store.new)) ((S.Store.view store.old).trees tree)) }
     ensures reads { ReadsIn S.Store (IsReadFault (HasNoEntries E.Entries.fits tree)) store.old store.new result }
     ensures schema { KeepsSchema (S.Store.view store.old) (S.Store.view store.new) }
 {

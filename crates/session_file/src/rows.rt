@@ -1,6 +1,6 @@
 //! The rows of a session.
 
-use rv_ledger::{Key, Rules, Store};
+use rv_ledger::{Rules, Store};
 
 /// The row of a session: its settings, and how far it is. A height above 9,999,999,999 and another number of 2^63 or above can't
 /// be kept.
@@ -20,15 +20,6 @@ pub struct SessionRow {
     pub digest: [u8; 32],
 }
 
-/// A program: its name and the bytes of its file.
-#[derive(Drop)]
-pub struct ProgramRow {
-    /// Its name.
-    pub name: Key,
-    /// Its file.
-    pub file: Vec<u8>,
-}
-
 /// What the last frame that counts was answered.
 #[derive(Drop)]
 pub struct AnswerRow {
@@ -40,11 +31,11 @@ pub struct AnswerRow {
 
 /// What an open finds.
 #[derive(Drop)]
-pub struct Found {
+pub struct Found<P> {
     /// The storage.
     pub storage: Store,
-    /// The programs, by ascending names.
-    pub programs: Vec<ProgramRow>,
+    /// What was made of the programs' names and files.
+    pub programs: P,
     /// The row of the session; None of a new one.
     pub session: Option<SessionRow>,
     /// What the last frame that counts was answered.

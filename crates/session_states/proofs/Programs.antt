@@ -1,23 +1,16 @@
 -- Programs that are loaded from files.
-use Rattle.std.proofs.Common.{◌≡◌, ◌+◌, ◌<◌, ◌++◌, ℕ, Bool, true, false, cond, zero, suc, List, [], ◌∷◌, map, length, get_or, take, Option, Some, None, Ordering, Less, Equal, Greater, is_eq, refl, sym, ap, subst, ◌∙◌, add-one, arith}
+use Rattle.std.proofs.Common.{◌≡◌, ℕ, Bool, true, false, cond, List, [], ◌∷◌, length, Option, Some, None, Ordering, Less, Equal, Greater, is_eq, refl, sym, ap, subst, ◌∙◌, arith}
 use Rattle.std.specs.List.{AllByRecursion}
 use Rattle.std.specs.Ordering.{eq_by_cmp}
 use Rattle.std.specs.Cmp.{tied_itself}
 use Rattle.std.specs.Cmp.Lexicographic.{nat_list_cmp_total}
-use Rattle.std.specs.FinMap.{empty, find, from_entries, from_entries_push, get, get-empty, get-from_entries, get-insert, get-remove, insert, remove, same_map}
-use Rattle.std.proofs.Math.Seq.{take-suc}
-use Rattle.std.proofs.lemmas.List.{map-append}
+use Rattle.std.specs.FinMap.{empty, entries, find, get, get-empty, get-entries, get-insert, get-remove, insert, len, len-empty, len-entries, remove, same_entries_map, same_map}
 use Rattle.elf32.specs.Layout.{Layout}
 use Rattle.rv_ledger.specs.Key.{key_cmp}
 use Rattle.rv_ledger.proofs.Entries.{key_cmp-IsAntisymmetric}
 use Rattle.entry_tree.specs.Entries.{ByteMap}
-use Rattle.session_file.specs.Opening.{AreRising, program_entry}
-use Rattle.session_file.specs.declared.rows.ProgramRow.{ProgramRow}
 use Rattle.turns.specs.Programs.{ProgramsByName}
-use Rattle.session_states.specs.Loads.{IsNotLoaded}
 use Rattle.session_states.specs.States.{AreLoadedFrom, IsLoadedFrom}
-use Rattle.session_states.specs.declared.loading.LoadFault.{LoadFault}
-use Rattle.session_states.specs.declared.loading.LoadFault.TheVariants.{OtherSettings, Damaged, Memory}
 
 -- no files, and no programs
 pub none_loaded : AreLoadedFrom empty empty
@@ -68,17 +61,44 @@ one_image name (Some file) (Some p) (Some q) a b =
 pub loaded_once : (files : ByteMap) (p q : ProgramsByName) → AreLoadedFrom files p → AreLoadedFrom files q → p ≡ q
 loaded_once files p q a b = same_map nat_list_cmp_total key_cmp-IsAntisymmetric p q (λ name. one_image name (get files name) (get p name) (get q name) (a name) (b name))
 
--- ---- rows by ascending names
+-- no programs, by their number
+pub no_length : (programs : ProgramsByName) → len programs ≡ 0 → programs ≡ empty
+no_length programs none =
+    let no : ProgramsByName = empty in
+    same_entries_map programs no (nothing (entries programs) (sym (len-entries programs) ∙ none) ∙ sym (nothing (entries no) (sym (len-entries no) ∙ len-empty key_cmp Layout)))
+  where
+    nothing : (es : List (List ℕ × Layout)) → length es ≡ 0 → es ≡ []
+    nothing [] is = refl
+    nothing (e ∷ es) is = absurd (omega arith)
 
-at_index : (P : List ℕ × List ℕ → Type 0) (rows : List ProgramRow) (i : ℕ) (row : ProgramRow) → AllByRecursion P (map program_entry rows) → i < length rows → row ≡ get_or rows i row → P (program_entry row)
-at_index P [] i row all within is = absurd (omega arith)
-at_index P (r ∷ rs) zero row all within is = subst (λ (w : ProgramRow). P (program_entry w)) (sym is) all.0
-at_index P (r ∷ rs) (suc i) row all within is = at_index P rs i row all.1 (omega arith) is
+-- a program of no files is none
+pub no_files : (files : ByteMap) → AreLoadedFrom files empty → files ≡ empty
+no_files files all = same_map nat_list_cmp_total key_cmp-IsAntisymmetric files empty (λ name.
+    none_here name (get files name) (rw (get-empty {X = Layout} key_cmp name) at (all name)) ∙ sym (get-empty {X = List ℕ} key_cmp name))
+  where
+    none_here : (name : List ℕ) (file : Option (List ℕ)) → IsLoadedFrom name file None → file ≡ None
+    none_here name None h = refl
+    none_here name (Some file) h = absurd h
 
-before_index : (rows : List ProgramRow) (i : ℕ) (row : ProgramRow) → AreRising (map program_entry rows) → i < length rows → row ≡ get_or rows i row → AllByRecursion (λ e. key_cmp e.0 row.name ≡ Less) (map program_entry (take i rows))
-before_index [] i row up within is = absurd (omega arith)
-before_index (r ∷ rs) zero row up within is = tt
-before_index (r ∷ rs) (suc i) row up within is = (at_index (λ e. key_cmp r.name e.0 ≡ Less) rs i row up.0 (omega arith) is, before_index rs i row up.1 (omega arith) is)
+-- ---- one file after another
+
+no_program : (name file : List ℕ) (image : Option Layout) → ((image : Layout) → ¬ IsLoadedFrom name (Some file) (Some image)) → ¬ IsLoadedFrom name (Some file) image
+no_program name file None none h = h
+no_program name file (Some image) none h = none image h
+
+tied : (name : List ℕ) → eq_by_cmp key_cmp name name ≡ true
+tied name =
+    let same : key_cmp name name ≡ Equal = tied_itself nat_list_cmp_total name in
+    rw same refl
+
+-- after a file that is no program of its name, the files have no programs
+pub none_after : (files : ByteMap) (name file : List ℕ) → ((image : Layout) → ¬ IsLoadedFrom name (Some file) (Some image)) → (programs : ProgramsByName) → ¬ AreLoadedFrom (insert files name file) programs
+none_after files name file none programs all =
+    no_program name file (get programs name) none (rw (get-insert nat_list_cmp_total files name file name, tied name) at (all name))
+
+still_one : (q : List ℕ) (old : Option (List ℕ)) (file : List ℕ) (image : Option Layout) (b : Bool) → (b ≡ true → old ≡ None) → IsLoadedFrom q (cond b (Some file) old) image → IsLoadedFrom q old (cond b None image)
+still_one q old file image true absent h = rw (absent refl) tt
+still_one q old file image false absent h = h
 
 -- a name below another is not that name
 apart : (low high : List ℕ) → key_cmp low high ≡ Less → eq_by_cmp key_cmp high low ≡ false
@@ -88,45 +108,10 @@ none_below : (key : List ℕ) (es : List (List ℕ × List ℕ)) → AllByRecurs
 none_below key [] low = refl
 none_below key (e ∷ es) low = rw (apart e.0 key low.0) (none_below key es low.1)
 
-at_name : (rows : List ProgramRow) (i : ℕ) (row : ProgramRow) → AreRising (map program_entry rows) → i < length rows → row ≡ get_or rows i row → find key_cmp row.name (map program_entry rows) ≡ Some row.file.items
-at_name [] i row up within is = absurd (omega arith)
-at_name (r ∷ rs) zero row up within is =
-    let same : key_cmp r.name r.name ≡ Equal = tied_itself nat_list_cmp_total r.name in
-    subst (λ (w : ProgramRow). find key_cmp w.name (map program_entry (r ∷ rs)) ≡ Some w.file.items) (sym is) (rw same refl)
-at_name (r ∷ rs) (suc i) row up within is =
-    let less : key_cmp r.name row.name ≡ Less = at_index (λ e. key_cmp r.name e.0 ≡ Less) rs i row up.0 (omega arith) is in
-    rw (apart r.name row.name less) (at_name rs i row up.1 (omega arith) is)
-
-pushed : (rows : List ProgramRow) (i : ℕ) (row : ProgramRow) → i < length rows → row ≡ get_or rows i row → map program_entry (take (i + 1) rows) ≡ map program_entry (take i rows) ++ program_entry row ∷ []
-pushed rows i row within is =
-    ap (λ (n : ℕ). map program_entry (take n rows)) (add-one i) ∙ ap (map program_entry) (take-suc rows i row within)
-    ∙ map-append program_entry (take i rows) (get_or rows i row ∷ []) ∙ ap (λ (w : ProgramRow). map program_entry (take i rows) ++ program_entry w ∷ []) (sym is)
-
--- the row at an index was loaded, and all before it
-pub next_loaded : (rows : List ProgramRow) (i : ℕ) (row : ProgramRow) (programs : ProgramsByName) (image : Layout) → AreRising (map program_entry rows) → i < length rows → row ≡ get_or rows i row
-    → AreLoadedFrom (from_entries (map program_entry (take i rows))) programs → IsLoadedFrom row.name (Some row.file.items) (Some image)
-    → AreLoadedFrom (from_entries (map program_entry (take (i + 1) rows))) (insert programs row.name image)
-next_loaded rows i row programs image up within is all this =
-    let files = map program_entry (take i rows) in
-    let none : find key_cmp row.name files ≡ None = none_below row.name files (before_index rows i row up within is) in
-    let push : from_entries {R = key_cmp} (map program_entry (take (i + 1) rows)) ≡ insert (from_entries files) row.name row.file.items =
-    ap (from_entries {R = key_cmp}) (pushed rows i row within is) ∙ from_entries_push nat_list_cmp_total key_cmp-IsAntisymmetric files row.name row.file.items none in
-    subst (λ (m : ByteMap). AreLoadedFrom m (insert programs row.name image)) (sym push) (one_loaded (from_entries files) programs row.name row.file.items image all this)
-
-not_some : (name file : List ℕ) (image : Option Layout) → ((image : Layout) → ¬ IsLoadedFrom name (Some file) (Some image)) → ¬ IsLoadedFrom name (Some file) image
-not_some name file None none h = h
-not_some name file (Some image) none h = none image h
-
-none_at : (rows : List ProgramRow) (i : ℕ) (row : ProgramRow) (programs : ProgramsByName) → AreRising (map program_entry rows) → i < length rows → row ≡ get_or rows i row
-    → ((image : Layout) → ¬ IsLoadedFrom row.name (Some row.file.items) (Some image)) → ¬ AreLoadedFrom (from_entries (map program_entry rows)) programs
-none_at rows i row programs up within is none all =
-    let here : get (from_entries {R = key_cmp} (map program_entry rows)) row.name ≡ Some row.file.items = get-from_entries nat_list_cmp_total (map program_entry rows) row.name ∙ at_name rows i row up within is in
-    not_some row.name row.file.items (get programs row.name) none (subst (λ (o : Option (List ℕ)). IsLoadedFrom row.name o (get programs row.name)) here (all row.name))
-
--- the row at an index was not loaded, and so all were not
-pub not_loaded : (rows : List ProgramRow) (i : ℕ) (row : ProgramRow) (fault : LoadFault) → AreRising (map program_entry rows) → i < length rows → row ≡ get_or rows i row
-    → IsNotLoaded ((image : Layout) → ¬ IsLoadedFrom row.name (Some row.file.items) (Some image)) fault
-    → IsNotLoaded ((programs : ProgramsByName) → ¬ AreLoadedFrom (from_entries (map program_entry rows)) programs) fault
-not_loaded rows i row OtherSettings up within is none = absurd none
-not_loaded rows i row Damaged up within is none = λ programs. none_at rows i row programs up within is none
-not_loaded rows i row Memory up within is none = tt
+-- files that have no programs have none after one more
+pub none_still : (files : ByteMap) (name file : List ℕ) → AllByRecursion (λ e. key_cmp e.0 name ≡ Less) (entries files) → ((programs : ProgramsByName) → ¬ AreLoadedFrom files programs)
+    → (programs : ProgramsByName) → ¬ AreLoadedFrom (insert files name file) programs
+none_still files name file low none programs all =
+    let absent : get files name ≡ None = get-entries files name ∙ none_below name (entries files) low in
+    none (remove programs name) (λ q. rw (get-remove nat_list_cmp_total programs name q)
+    (still_one q (get files q) file (get programs q) (eq_by_cmp key_cmp q name) (λ same. ap (get files) (one_key q name same) ∙ absent) (rw (get-insert nat_list_cmp_total files name file q) at (all q))))

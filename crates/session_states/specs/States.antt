@@ -19,7 +19,7 @@ use Rattle.turns.specs.declared.settings.Settings.{Settings}
 use Rattle.turns.specs.declared.state.State.{State}
 use Rattle.session_states.specs.declared.loading.LoadFault.{LoadFault}
 use Rattle.session_states.specs.declared.loading.Loaded.{Loaded}
-use Rattle.session_states.specs.declared.loading.LoadFault.TheVariants.{OtherSettings, Damaged, Memory}
+use Rattle.session_states.specs.declared.loading.LoadFault.TheVariants.{OtherSettings, Damaged}
 
 -- a session over a file: its state but for the last answer, and that answer as the file has it, its line and its bytes
 pub record FileState : Type 0 where
@@ -52,6 +52,11 @@ IsLoadedFrom name file image = ⊥
 -- so it is of each name
 abbrev pub AreLoadedFrom : ByteMap → ProgramsByName → Type 0
 AreLoadedFrom files programs = (name : List ℕ) → IsLoadedFrom name (fin.get files name) (fin.get programs name)
+
+-- what comes of loading files: their programs, or None if one of them is no program of its name
+abbrev pub AreLoadedAs : ByteMap → Option ProgramsByName → Type 0
+AreLoadedAs files (Some programs) = AreLoadedFrom files programs
+AreLoadedAs files None = (programs : ProgramsByName) → ¬ AreLoadedFrom files programs
 
 -- the row of a session of these settings, under these rules, at this height, with this digest
 abbrev pub row_of : Settings → Rules → ℕ → List ℕ → SessionRow
@@ -94,9 +99,8 @@ abbrev pub Loads : Settings → Kept → Loaded → Type 0
 Loads settings k loaded = LoadsAs loaded.is_new settings k (file_state loaded.state loaded.answer)
 
 -- when a refusal comes: the row of the session keeps other settings; or a damaged file has rows, none of them of other settings,
--- which keep no session; of a want of memory nothing is said
+-- which keep no session
 abbrev pub IsUnloadable : Settings → Kept → LoadFault → Type 0
 IsUnloadable settings k OtherSettings = (row : SessionRow) × (k.session ≡ Some row) × ¬ HasSettings settings row
 IsUnloadable settings k Damaged = (k ≢ nothing_kept) × ((f : FileState) → ¬ KeepsState settings f k)
     × ((row : SessionRow) → k.session ≡ Some row → HasSettings settings row)
-IsUnloadable settings k Memory = ⊤

@@ -3,10 +3,12 @@
 
 mod fault;
 mod laws;
+mod loader;
 mod loading;
 mod rows;
 
 pub use fault::StoreFault;
 pub use laws::kept_state_is_one;
+pub use loader::ProgramLoader;
 pub use loading::{LoadFault, Loaded, load_state};
 pub use rows::{has_settings, row_of};

@@ -1,10 +1,11 @@
-use Rattle.std.proofs.Common.{arith, map, ◌∙◌}
+use Rattle.std.proofs.Common.{arith}
+use Rattle.std.specs.FinMap.{entries}
 use Rattle.std.proofs.lemmas.Result.{err_from_is_err_and}
 use Rattle.sqlite_trees.specs.View.{IsClean}
 use Rattle.session_file.specs.Kept.{program_tree}
-use Rattle.session_file.specs.Opening.{IsRefused, program_entry}
+use Rattle.session_file.specs.Opening.{IsRefused}
 use Rattle.session_file.specs.Rows.{HasNoAnswer, HasNoEntries, HasNoSession, HasNoStorage}
-use Rattle.session_file.proofs.Lists.{named-from_rising, programs_fit, rows-from_rising}
+use Rattle.session_file.proofs.Lists.{all_named, programs_fit}
 use Rattle.session_file.proofs.Opens.{loaded, this_version}
 use Rattle.session_file.proofs.Readings.{read_nothing, read_then, refused_then}
 use Rattle.session_file.proofs.opening.load.Goals as goal
@@ -27,10 +28,10 @@ returns-in_err-read_entries-clause-reads g c =
     let v = g.S.Store.view in
     let p = err_from_is_err_and c.from_residual-in_err-read_entries.result c.from_residual-in_err-read_entries.ensures.1 in
     let both = read_then g.S.Store _ _ IsRefused c.args.store.now c.read_session.new.store c.read_answer.new.store {z = tt {0}} c.in_ok-session.ensures.reads c.in_ok-answer.ensures.reads in
-    rw (p.1, p.2) (refused_then g.S.Store IsRefused (HasNoEntries (λ _. Unit {0}) program_tree) c.args.store.now c.read_answer.new.store c.read_entries.new.store _ both
+    rw (p.1, p.2) (refused_then g.S.Store IsRefused (HasNoEntries g.P.Entries.fits program_tree) c.args.store.now c.read_answer.new.store c.read_entries.new.store _ both
     (λ clean none.
     let at1 : IsClean (v c.read_session.new.store) = omega (arith, c.in_ok-answer.ensures.reads.quiet.clean, clean) in
-    (this_version (v c.args.store.now) (v c.read_answer.new.store) _ (both.same clean) (c.in_ok-session.ensures.ok at1), λ k h. none k.programs (programs_fit k.programs h.limits.programs) h.programs)) c.in_err-read_entries.ensures.reads)
+    (this_version (v c.args.store.now) (v c.read_answer.new.store) _ (both.same clean) (c.in_ok-session.ensures.ok at1), λ k h. none k.programs (programs_fit _ (entries k.programs) c.requires.takes h.limits.programs) h.programs)) c.in_err-read_entries.ensures.reads)
 
 pub returns-in_err-storage-clause-reads : goal.returns-in_err-storage-clause-reads
 returns-in_err-storage-clause-reads g c =
@@ -50,19 +51,17 @@ returns-clause-reads g c =
     read_then g.S.Store IsRefused _ IsRefused c.args.store.now c.read_entries.new.store c.load_storage.new.store three c.in_ok-storage.ensures.reads
 
 pub returns-clause-ok : goal.returns-clause-ok
-returns-clause-ok g c clean =
+returns-clause-ok g c =
     let v = g.S.Store.view in
-    let at3 : IsClean (v c.read_entries.new.store) = omega (arith, c.load_storage.ensures.reads.quiet.clean) in
-    let at2 : IsClean (v c.read_answer.new.store) = omega (arith, c.load_storage.ensures.reads.quiet.clean, c.read_entries.ensures.reads.quiet.clean) in
-    let at1 : IsClean (v c.read_session.new.store) = omega (arith, c.load_storage.ensures.reads.quiet.clean, c.read_entries.ensures.reads.quiet.clean, c.read_answer.ensures.reads.quiet.clean) in
-    let programs = map program_entry c.read_entries.new.list.items in
-    loaded (v c.args.store.now) (v c.read_session.new.store) (v c.read_answer.new.store) (v c.read_entries.new.store) (v c.load_storage.new.store) _
-    (c.in_ok-session.ensures.reads.same at1) (c.in_ok-answer.ensures.reads.same at2) (c.in_ok-read_entries.ensures.reads.same at3) (c.in_ok-storage.ensures.reads.same clean)
-    (c.in_ok-session.ensures.ok at1) (c.in_ok-answer.ensures.ok at2)
-    (c.in_ok-read_entries.ensures.ok at3 ∙ rows-from_rising programs c.in_ok-read_entries.ensures.rising)
-    (c.in_ok-storage.ensures.ok clean)
-    (record {
-      storage = c.in_ok-storage.ensures.limits;
-      programs = named-from_rising _ programs c.in_ok-read_entries.ensures.rising c.in_ok-read_entries.ensures.fits;
-      session = c.in_ok-session.ensures.limits;
-    })
+    let read = c.in_ok-read_entries.ensures.ok in (
+      read.taken,
+      read.made,
+      λ clean.
+          let at3 : IsClean (v c.read_entries.new.store) = omega (arith, c.load_storage.ensures.reads.quiet.clean, clean) in
+          let at2 : IsClean (v c.read_answer.new.store) = omega (arith, c.load_storage.ensures.reads.quiet.clean, c.read_entries.ensures.reads.quiet.clean, clean) in
+          let at1 : IsClean (v c.read_session.new.store) = omega (arith, c.load_storage.ensures.reads.quiet.clean, c.read_entries.ensures.reads.quiet.clean, c.read_answer.ensures.reads.quiet.clean, clean) in
+          loaded (v c.args.store.now) (v c.read_session.new.store) (v c.read_answer.new.store) (v c.read_entries.new.store) (v c.load_storage.new.store) _
+          (c.in_ok-session.ensures.reads.same at1) (c.in_ok-answer.ensures.reads.same at2) (c.in_ok-read_entries.ensures.reads.same at3) (c.in_ok-storage.ensures.reads.same clean)
+          (c.in_ok-session.ensures.ok at1) (c.in_ok-answer.ensures.ok at2) (read.are_all at3) (c.in_ok-storage.ensures.ok clean)
+          (record { storage = c.in_ok-storage.ensures.limits; programs = all_named _ (entries read.taken) read.fit; session = c.in_ok-session.ensures.limits }),
+    )

@@ -1,13 +1,13 @@
-use Rattle.std.proofs.Common.{◌≡◌, ◌++◌, [], ◌∷◌, length, arith, rules, sym, ap, ◌∙◌, refl, subst}
+use Rattle.std.proofs.Common.{◌≡◌, ◌∷◌, arith, rules, sym, ap, ◌∙◌, refl, subst}
+use Rattle.std.specs.FinMap.{entries}
 use Rattle.std.proofs.lemmas.Result.{err_from_is_err_and}
 use Rattle.sqlite_value.specs.Order.{bytes, column}
-use Rattle.sqlite_trees.specs.View.{View}
+use Rattle.sqlite_trees.specs.View.{View, IsClean}
 use Rattle.sqlite_exec.specs.Loops.{left_of}
 use Rattle.sqlite_exec.proofs.CheckLemmas as lemma
 use Rattle.entry_tree.specs.Entries.{row_of}
-use Rattle.session_file.specs.Opening.{AreRising}
-use Rattle.session_file.specs.Rows.{DoFit, HasNoEntries, IsAbove}
-use Rattle.session_file.proofs.Lists.{above_all, all_pushed, found_next, last_key, last_pushed, one_key, rising_pushed, rows_pushed}
+use Rattle.session_file.specs.Rows.{HasNoEntries, IsAbove}
+use Rattle.session_file.proofs.Lists.{all_taken, found_next, none_taken, one_key, one_taken}
 use Rattle.session_file.proofs.Loads.{all_left}
 use Rattle.session_file.proofs.Readings.{quiet_same, read_damaged, read_failed}
 use Rattle.session_file.proofs.reading.read_entries.Goals as goal
@@ -17,60 +17,50 @@ rows-init g c = (
   search rules,
   search rules,
   search rules,
-  λ clean. rw c.requires.empty (all_left _ _ _ _ c.args.tree c.clear.ensures (c.in_ok-seek.ensures.ok clean)),
-  rw c.requires.empty tt,
-  rw c.requires.empty tt,
-  rw c.requires.empty refl,
+  none_taken _ _ _ _ _ c.requires.empty (λ clean. all_left _ _ _ _ c.args.tree c.clear.ensures (c.in_ok-seek.ensures.ok clean)),
   search rules,
 )
+
+pub returns-then-not-branch-clause-ok : goal.returns-then-not-branch-clause-ok
+returns-then-not-branch-clause-ok g c =
+    all_taken _ _ _ _ _ _ _ (λ clean. omega (arith, c.next.ensures.quiet.clean, clean)) (λ clean. lemma.ended _ _ 0 c.next.new.row (rw c.if-not-branch.true at (c.in_ok-next.ensures.ok clean))) c.rows.invariant.3
 
 pub returns-in_default-clause-reads : goal.returns-in_default-clause-reads
 returns-in_default-clause-reads g c =
     read_damaged g.S.Store (HasNoEntries g.E.Entries.fits c.args.tree) c.args.store.now c.rows.store _ c.rows.invariant.2 c.next.ensures.quiet (λ clean m all is.
     let step = lemma.stepped _ _ 0 c.next.new.row (rw c.if-not-branch.false at (c.in_ok-next.ensures.ok clean)) in
-    let it = found_next g.E.Entries.fits (g.E.Entries.taken c.rows.list) c.next.new.row _ _ _ m (c.rows.invariant.3 (omega (arith, c.next.ensures.quiet.clean))) step is all in
+    let it = found_next g.E.Entries.fits (entries c.rows.invariant.3.taken) c.next.new.row _ _ _ m (c.rows.invariant.3.before (omega (arith, c.next.ensures.quiet.clean))) step is all in
     c.in_default.ensures.none refl it.entry.0 it.entry.1 it.key it.row)
 
 pub returns-then-not-is_above-clause-reads : goal.returns-then-not-is_above-clause-reads
 returns-then-not-is_above-clause-reads g c =
     read_damaged g.S.Store (HasNoEntries g.E.Entries.fits c.args.tree) c.args.store.now c.rows.store _ c.rows.invariant.2 c.next.ensures.quiet (λ clean m all is.
     let step = lemma.stepped _ _ 0 c.next.new.row (rw c.if-not-branch.false at (c.in_ok-next.ensures.ok clean)) in
-    let it = found_next g.E.Entries.fits (g.E.Entries.taken c.rows.list) c.next.new.row _ _ _ m (c.rows.invariant.3 (omega (arith, c.next.ensures.quiet.clean))) step is all in
+    let it = found_next g.E.Entries.fits (entries c.rows.invariant.3.taken) c.next.new.row _ _ _ m (c.rows.invariant.3.before (omega (arith, c.next.ensures.quiet.clean))) step is all in
     let row : c.next.new.row ≡ row_of (c.in-Some.key, bytes (column c.next.new.row 1)) = c.in-Some.ensures.some in
     let same : row_of (c.in-Some.key, bytes (column c.next.new.row 1)) ≡ row_of it.entry = sym row ∙ it.row in
     let key : it.entry.0 ≡ c.in-Some.key = sym (one_key (c.in-Some.key, bytes (column c.next.new.row 1)) it.entry same) in
-    c.is_above.ensures.other c.if-not-is_above.true (subst (λ k. IsAbove k c.rows.last) key (subst (IsAbove it.entry.0) (sym c.rows.invariant.6) it.above)))
+    c.is_above.ensures.other c.if-not-is_above.true (subst (λ k. IsAbove k c.rows.last) key (subst (IsAbove it.entry.0) (sym c.rows.invariant.3.last) it.above)))
 
 pub returns-then-not-branch-2-clause-reads : goal.returns-then-not-branch-2-clause-reads
 returns-then-not-branch-2-clause-reads g c =
     read_damaged g.S.Store (HasNoEntries g.E.Entries.fits c.args.tree) c.args.store.now c.rows.store _ c.rows.invariant.2 c.next.ensures.quiet (λ clean m all is.
     let step = lemma.stepped _ _ 0 c.next.new.row (rw c.if-not-branch.false at (c.in_ok-next.ensures.ok clean)) in
-    let it = found_next g.E.Entries.fits (g.E.Entries.taken c.rows.list) c.next.new.row _ _ _ m (c.rows.invariant.3 (omega (arith, c.next.ensures.quiet.clean))) step is all in
+    let it = found_next g.E.Entries.fits (entries c.rows.invariant.3.taken) c.next.new.row _ _ _ m (c.rows.invariant.3.before (omega (arith, c.next.ensures.quiet.clean))) step is all in
     let value : it.entry.1 ≡ c.bytes_of.result.now = sym (c.bytes_of.ensures ∙ ap bytes c.get.ensures ∙ ap (λ r. bytes (column r 1)) it.row) in
     c.in_ok-take.ensures.refused c.if-not-branch-2.true (subst g.E.Entries.fits value it.value))
 
 pub rows-preserved : goal.rows-preserved
 rows-preserved g c =
-    let taken = g.E.Entries.taken c.rows.list in
-    let now = g.S.Store.view c.next.new.self in
-    let key = c.in-Some.key in
     let value = c.bytes_of.result.now in
-    let above : IsAbove key (last_key taken) = subst (IsAbove key) c.rows.invariant.6 (c.is_above.ensures.above c.if-not-is_above.false) in
-    let low = above_all key taken c.rows.invariant.4 above in
-    let is : g.E.Entries.taken c.take.new.self ≡ taken ++ (key, value) ∷ [] = c.in_ok-take.ensures.taken c.if-not-branch-2.false low in
-    let fits : g.E.Entries.fits value = c.in_ok-take.ensures.fits c.if-not-branch-2.false in
-    let count : length key ≡ 32 = c.in-Some.ensures.count in
     let blob : bytes (column c.next.new.row 1) ≡ value = sym (c.bytes_of.ensures ∙ ap bytes c.get.ensures) in
-    let row : c.next.new.row ≡ row_of (key, value) = c.in-Some.ensures.some ∙ ap (λ b. row_of (key, b)) blob in (
+    let row : c.next.new.row ≡ row_of (c.in-Some.key, value) = c.in-Some.ensures.some ∙ ap (λ b. row_of (c.in-Some.key, b)) blob in (
       search rules,
       search rules,
       search rules,
-      λ clean.
-          let step = lemma.stepped _ _ 0 c.next.new.row (rw c.if-not-branch.false at (c.in_ok-next.ensures.ok clean)) in
-          rows_pushed taken (key, value) _ _ _ (left_of now 0) _ is row step (c.rows.invariant.3 (omega (arith, c.next.ensures.quiet.clean))),
-      subst AreRising (sym is) (rising_pushed taken (key, value) c.rows.invariant.4 low),
-      subst (DoFit g.E.Entries.fits) (sym is) (all_pushed _ taken (key, value) c.rows.invariant.5 (count, fits)),
-      sym (ap last_key is ∙ last_pushed taken (key, value)),
+      one_taken _ _ _ c.rows.last _ _ c.in-Some.key value _ _ _ _ (c.in_ok-take.ensures.taken c.if-not-branch-2.false) (c.is_above.ensures.above c.if-not-is_above.false) c.in-Some.ensures.count
+          (c.in_ok-take.ensures.fits c.if-not-branch-2.false) row (λ clean. omega (arith, c.next.ensures.quiet.clean, clean))
+          (λ clean. lemma.stepped _ _ 0 c.next.new.row (rw c.if-not-branch.false at (c.in_ok-next.ensures.ok clean))) c.rows.invariant.3,
       search rules,
     )
 

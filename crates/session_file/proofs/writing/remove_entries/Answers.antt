@@ -6,8 +6,7 @@ use Rattle.sqlite_trees.specs.Tree.{remove_entry}
 use Rattle.sqlite_trees.specs.View.{View, IsClean}
 use Rattle.entry_tree.specs.Entries.{row_of}
 use Rattle.session_file.specs.Kept.{storage_tree}
-use Rattle.session_file.specs.Opening.{AreRising}
-use Rattle.session_file.proofs.Lists.{first_removed, map_rising}
+use Rattle.session_file.proofs.Lists.{AreRising, first_removed, map_rising}
 use Rattle.entry_tree.proofs.Tries.{after, failed, weaker_ok}
 use Rattle.session_file.proofs.writing.remove_entries.Goals as goal
 

@@ -3,7 +3,7 @@ use Rattle.sqlite_trees.specs.View.{IsClean, OnlyWrites}
 use Rattle.entry_tree.specs.Tries.{Tries}
 use Rattle.entry_tree.specs.Entries.{row_of, rows_of}
 use Rattle.session_file.specs.Kept.{storage_tree}
-use Rattle.session_file.specs.Opening.{AreRising}
+use Rattle.session_file.proofs.Lists.{AreRising}
 use Rattle.session_file.proofs.writing.remove_entries.Given as goal
 
 abbrev pub invariant-loop-key : goal.invariant-loop-key

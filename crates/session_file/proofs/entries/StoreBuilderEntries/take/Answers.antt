@@ -1,9 +1,9 @@
 use Rattle.std.proofs.Common.{◌≡◌, ap, ◌∙◌, rules}
-use Rattle.std.specs.FinMap.{entries, insert}
-use Rattle.session_file.proofs.Lists.{entries-inserted}
+use Rattle.std.specs.FinMap.{insert}
+use Rattle.entry_tree.specs.Entries.{ByteMap}
 use Rattle.session_file.proofs.entries.StoreBuilderEntries.take.Goals as goal
 
 pub returns-clause-taken : goal.returns-clause-taken
-returns-clause-taken c taken low =
+returns-clause-taken c taken before low made =
     let is : c.insert.new.self ≡ insert c.args.self.now c.args.key c.args.value.now = search rules in
-    ap entries is ∙ entries-inserted c.args.self.now c.args.key c.args.value.now low
+    is ∙ ap (λ (m : ByteMap). insert m c.args.key c.args.value.now) made
