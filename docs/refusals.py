@@ -68,7 +68,7 @@ def printed(crate: str) -> dict[str, Parts]:
     """What the variants of a crate's enumerations print, by `Enumeration::Variant`. A name alone has an empty number."""
     found: dict[str, Parts] = {}
     for path in sorted((CRATES / crate / "src").glob("*.rt")):
-        text = path.read_text()
+        text = path.read_text(encoding="utf-8")
         found |= {match["variant"]: Parts("", match["name"], "") for match in NAME.finditer(text)}
         found |= {match["variant"]: Parts(match["area"], match["name"], match["number"]) for match in PARTS.finditer(text)}
     return found
@@ -85,7 +85,7 @@ def message_of(before: str, parts: Parts) -> str:
 def refusals(enumeration: Enumeration) -> Iterator[Refusal]:
     """The refusals of an enumeration, in its order. A variant that holds another enumeration prints what that one does, and is left out."""
     names = printed(enumeration.file.partition("/")[0])
-    _, _, after = (CRATES / enumeration.file).read_text().partition(f"pub enum {enumeration.name} {{\n")
+    _, _, after = (CRATES / enumeration.file).read_text(encoding="utf-8").partition(f"pub enum {enumeration.name} {{\n")
     comment: list[str] = []
     for line in after.partition("\n}\n")[0].splitlines():
         variant = VARIANT.match(line)
@@ -100,7 +100,7 @@ def all_refusals() -> dict[str, str]:
 
 
 def areas() -> set[str]:
-    texts = (path.read_text() for path in CRATES.glob("*/src/*.rt"))
+    texts = (path.read_text(encoding="utf-8") for path in CRATES.glob("*/src/*.rt"))
     return {found[1] or found[2] for text in texts for found in AREA.finditer(text)}
 
 
@@ -112,7 +112,7 @@ def table_lines() -> Iterator[str]:
 
 
 def differences() -> Iterator[str]:
-    wanted, said = all_refusals(), {row["message"]: row["when"] for row in ROW.finditer(PAGE.read_text())}
+    wanted, said = all_refusals(), {row["message"]: row["when"] for row in ROW.finditer(PAGE.read_text(encoding="utf-8"))}
     for message, when in wanted.items():
         if message not in said:
             yield f"{PAGE.name}: no row says when `{message}` comes: {when}"

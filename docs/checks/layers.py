@@ -51,5 +51,5 @@ def svg() -> str:
 def differences() -> Iterator[str]:
     """Whether the picture is another than the sources have."""
     path = sources.TOP / PICTURE
-    if not path.is_file() or path.read_text() != svg():
+    if not path.is_file() or path.read_text(encoding="utf-8") != svg():
         yield f"{PICTURE}: docs/check --crates --svg {PICTURE} draws another picture"

@@ -77,13 +77,13 @@ def faults() -> Iterator[str]:
     yield from rule_calls.differences()
     yield from refusals.differences()
     for page in pages.page_files():
-        yield from pages.faults_of(page, page.read_text(), pages.options_of(parser()))
-    yield from markdown.broken_links(sources.TOP / "CHANGELOG.md", (sources.TOP / "CHANGELOG.md").read_text())
+        yield from pages.faults_of(page, page.read_text(encoding="utf-8"), pages.options_of(parser()))
+    yield from markdown.broken_links(sources.TOP / "CHANGELOG.md", (sources.TOP / "CHANGELOG.md").read_text(encoding="utf-8"))
 
 
 def check() -> int:
     missing = list(faults())
-    count = sum(pages.count_of_names(page.read_text()) for page in pages.page_files())
+    count = sum(pages.count_of_names(page.read_text(encoding="utf-8")) for page in pages.page_files())
     print(*missing, sep="\n", end="\n" if missing else "")
     print(versions.line_of_sources())
     print(f"{count} names, {len(missing)} missing")
@@ -95,13 +95,13 @@ def run(given: argparse.Namespace) -> int:
         raise MisuseError("--html goes with --book")
     if given.html:
         held = book.book_of(given.book)
-        given.html.write_text(book_page.page_of(held))
+        given.html.write_text(book_page.page_of(held), encoding="utf-8")
         print(f"{given.html}: {held.summary}")
         return errors.Status.DONE
     if given.svg and given.crates != []:
         raise MisuseError("--svg goes with --crates, without the name of a crate")
     if given.svg:
-        given.svg.write_text(layers.svg())
+        given.svg.write_text(layers.svg(), encoding="utf-8")
         print(f"{given.svg}: {sources.counted(len(sources.crate_names()), 'crate')}")
         return errors.Status.DONE
     for printer in PRINTERS:

@@ -72,5 +72,5 @@ def broken_links(page: Path, text: str) -> Iterator[str]:
         to = page.parent / file if file else page
         if file and not to.exists():
             yield f"{page.name}: the link {link} leads nowhere"
-        elif anchor and to.suffix == ".md" and anchor not in anchors_of(to.read_text() if file else text):
+        elif anchor and to.suffix == ".md" and anchor not in anchors_of(to.read_text(encoding="utf-8") if file else text):
             yield f"{page.name}: the link {link} leads to no heading"

@@ -51,7 +51,7 @@ def listed(text: str) -> dict[str, str]:
 
 
 def differences() -> Iterator[str]:
-    for path, wanted in listed(LIST.read_text()).items():
+    for path, wanted in listed(LIST.read_text(encoding="utf-8")).items():
         call = call_of(path)
         if not call:
             yield f"docs/rule_calls.txt: there is no public {path}, which the rules name"

@@ -17,7 +17,7 @@ RUST_USE = re.compile(r"^(pub(?:\(\w+\))? )?use ([\w:]+?)(?:::\{([^{}]*)\}|::(\w
 @functools.cache
 def libraries() -> Mapping[str, tuple[str, ...]]:
     """The crates, lowest first, each with the libraries that crates.txt gives it."""
-    lines = (TOP / "crates.txt").read_text().splitlines()
+    lines = (TOP / "crates.txt").read_text(encoding="utf-8").splitlines()
     rows = (line.partition(":") for line in lines if ":" in line and not line.startswith("#"))
     return {name.split()[0]: tuple(others.split()) for name, _, others in rows}
 
@@ -42,7 +42,7 @@ def shown(path: Path) -> str:
 
 @functools.cache
 def text_of(path: Path) -> str:
-    return path.read_text()
+    return path.read_text(encoding="utf-8")
 
 
 @functools.cache

@@ -137,7 +137,7 @@ def unused_places(crate: str) -> Iterator[Unused]:
 
 @functools.cache
 def cited_by_pages() -> frozenset[str]:
-    return frozenset(name for page in pages.page_files() for name, _ in pages.CALL.findall(page.read_text()))
+    return frozenset(name for page in pages.page_files() for name, _ in pages.CALL.findall(page.read_text(encoding="utf-8")))
 
 
 def is_law(call: Call) -> bool:
@@ -147,7 +147,7 @@ def is_law(call: Call) -> bool:
 
 def kind_of(call: Call) -> Kind | None:
     """How a public name is unused; None if it is used."""
-    rules = rule_calls.listed((sources.TOP / "docs/rule_calls.txt").read_text())
+    rules = rule_calls.listed((sources.TOP / "docs/rule_calls.txt").read_text(encoding="utf-8"))
     if call.full_name in public_names.used(False) or call.full_name in rules or (is_law(call) and call.full_name in cited_by_pages()):
         return None
     if public_names.is_used_in_crate(call):
@@ -169,7 +169,7 @@ def unused_names(crate: str) -> Iterator[Unused]:
 
 def exceptions() -> list[str]:
     path = sources.TOP / LIST
-    lines = path.read_text().splitlines() if path.is_file() else []
+    lines = path.read_text(encoding="utf-8").splitlines() if path.is_file() else []
     rows = [line.partition("  # ") for line in lines if line and not line.startswith("#")]
     for name, _, reason in rows:
         if not reason:

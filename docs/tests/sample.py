@@ -130,7 +130,7 @@ def tree(others: Mapping[str, str] | None = None) -> Iterator[Path]:
         top = Path(place)
         for name, text in {**FILES, **(others or {})}.items():
             (top / name).parent.mkdir(parents=True, exist_ok=True)
-            (top / name).write_text(text)
+            (top / name).write_text(text, encoding="utf-8")
         forget()
         with mock.patch.multiple(sources, TOP=top, CRATES=top / "crates"):
             yield top

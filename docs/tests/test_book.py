@@ -90,7 +90,7 @@ class Books(unittest.TestCase):
     def test_the_headline(self) -> None:
         """The definitions of the fold are in the book of the headline as their file has them, and each link of its page leads on."""
         held = book.book_of(["stm_core::drive", "receipts", "store"])
-        text = (sources.CRATES / "rv_step/specs/Fold.antt").read_text()
+        text = (sources.CRATES / "rv_step/specs/Fold.antt").read_text(encoding="utf-8")
         page = Reader(book_page.page_of(held))
         for name in ("store_after_call", "receipts_of", "store_after"):
             lines = [line for line in text.splitlines() if line.startswith((f"{name} ", f"abbrev pub {name} ", f"unfoldable pub {name} "))]

@@ -64,7 +64,7 @@ class Layers(unittest.TestCase):
         line = "docs/crates.svg: docs/check --crates --svg docs/crates.svg draws another picture"
         with sample.tree({"crates.txt": CRATES}) as top:
             self.assertEqual(list(layers.differences()), [line])
-            (top / layers.PICTURE).write_text(layers.svg())
+            (top / layers.PICTURE).write_text(layers.svg(), encoding="utf-8")
             self.assertEqual(list(layers.differences()), [])
-            (top / layers.PICTURE).write_text(layers.svg().replace("middle", "midst"))
+            (top / layers.PICTURE).write_text(layers.svg().replace("middle", "midst"), encoding="utf-8")
             self.assertEqual(list(layers.differences()), [line])

@@ -51,14 +51,14 @@ class CommandLine(unittest.TestCase):
     def test_book_as_a_page(self) -> None:
         with sample.tree() as top:
             done = ended(["--book", "low::Boxed::doubled", "--html", str(top / "book.html")])
-            page = (top / "book.html").read_text()
+            page = (top / "book.html").read_text(encoding="utf-8")
         self.assertEqual(done, Ended(0, [f"{top}/book.html: 7 lines of definitions in 1 file, 0 types of the code, 1 module of the kit"], []))
         self.assertTrue(page.startswith("<!DOCTYPE html>") and page.endswith("</html>\n"))
 
     def test_picture_of_crates(self) -> None:
         with sample.tree() as top:
             done = ended(["--crates", "--svg", str(top / "crates.svg")])
-            picture = (top / "crates.svg").read_text()
+            picture = (top / "crates.svg").read_text(encoding="utf-8")
         self.assertEqual(done, Ended(0, [f"{top}/crates.svg: 2 crates"], []))
         self.assertTrue(picture.startswith("<svg ") and picture.endswith("</svg>\n"))
 

@@ -68,8 +68,8 @@ def sources(more: str = "") -> Iterator[Path]:
     with tempfile.TemporaryDirectory() as name:
         crates, page = Path(name) / "crates", Path(name) / "page.md"
         (crates / "low/src").mkdir(parents=True)
-        (crates / "low/src/fault.rt").write_text(FAULTS + more)
-        page.write_text(PAGE)
+        (crates / "low/src/fault.rt").write_text(FAULTS + more, encoding="utf-8")
+        page.write_text(PAGE, encoding="utf-8")
         with mock.patch.multiple(refusals, CRATES=crates, PAGE=page, ENUMERATIONS=ENUMERATIONS):
             refusals.printed.cache_clear()
             yield page
@@ -97,7 +97,7 @@ class Refusals(unittest.TestCase):
     def test_pages_that_differ(self) -> None:
         for (old, new), wanted in WRONG.items():
             with self.subTest(wanted), sources() as page:
-                page.write_text(PAGE.replace(old, new))
+                page.write_text(PAGE.replace(old, new), encoding="utf-8")
                 self.assertIn(f"page.md: {wanted}", list(refusals.differences()))
 
     def test_a_new_area(self) -> None:

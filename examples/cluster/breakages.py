@@ -378,7 +378,7 @@ def clock_wrong(trial: Trial) -> str:
     if not FAKETIME.exists():
         return "libfaketime is not installed"
     name, plain = trial.node(), trial.cluster.folder / "rvstm-in-time"  # an engine reads no clock, and a preview does not run with faketime
-    plain.write_text(f'#!/bin/sh\nunset LD_PRELOAD\nexec {engines.rvstm()} "$@"\n')
+    plain.write_text(f'#!/bin/sh\nunset LD_PRELOAD\nexec {engines.rvstm()} "$@"\n', encoding="utf-8")
     plain.chmod(0o755)
     trial.cluster.kill(name)
     clock = {"LD_PRELOAD": str(FAKETIME), "FAKETIME": trial.random.choice(["+1d", "-1d"])}

@@ -115,7 +115,7 @@ class Cluster:
         return self.start(name, sys.executable, HERE / script, "--etcd", self.urls, "--name", name, *words, under=under, env=env)
 
     def log(self, name: str) -> str:
-        return self.logs[name].read_text(errors="backslashreplace") if name in self.logs else ""
+        return self.logs[name].read_text(errors="backslashreplace", encoding="utf-8") if name in self.logs else ""
 
     def kill(self, name: str) -> None:
         process = self.all.pop(name)

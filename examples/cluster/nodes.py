@@ -359,7 +359,7 @@ class Node:
     @contextlib.contextmanager
     def alone(self) -> Iterator[None]:
         """Locks the folder for this node."""
-        with open(self.folder / "lock", "w") as lock:
+        with open(self.folder / "lock", "wb") as lock:
             try:
                 fcntl.flock(lock, fcntl.LOCK_EX | fcntl.LOCK_NB)
             except OSError as error:

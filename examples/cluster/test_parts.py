@@ -241,12 +241,12 @@ class Files(unittest.TestCase):
     def test_an_engine_says_why_its_file_is_refused(self) -> None:
         with tempfile.TemporaryDirectory() as place:
             stub = Path(place) / "rvstm"
-            stub.write_text("#!/bin/sh\necho $* > $0.words\necho rvstm: store Busy 1 >&2\nexit 1\n")
+            stub.write_text("#!/bin/sh\necho $* > $0.words\necho rvstm: store Busy 1 >&2\nexit 1\n", encoding="utf-8")
             stub.chmod(0o755)
             with unittest.mock.patch.dict(os.environ, {"RVSTM": str(stub)}):
                 engine = engines.Process(Settings(digest=True, store=f"{place}/FILE"))
             self.assertRaisesRegex(engines.Ended, "rvstm: store Busy 1", engine.ask, Request(b"state"))
-            self.assertIn(f"--store {place}/FILE", Path(f"{stub}.words").read_text())
+            self.assertIn(f"--store {place}/FILE", Path(f"{stub}.words").read_text(encoding="utf-8"))
             engine.close()
 
 
@@ -273,7 +273,7 @@ class Resets(unittest.TestCase):
         self.addCleanup(place.cleanup)
         self.folder = Path(place.name)
         for end in ("", "-wal"):
-            (self.folder / f"FILE{end}").write_text(f"old{end}")
+            (self.folder / f"FILE{end}").write_text(f"old{end}", encoding="utf-8")
 
     def begin(self, reset: bool, *started: Engine) -> list[str]:
         """What a node prints that begins with these engines, one after the other."""
@@ -297,7 +297,7 @@ class Resets(unittest.TestCase):
         return engine
 
     def files(self) -> dict[str, str]:
-        return {path.name: path.read_text() for path in self.folder.glob("FILE*")}
+        return {path.name: path.read_text(encoding="utf-8") for path in self.folder.glob("FILE*")}
 
     def test_a_damaged_file_stops_a_node_and_stays(self) -> None:
         before = self.files()
@@ -308,7 +308,7 @@ class Resets(unittest.TestCase):
     def test_with_reset_a_node_renames_a_damaged_file_and_begins_with_a_dump(self) -> None:
         said = self.begin(True, Refusing("Damaged 7"), Answering())
         self.assertIn("takes a dump", said)
-        self.assertEqual(sorted(path.read_text() for path in self.folder.glob("FILE.refused-*")), ["old", "old-wal"])
+        self.assertEqual(sorted(path.read_text(encoding="utf-8") for path in self.folder.glob("FILE.refused-*")), ["old", "old-wal"])
         self.assertFalse((self.folder / "FILE").exists() or (self.folder / "FILE-wal").exists())
 
     def test_no_other_refusal_renames_a_file(self) -> None:

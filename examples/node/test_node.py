@@ -50,7 +50,7 @@ class RunningNode:
     def started(self, store: Path) -> bool:
         """Whether the node has started."""
         words = [sys.executable, str(HERE / "node.py"), "--store", str(store), "--port", "0"]
-        self.process = subprocess.Popen(words, stdout=subprocess.PIPE, stderr=subprocess.PIPE, text=True)
+        self.process = subprocess.Popen(words, stdout=subprocess.PIPE, stderr=subprocess.PIPE, encoding="utf-8")
         assert self.process.stdout
         self.line = self.process.stdout.readline()
         if not self.line:
@@ -66,7 +66,7 @@ class RunningNode:
 
     def engines(self) -> list[int]:
         """The process of the session; none between one and the next."""
-        children = Path(f"/proc/{self.process.pid}/task/{self.process.pid}/children").read_text().split()
+        children = Path(f"/proc/{self.process.pid}/task/{self.process.pid}/children").read_text(encoding="utf-8").split()
         return [int(child) for child in children if b"\0chain\0" in Path(f"/proc/{child}/cmdline").read_bytes()]
 
     def ask(self, method: str, path: str, body: bytes | None = None) -> tuple[int, Object]:

@@ -28,10 +28,10 @@ def new_contract(run: Run, source: str, options: tuple[str, ...] = ()) -> None:
     holds(bool(re.search(rf"^{source}: lines \d+ of \d+", covered, re.M)), covered, f"lines of {source}")
     explore = ("explore", "votes.explore", "--calls", "100")
     same(tool(run, *explore, folder=folder).done().splitlines()[-1], "nothing is broken")
-    text = (folder / source).read_text()
+    text = (folder / source).read_text(encoding="utf-8")
     right, wrong = BUGS[source]
     same(text.count(right), 1, right)
-    (folder / source).write_text(text.replace(right, wrong))
+    (folder / source).write_text(text.replace(right, wrong), encoding="utf-8")
     command(["make", "-s", "votes.elf"], folder).done()
     broken = tool(run, *explore, folder=folder)
     same(broken.status, 1, "explore with a bug")

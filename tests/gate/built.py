@@ -35,7 +35,7 @@ def are_noted(*made: Product) -> bool:
 
 def libraries_of_kit(checkout: Checkout) -> list[str]:
     """The kit's libraries that the crate names, in their order in crates.txt."""
-    rows = (line.split(":") for line in (checkout.top / "crates.txt").read_text().splitlines() if not line.startswith("#"))
+    rows = (line.split(":") for line in (checkout.top / "crates.txt").read_text(encoding="utf-8").splitlines() if not line.startswith("#"))
     named = next(row[1].split() for row in rows if len(row) == 2 and row[0].split()[:1] == [CRATE])
     return ["std", *(name for name in named if name not in checkout.needs)]
 
@@ -65,7 +65,7 @@ def build_library(checkout: Checkout, products: Products) -> None:
     linker, folder = Linker(products), checkout.crate(CRATE)
     words = words_of_build(checkout, linker.in_kit("bin/rattle").parents[1], len(os.sched_getaffinity(0)))
     (folder / "out").mkdir(exist_ok=True)
-    done = subprocess.run(words, cwd=folder, stdin=subprocess.DEVNULL, stdout=subprocess.PIPE, stderr=subprocess.STDOUT, text=True)
+    done = subprocess.run(words, cwd=folder, stdin=subprocess.DEVNULL, stdout=subprocess.PIPE, stderr=subprocess.STDOUT, encoding="utf-8")
     if done.returncode:
         raise UserError(f"rattle build of {CRATE} ended with status {done.returncode}: {' | '.join(done.stdout.splitlines()[-3:])}")
     products.path(Product.ARCHIVE).parent.mkdir(parents=True, exist_ok=True)

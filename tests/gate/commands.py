@@ -48,6 +48,29 @@ LISTING = """\
 00010008 00050413 addi x8,x10,0
 0001000c 00000073 ecall
 """
+VOTES = """\
+program tally tally.elf
+store key:bob u64:7
+call tally 2000 key:alice
+expect returned u64:1
+call tally 2000 key:bob
+expect returned u64:9
+call tally 2000 00
+expect reverted "the input is no key"
+storage
+expect key:alice u64:1
+expect key:bob u64:8
+expect no other key
+expect same by 8 workers
+"""
+VOTES_TESTED = """\
+failed  PATH: 3 calls, expectations: 1 of 7 not met
+    line 5, call 1: call tally 2000 key:bob
+        line 6: expect returned u64:9
+        wanted  returned  0900000000000000  9
+        came    returned  0800000000000000  8
+1 test: 0 passed, 1 failed; 3 calls, 7 expectations, 1 not met
+"""
 NEW_STATE = "rules 1\nheight 0\nkeys 0\nprograms 0\nframe-limit 67108864\nframe-gas none\nbrief 0\n"
 TOO_SMALL = b"the balance is too small".hex()
 BOB = "61636374626f6200000000000000000000000000000000000000000000000014"
@@ -120,7 +143,8 @@ def migrate(run: Run) -> None:
     """A block of format 1 under rules one, as one of format 2."""
     made = run.place / "made.block"
     rvstm(run, "migrate", "counter.block", "--out", made, folder=COUNTER).done()
-    same(made.read_text(), (COUNTER / "counter.block").read_text().replace("rvblock 1\n", "rvblock 2\ngas 1\n", 1))
+    block = (COUNTER / "counter.block").read_text(encoding="utf-8")
+    same(made.read_text(encoding="utf-8"), block.replace("rvblock 1\n", "rvblock 2\ngas 1\n", 1))
 
 
 def chain(run: Run) -> None:
@@ -138,7 +162,7 @@ def help_and_version(run: Run) -> None:
     for name in names:
         for words in (("help", name), (name, "--help")) if name != "help" else ():
             holds("Usage: " in rvstm(run, *words).done(), " ".join(words), "a line of usage")
-    newest = re.search(r"^## (\d+\.\d+\.\d+)", (TOP / "CHANGELOG.md").read_text(), re.M)
+    newest = re.search(r"^## (\d+\.\d+\.\d+)", (TOP / "CHANGELOG.md").read_text(encoding="utf-8"), re.M)
     same(rvstm(run, "--version").done(), f"rvstm {newest[1] if newest else ''}\n")
 
 
@@ -169,7 +193,7 @@ COMMANDS: dict[str, Callable[[Run], None]] = {
 
 def block(run: Run) -> None:
     """A list to its block."""
-    same(tool(run, "block", COUNTER / "counter.list").done(), (COUNTER / "counter.block").read_text())
+    same(tool(run, "block", COUNTER / "counter.list").done(), (COUNTER / "counter.block").read_text(encoding="utf-8"))
 
 
 def test(run: Run) -> None:
@@ -180,7 +204,20 @@ def test(run: Run) -> None:
     same(tool(run, "test", written(run.place / "one.list", text % 639)).status, 0)
     same(tool(run, "test", written(run.place / "one.list", text % 638)).status, 1)
     same(tool(run, "test", written(run.place / "one.list", text % "x")).status, 2)
+    test_that_fails(run)
     test_over_a_result(run)
+
+
+def test_that_fails(run: Run) -> None:
+    """A list of which one expectation is not met, as the page of contracts has it, and one whose program is refused."""
+    path = written(run.place / "votes.list", VOTES.replace("tally.elf", f"{EXAMPLES}/tally/tally.elf"))
+    came = tool(run, "test", path)
+    same((came.status, came.out, came.errors), (1, VOTES_TESTED.replace("PATH", str(path)), ""))
+    written(run.place / "a.elf", "no program")
+    path = written(run.place / "no.list", 'program a a.elf\nstore key:1 u8:7\ncall a 9 "hi"\nexpect returned "hi"\n')
+    came = tool(run, "test", path)
+    same(came.status, 1)
+    holds(f"        {path}, line 1, a.elf: rvstm: elf Truncated 1\n" in came.out, came.out, "the refusal and its line")
 
 
 def test_over_a_result(run: Run) -> None:
@@ -189,11 +226,11 @@ def test_over_a_result(run: Run) -> None:
     call = f"call counter 1000 {KEY}\nexpect {KEY} u32:4\n"
     written(run.place / "one.list", f"storage result\nprogram counter {COUNTER}/counter.elf\n{call}")
     tool(run, "test", ".", "--gas", "gas.txt", "--write", folder=run.place).done()
-    holds((run.place / "gas.txt").read_text().endswith("  639     0  one.list\n"), "another table", "the gas of the call")
+    holds((run.place / "gas.txt").read_text(encoding="utf-8").endswith("  639     0  one.list\n"), "another table", "the gas of the call")
     done = tool(run, "test", ".", "--gas", "gas.txt", "--json", "--junit", "tests.xml", folder=run.place).done()
     sums = {"kind": "sums", "tests": 1, "failed": 0, "calls": 1, "expectations": 1, "not_met": 0}
     same(json.loads(done.splitlines()[-1]), sums)
-    holds('tests="2" failures="0"' in (run.place / "tests.xml").read_text(), "another file", "two tests without a failure")
+    holds('tests="2" failures="0"' in (run.place / "tests.xml").read_text(encoding="utf-8"), "another file", "two tests without a failure")
 
 
 def result(run: Run) -> None:
@@ -217,7 +254,7 @@ def schedule(run: Run) -> None:
     same(tool(run, "schedule", "3", "2", "worker", "2").done(), "2\n2\n")
     first = written(run.place / "first", "0\n1\n")
     more = tool(run, "schedule", "2", "--to-done", "counter.block", "--from", first, folder=COUNTER).done()
-    whole = written(run.place / "whole", first.read_text() + more)
+    whole = written(run.place / "whole", first.read_text(encoding="utf-8") + more)
     printed(rvstm(run, "drive", "counter.block", "--workers", "2", "--schedule", whole, folder=COUNTER).done(), COUNTED)
 
 
@@ -315,6 +352,9 @@ def session(run: Run) -> None:
     came = tool(run, "session", "--store", path, "--get", "key:1", "--last", folder=COUNTER).done()
     same(came.splitlines()[1].split(), [f"{1:064x}:", "03000000", "3"])
     same(came.count("  returned  "), 3, "calls of the last frame")
+    tool(run, "session", "--store", path, written(run.place / "bob.list", "store key:bob u64:4\n")).done()
+    came = tool(run, "session", "--store", path, "--get", "key:bob", folder=COUNTER).done()
+    same(came, 'get key:bob\n      "bob": 0400000000000000  4\n')
 
 
 TOOLS: dict[str, tuple[Callable[[Run], None], Sequence[Tool]]] = {

@@ -63,9 +63,9 @@ def in_order_and_by_workers(run: Run, name: str) -> None:
     same(rvstm(run, "run", f"{name}.block", "--workers", "4", folder=folder).done(), wanted, "4 workers")
     if name not in EXPECTED:
         return
-    expect = (folder / f"{name}.expect").read_text()
+    expect = (folder / f"{name}.expect").read_text(encoding="utf-8")
     same(without_registers(wanted), expect, f"{name}.expect")
-    text = (folder / f"{name}.block").read_text().replace(f"{name}.elf", f"{name}-gnu.elf")
+    text = (folder / f"{name}.block").read_text(encoding="utf-8").replace(f"{name}.elf", f"{name}-gnu.elf")
     other = rvstm(run, "seq", written(run.place / "gnu.block", text), folder=folder).done()
     same(CHARGES.sub("", without_registers(other)), CHARGES.sub("", expect), f"{name}-gnu.elf")
 
@@ -79,7 +79,7 @@ def in_rust(run: Run) -> None:
 
 def block_of_list(run: Run, name: str) -> None:
     """A list makes the block that is committed."""
-    same(tool(run, "block", EXAMPLES / name / f"{name}.list").done(), (EXAMPLES / name / f"{name}.block").read_text())
+    same(tool(run, "block", EXAMPLES / name / f"{name}.list").done(), (EXAMPLES / name / f"{name}.block").read_text(encoding="utf-8"))
 
 
 def lists(run: Run) -> None:
@@ -104,9 +104,9 @@ def planted(run: Run, name: str) -> None:
     found = run.place / "found.list"
     words = ("--replace", f"{example}={run.place}/{name}.elf", "--seed", str(seed), "--out", found)
     same(tool(run, "explore", folder / f"{example}.explore", *words).status, 1, "explore")
-    same(len(re.findall("^call ", found.read_text(), re.M)), calls, "calls that are left")
+    same(len(re.findall("^call ", found.read_text(encoding="utf-8"), re.M)), calls, "calls that are left")
     same(tool(run, "test", found).status, 0, "with the bug")
-    right = written(run.place / "right.list", found.read_text().replace(f"{name}.elf", f"{example}.elf"))
+    right = written(run.place / "right.list", found.read_text(encoding="utf-8").replace(f"{name}.elf", f"{example}.elf"))
     same(tool(run, "test", right).status, 1, "without the bug")
 
 
@@ -120,7 +120,7 @@ def modelled(run: Run) -> None:
     words = ("--replace", f"bank={run.place}/bank.elf", "--folder", run.place / "kept")
     same(tool(run, "explore", EXPLORED / "bank.explore", *words).status, 1, "explore")
     found = run.place / "kept/found.list"
-    same(len(re.findall("^call ", found.read_text(), re.M)), 2, "calls that are left")
+    same(len(re.findall("^call ", found.read_text(encoding="utf-8"), re.M)), 2, "calls that are left")
     again = tool(run, "explore", EXPLORED / "bank.explore", *words).out.splitlines()[0]
     holds(again.startswith(f"still broken by the calls of {found}: line 8: method deposit: "), again, "what was found before")
 
@@ -128,7 +128,7 @@ def modelled(run: Run) -> None:
 def traced(run: Run, name: str) -> None:
     """Each call of a block: its steps have as much gas as its receipt. The tool compares them."""
     folder = EXAMPLES / name
-    calls = len(re.findall("^call ", (folder / f"{name}.block").read_text(), re.M))
+    calls = len(re.findall("^call ", (folder / f"{name}.block").read_text(encoding="utf-8"), re.M))
     for call in range(calls):
         tool(run, "trace", f"{name}.block", "--call", str(call), folder=folder).done()
 
@@ -162,7 +162,7 @@ def by_lines(run: Run) -> None:
     made(run, folder / "reckon.c", "reckon.elf", "reckon.lines.elf")
     text = tool(run, "trace", "reckon.block", "--call", "0", folder=run.place).done()
     found = sorted(re.findall(r" %  (\S.*)$", text, re.M))
-    same("\n".join(found), (folder / "reckon.functions").read_text().strip())
+    same("\n".join(found), (folder / "reckon.functions").read_text(encoding="utf-8").strip())
 
 
 def covered(run: Run) -> None:
@@ -174,10 +174,11 @@ def covered(run: Run) -> None:
     both = tool(run, "coverage", "token.list", "refusals.list", "--sdk", "--lcov", "info", folder=run.place).done()
     came = re.sub(r"^[^ ]*/sdk/", "sdk/", one + both, flags=re.M)
     # Files are ordered by their paths, so the order depends on the folder of the checkout.
-    parts = [sorted(re.split(r"\n(?=\S)", text.rstrip())) for text in (came, (EXAMPLES / "covered/token.covered").read_text())]
+    expected = (EXAMPLES / "covered/token.covered").read_text(encoding="utf-8")
+    parts = [sorted(re.split(r"\n(?=\S)", text.rstrip())) for text in (came, expected)]
     same("\n".join(parts[0]), "\n".join(parts[1]))
     shown = re.findall(r"^[^ ].*: lines (\d+) of (\d+).*; branches (\d+) of (\d+)", both, re.M)
-    info = (run.place / "info").read_text()
+    info = (run.place / "info").read_text(encoding="utf-8")
     for at, word in enumerate(("LH", "LF", "BRH", "BRF")):
         same(re.findall(rf"^{word}:(\d+)$", info, re.M), [row[at] for row in shown], word)
 
@@ -194,13 +195,13 @@ def failing_on_this_machine(run: Run) -> None:
     folder = EXAMPLES / "outputs"
     shutil.copy(folder / "failing.c", run.place)
     made(run, folder / "failing-test.c", "failing-test", more=["CC=cc"])
-    same(command([run.place / "failing-test"]).out, (folder / "host.out").read_text())
+    same(command([run.place / "failing-test"]).out, (folder / "host.out").read_text(encoding="utf-8"))
 
 
 def failing(run: Run, name: str) -> None:
     """Lists that are refused or not met, and what is said of them."""
     folder = EXAMPLES / "outputs"
-    same(tool(run, "test", f"{name}.failing", folder=folder).out, (folder / f"{name}.out").read_text())
+    same(tool(run, "test", f"{name}.failing", folder=folder).out, (folder / f"{name}.out").read_text(encoding="utf-8"))
 
 
 def keys_of_tables(run: Run) -> None:
@@ -209,10 +210,11 @@ def keys_of_tables(run: Run) -> None:
     result = rvstm(run, "seq", "lock.block", folder=folder).done()
     table = tool(run, "result", "--list", "lock.list", folder=folder, data=result).done()
     keys = sorted({found for found in re.findall(r"^ *(?:wrote )*([^ ]*): .*", table, re.M)})
-    same("\n".join(keys) + "\n", (outputs / "keys.out").read_text())
+    same("\n".join(keys) + "\n", (outputs / "keys.out").read_text(encoding="utf-8"))
     svg = run.place / "picture"
     tool(run, "conflicts", "lock.block", "--svg", svg, "--list", "lock.list", folder=folder).done()
-    same("\n".join(re.findall(r">(table:[^<]*)", svg.read_text())) + "\n", (outputs / "waits.out").read_text())
+    found = re.findall(r">(table:[^<]*)", svg.read_text(encoding="utf-8"))
+    same("\n".join(found) + "\n", (outputs / "waits.out").read_text(encoding="utf-8"))
 
 
 def refused_by_tools(run: Run) -> None:
@@ -249,12 +251,12 @@ def debugged(run: Run, name: str, contract: str, make: Sequence[str]) -> None:
     program = contract.partition("/")[2]
     command(["make", "-s", "-f", "../../sdk/Makefile", *make, f"{program}.elf", f"{program}.lines.elf"], folder).done()
     lines = ["set width 110", "set confirm off", "set remotetimeout 600", "set trace-commands on"]
-    lines += (EXAMPLES / f"debugged/{name}.gdb").read_text().splitlines()
+    lines += (EXAMPLES / f"debugged/{name}.gdb").read_text(encoding="utf-8").splitlines()
     words = ["gdb-multiarch", "-nx", "-q", "-batch", *(word for line in lines for word in ("-ex", line)), f"{program}.lines.elf"]
     # In a shell, since the order of what gdb says on its two outputs counts.
     done = command(["sh", "-c", 'exec "$@" 2>&1', "sh", *words], folder, more={"RVSTM": str(run.program), "DEBUGINFOD_URLS": ""})
     came = re.sub(r"^\+[a-z]* \n", "", done.out, flags=re.M)
-    same(came, (EXAMPLES / f"debugged/{name}.out").read_text())
+    same(came, (EXAMPLES / f"debugged/{name}.out").read_text(encoding="utf-8"))
 
 
 def cases() -> list[Case]:

@@ -36,7 +36,7 @@ def built(run: Run, compiler: Sequence[str], source: str, is_shared: bool) -> No
 def prints(run: Run, *words: str | Path) -> None:
     """A command prints embed.expect in the folder of the token."""
     done = command(words, TOKEN, more={"LD_LIBRARY_PATH": str(folder(run)), "PYTHONDONTWRITEBYTECODE": "1"})
-    same(done.done(), (EMBED / "embed.expect").read_text())
+    same(done.done(), (EMBED / "embed.expect").read_text(encoding="utf-8"))
 
 
 def in_python(run: Run) -> None:
@@ -54,7 +54,7 @@ def header(run: Run) -> None:
 
 def shown_names(run: Run) -> None:
     """The functions of the header are all that the archive and the shared object show."""
-    declared = sorted(re.findall(r"^[a-z].* (rvstm_[a-z_]*)\(", (INCLUDE / "rvstm.h").read_text(), re.M))
+    declared = sorted(re.findall(r"^[a-z].* (rvstm_[a-z_]*)\(", (INCLUDE / "rvstm.h").read_text(encoding="utf-8"), re.M))
     holds(len(declared) > 10, declared, "the functions of the header")
     for words in (("librvstm.a",), ("-D", "librvstm.so")):
         text = command(["nm", "-g", "--defined-only", *words], folder(run)).done()
@@ -63,7 +63,7 @@ def shown_names(run: Run) -> None:
 
 def two_copies(run: Run) -> None:
     """Two copies of the library in one program."""
-    declared = re.findall(r"^[a-z].* (rvstm_([a-z_]*))\(", (INCLUDE / "rvstm.h").read_text(), re.M)
+    declared = re.findall(r"^[a-z].* (rvstm_([a-z_]*))\(", (INCLUDE / "rvstm.h").read_text(encoding="utf-8"), re.M)
     names = written(run.place / "names", "".join(f"{name} second_{rest}\n" for name, rest in declared))
     second, made = run.place / "second.a", run.place / "two"
     command(["objcopy", f"--redefine-syms={names}", folder(run) / "librvstm.a", second]).done()

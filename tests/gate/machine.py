@@ -32,7 +32,7 @@ class Tool(enum.Enum):
         """Whether the machine has it."""
         if not shutil.which(self.asks[0]):
             return False
-        done = subprocess.run(self.asks, stdin=subprocess.DEVNULL, capture_output=True, text=True, errors="replace")
+        done = subprocess.run(self.asks, stdin=subprocess.DEVNULL, capture_output=True, encoding="utf-8", errors="replace")
         pattern = rf"(?<![\d.]){re.escape(self.version)}" if self.version else ""
         return done.returncode == 0 and bool(re.search(pattern, done.stdout + done.stderr))
 

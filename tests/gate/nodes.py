@@ -175,7 +175,7 @@ def coins_built_again(run: Run) -> None:
 
 def few_lines(run: Run) -> None:
     """The node is as short as its page says."""
-    count = len(Path(NODE / "node.py").read_text().splitlines())
+    count = len(Path(NODE / "node.py").read_text(encoding="utf-8").splitlines())
     holds(count <= 200, count, "at most 200 lines")
 
 

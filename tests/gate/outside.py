@@ -25,12 +25,12 @@ NO_ADDRESS = "00000000"
 
 def json_of(path: Path) -> Any:
     """What a JSON file has; each case says what it looks for in it."""
-    return json.loads(path.read_text())
+    return json.loads(path.read_text(encoding="utf-8"))
 
 
 def rows(path: Path, separator: str, count: int) -> list[list[str]]:
     """The first fields of each line of a table."""
-    return [line.split(separator)[:count] for line in path.read_text().splitlines()]
+    return [line.split(separator)[:count] for line in path.read_text(encoding="utf-8").splitlines()]
 
 
 def by_seq(run: Run, text: str, folder: Path = FOLDER) -> str:
@@ -87,13 +87,13 @@ def whole_results(run: Run, names: Sequence[str]) -> None:
     schedule = written(run.place / "schedule", mixed(3, 20_000))
     for name in names:
         folder = FOLDER / name
-        wanted, migrated = (folder / "result").read_text(), run.place / "migrated"
+        wanted, migrated = (folder / "result").read_text(encoding="utf-8"), run.place / "migrated"
         ways: list[list[str | Path]] = [["seq", "block"], ["drive", "block", "--workers", "3", "--schedule", schedule]]
         ways += [["run", "block", "--workers", str(workers)] for workers in (1, 4, 32)]
         done = rvstm(run, "migrate", "block", "--out", migrated, folder=folder)
         if (folder / "migrated").is_file():
             done.done()
-            same(migrated.read_text(), (folder / "migrated").read_text(), f"{name} migrated")
+            same(migrated.read_text(encoding="utf-8"), (folder / "migrated").read_text(encoding="utf-8"), f"{name} migrated")
             ways.append(["seq", migrated])
         else:
             done.refused("rvstm: block 1 BadHeader 1")

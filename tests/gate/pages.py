@@ -178,7 +178,7 @@ class Shell:
             stdin=subprocess.PIPE,
             stdout=subprocess.PIPE,
             stderr=subprocess.STDOUT,
-            text=True,
+            encoding="utf-8",
             errors="backslashreplace",
         )
         self.count = 0
@@ -265,7 +265,7 @@ def cases() -> list[Case]:
     pages: dict[str, list[Block]] = {}
     for file in page_files():
         name = str(file.relative_to(TOP))
-        found = blocks_of(name, file.read_text())
+        found = blocks_of(name, file.read_text(encoding="utf-8"))
         if found:
             pages[name] = found
 

@@ -223,7 +223,7 @@ def tables(run: Run) -> None:
         "SELECT id, hex(line), hex(bytes) FROM answer; SELECT sql FROM sqlite_schema WHERE sql IS NOT NULL ORDER BY sql;"
     )
     line, _, body = done(OUTCOME).partition(b"\n")
-    page = (TOP / "docs/formats.md").read_text()
+    page = (TOP / "docs/formats.md").read_text(encoding="utf-8")
     schema = sorted(re.findall(r"^    (CREATE TABLE .*)$", page, re.M))
     rows = [
         f"{KEY}|03000000",

@@ -166,7 +166,7 @@ def program(words: str) -> bytes:
 def table(name: str) -> Table:
     """A table."""
     read = Table()
-    read.add(tomllib.loads((FOLDER / f"{name}.toml").read_text()))
+    read.add(tomllib.loads((FOLDER / f"{name}.toml").read_text(encoding="utf-8")))
     return read
 
 
@@ -214,7 +214,7 @@ def check_answer(one: Row, contents: dict[str, bytes], came: Ended, what: str) -
 
 def check_image(run: Run, one: Image, contents: dict[str, bytes]) -> None:
     """A program file as `dis` reads it, and as a block has it."""
-    (run.place / "block").write_text("rvblock 1\nprogram 0 given\n")
+    (run.place / "block").write_text("rvblock 1\nprogram 0 given\n", encoding="utf-8")
     for content in one.files(contents[one.of]):
         (run.place / "given").write_bytes(content)
         for words in (("dis", "given"), ("seq", "block")):
@@ -243,7 +243,7 @@ def check_blocks(run: Run, given: Table) -> None:
     for number, block in enumerate(given.blocks + given.used_blocks):
         folder = folders[block.name] = run.place / str(number)
         folder.mkdir()
-        (folder / "block").write_text(block.text())
+        (folder / "block").write_text(block.text(), encoding="utf-8")
         for program_number, name in enumerate(block.programs):
             (folder / str(program_number)).write_bytes(given.contents[name])
     for block in given.blocks:
@@ -258,12 +258,12 @@ def check_block(run: Run, block: Block, folder: Path) -> None:
     holds(has_pieces(wanted, block.pieces), f"{block.name}: {wanted}", shown(repr(block.pieces)))
     same(rvstm(run, "run", "block", "--workers", "2", folder=folder).done(), wanted, f"{block.name} by threads")
     for workers in (1, 2, 3):
-        (folder / "turns").write_text("".join(f"{step % workers}\n" for step in range(1000)))
+        (folder / "turns").write_text("".join(f"{step % workers}\n" for step in range(1000)), encoding="utf-8")
         words = ("drive", "block", "--workers", str(workers), "--schedule", "turns")
         same(rvstm(run, *words, folder=folder).done(), wanted, f"{block.name} by {workers} in turn")
     if block.head == "rvblock 1\n":
         rvstm(run, "migrate", "block", "--out", "migrated", folder=folder).done()
-        same((folder / "migrated").read_text()[:16], "rvblock 2\ngas 1\n", block.name)
+        same((folder / "migrated").read_text(encoding="utf-8")[:16], "rvblock 2\ngas 1\n", block.name)
         same(rvstm(run, "seq", "migrated", folder=folder).done(), wanted, f"{block.name} migrated")
     if block.conflicts:
         same(rvstm(run, "conflicts", "block", folder=folder).done(), block.conflicts, block.name)
@@ -273,7 +273,7 @@ def check_schedule(run: Run, schedule: Schedule, folder: Path) -> None:
     """A list over a block: it prints what the calls print in order, and each worker counts what it must."""
     words = ("drive", "block", "--workers", str(schedule.workers), "--schedule", "list")
     entries = schedule.entries()
-    (folder / "list").write_text("".join(entries))
+    (folder / "list").write_text("".join(entries), encoding="utf-8")
     came = rvstm(run, *words, "--counts", folder=folder)
     same(came.done(), rvstm(run, "seq", "block", folder=folder).done(), schedule.name)
     workers = came.errors.splitlines()[: schedule.workers]
@@ -282,7 +282,7 @@ def check_schedule(run: Run, schedule: Schedule, folder: Path) -> None:
     if schedule.counts:
         same(workers, list(schedule.counts), f"{schedule.name}: counts")
     if schedule.is_shortest:
-        (folder / "list").write_text("".join(entries[:-1]))
+        (folder / "list").write_text("".join(entries[:-1]), encoding="utf-8")
         rvstm(run, *words, folder=folder).refused("rvstm: drive NotDone 1")
 
 
@@ -306,7 +306,7 @@ def check(run: Run, name: str) -> None:
 def named() -> Iterator[str]:
     """The tables that have cases: the others are used by these."""
     for path in sorted(FOLDER.glob("*.toml")):
-        data = tomllib.loads(path.read_text())
+        data = tomllib.loads(path.read_text(encoding="utf-8"))
         if data.keys() & {"row", "turn", "image", "block", "schedule"}:
             yield path.stem
 

@@ -58,7 +58,7 @@ def storage(result: str) -> dict[str, str]:
 
 def written(path: Path, text: str) -> Path:
     """A file with a text."""
-    path.write_text(text)
+    path.write_text(text, encoding="utf-8")
     return path
 
 

@@ -34,7 +34,7 @@ class GateTest(unittest.TestCase):
         self.top = Path(folder.name)
         (self.top / ".ci").mkdir()
         shutil.copy(TOP / ".ci/run", self.top / ".ci/run")
-        (self.top / "CONTRIBUTING.md").write_text(f"text\n\n    {INSTALL}\n")
+        (self.top / "CONTRIBUTING.md").write_text(f"text\n\n    {INSTALL}\n", encoding="utf-8")
         for path in (*CHECKS, "tests/built"):
             self.stub(path, "")
         self.stub("bin/mypy", "")
@@ -45,7 +45,7 @@ class GateTest(unittest.TestCase):
         """A command of one line of sh at a path."""
         file = self.top / path
         file.parent.mkdir(parents=True, exist_ok=True)
-        file.write_text(f"#!/bin/sh\n{text}\n")
+        file.write_text(f"#!/bin/sh\n{text}\n", encoding="utf-8")
         file.chmod(0o755)
 
     def environment(self, **more: str) -> dict[str, str]:
@@ -55,7 +55,7 @@ class GateTest(unittest.TestCase):
     def gate(self, **more: str) -> tuple[str, list[str], int]:
         """The last line of the gate, all of its lines, and its status."""
         done = subprocess.run(
-            [self.top / ".ci/run"], cwd="/", env=self.environment(**more), stdin=SILENT, capture_output=True, text=True
+            [self.top / ".ci/run"], cwd="/", env=self.environment(**more), stdin=SILENT, capture_output=True, encoding="utf-8"
         )
         lines = done.stdout.splitlines()
         return lines[-1], lines, done.returncode
@@ -69,7 +69,7 @@ class GateTest(unittest.TestCase):
     def cases_ran(self) -> bool:
         """Whether the cases ran, over the program that rt built."""
         ran = self.top / "cases-ran"
-        return ran.exists() and ran.read_text() == f"{PROGRAM}\n"
+        return ran.exists() and ran.read_text(encoding="utf-8") == f"{PROGRAM}\n"
 
     def test_all_pass(self) -> None:
         """Six checks, 49 of rt, what rt left taken over, and 30 cases."""
@@ -177,7 +177,7 @@ class GateTest(unittest.TestCase):
             (self.top / "installed").unlink(missing_ok=True)
             lines = self.expect("86 passed, 0 failed, 2 skipped", 0, CI="true")
             self.assertEqual(lines[0], INSTALL)
-            words = (self.top / "installed").read_text().splitlines()
+            words = (self.top / "installed").read_text(encoding="utf-8").splitlines()
             self.assertEqual(words, ["-q update"] if ending else ["-q update", "install mypy strace -q -y --no-install-recommends"])
 
     def test_no_packages(self) -> None:
@@ -192,7 +192,7 @@ class GateTest(unittest.TestCase):
         """A signal to the gate itself: the sums come, and the status is not 0."""
         self.stub("bin/rt", "touch began; sleep 1; echo 49 passed, 0 failed")
         with subprocess.Popen(
-            [self.top / ".ci/run"], env=self.environment(), stdin=SILENT, stdout=subprocess.PIPE, text=True
+            [self.top / ".ci/run"], env=self.environment(), stdin=SILENT, stdout=subprocess.PIPE, encoding="utf-8"
         ) as process:
             while not (self.top / "began").exists():
                 time.sleep(0.01)

@@ -39,13 +39,13 @@ def dies(run: Run) -> None:
 
 def notes(run: Run) -> None:
     """A case in a folder of its own, which it leaves something in."""
-    Path("file").write_text("text")
+    Path("file").write_text("text", encoding="utf-8")
     run.note(f"{run.place == Path.cwd()}")
 
 
 def sleeps(run: Run) -> None:
     """A case that takes too long, with a process that it starts."""
-    Path(os.environ["STARTED"]).write_text(str(os.spawnlp(os.P_NOWAIT, "sleep", "sleep", "60")))
+    Path(os.environ["STARTED"]).write_text(str(os.spawnlp(os.P_NOWAIT, "sleep", "sleep", "60")), encoding="utf-8")
     time.sleep(60)
 
 
@@ -71,12 +71,12 @@ class OutcomesTest(unittest.TestCase):
 
     def test_too_long(self) -> None:
         """A case that takes too long is ended with what it started."""
-        with tempfile.NamedTemporaryFile("r") as file, mock.patch.dict(os.environ, STARTED=file.name):
+        with tempfile.NamedTemporaryFile("r", encoding="utf-8") as file, mock.patch.dict(os.environ, STARTED=file.name):
             found = outcomes(sleeps, seconds=0.5)["sleeps"]
             process = Path(f"/proc/{file.read()}/stat")
         self.assertIn("no end after", found.why)
         time.sleep(0.1)
-        self.assertTrue(not process.exists() or process.read_text().split()[2] == "Z")
+        self.assertTrue(not process.exists() or process.read_text(encoding="utf-8").split()[2] == "Z")
 
     def test_needs(self) -> None:
         """A case is left out for want of a tool, of the library, or of the built program."""

@@ -66,8 +66,8 @@ def wrong_places(text: str) -> int:
     with tempfile.TemporaryDirectory() as folder:
         source = pathlib.Path(folder) / "crate/src/lib.rt"
         source.parent.mkdir(parents=True)
-        source.write_text(text)
-        came = subprocess.run([CHECK, folder], capture_output=True, text=True, check=False)
+        source.write_text(text, encoding="utf-8")
+        came = subprocess.run([CHECK, folder], capture_output=True, encoding="utf-8", check=False)
         count = int(came.stdout.split()[-2])
         assert came.returncode == (count > 0), came
         return count

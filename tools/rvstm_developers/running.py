@@ -39,6 +39,6 @@ def output_of(words: Sequence[Word], folder: Path = Path(), data: bytes = b"") -
 def assembled(rvstm: Path, source: str, path: Path) -> Path:
     """Assembles a source. The program is at the path, and the source beside it."""
     text = path.with_name(f"{path.name}.s")
-    text.write_text(source)
+    text.write_text(source, encoding="utf-8")
     output_of([rvstm, "asm", text, "--out", path])
     return path

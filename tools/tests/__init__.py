@@ -1,4 +1,5 @@
-"""Tests of the tools: `python3 -m unittest` in the folder tools.
+"""Tests of the tools: `python3 -m unittest` in the folder tools. None runs rvstm, so they read nothing that the caller set for it."""
 
-Those that run rvstm use the one that RVSTM names, and are skipped without it.
-"""
+import os
+
+os.environ.pop("RVSTM", None)

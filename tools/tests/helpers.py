@@ -39,7 +39,7 @@ class FakeProgram:
     def run(self, words: Sequence[str], folder: Path) -> Printed:
         command, path, *options = words
         if (command, options) == ("seq", []):
-            self.blocks.append(Path(path).read_text())
+            self.blocks.append(Path(path).read_text(encoding="utf-8"))
             return self.seq
         if (command, options[:1]) != ("run", ["--workers"]):
             raise AssertionError(f"a command that rvstm does not have: {words}")

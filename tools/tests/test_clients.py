@@ -1,7 +1,6 @@
 """The session command: lists that are run as frames, requests by options and as they are typed, and frames that are sent again."""
 
 import hashlib
-import io
 import os
 import sys
 import unittest
@@ -66,7 +65,7 @@ class WithChain(InFolder):
         self.list = self.write("a.list", LIST)
 
     def logged(self) -> list[str]:
-        return self.log.read_text().splitlines()
+        return self.log.read_text(encoding="utf-8").splitlines()
 
 
 class OfOptions(WithChain):
@@ -88,7 +87,7 @@ class OfOptions(WithChain):
         self.assertEqual((status, output, faults), (0, wanted, ""))
         asked = ["last", f"get {BOB}", f"list {'0' * 64} 1024", f"list {BOB} 1024", "dump", "dump", "state", "q"]
         self.assertEqual(self.logged()[-len(asked):], asked)
-        self.assertEqual(out.read_text(), f"rvblock 2\ngas 1\nstore {ALICE} -\nstore {BOB} 0500000000000000\n")
+        self.assertEqual(out.read_text(encoding="utf-8"), f"rvblock 2\ngas 1\nstore {ALICE} -\nstore {BOB} 0500000000000000\n")
 
     def test_settings(self) -> None:
         called("session", "--store", "F", "--workers", "2", "--frame-limit", "5", "--frame-gas", "0", "--brief", "--state")
@@ -174,7 +173,7 @@ class OfTypedLines(WithChain):
                 self.assertEqual((status, output, faults), (1, '      "bob": 0500000000000000  5\n', f"session: {message}\n"))
 
     def test_a_session_that_does_not_begin(self) -> None:
-        self.program.write_text("#!/bin/sh\necho rvstm: store Busy 1 >&2\nexit 1\n")
+        self.program.write_text("#!/bin/sh\necho rvstm: store Busy 1 >&2\nexit 1\n", encoding="utf-8")
         self.assertEqual(called_with("state\n", "session"), (1, "", "session: rvstm: store Busy 1\n"))
 
     def test_completion(self) -> None:
@@ -209,7 +208,7 @@ class OfReplays(WithChain):
             f"{self.frames}/1.frame: ok 135, digest {DIGEST}\n{self.frames}/2.block: refused block 3 BadLine 2, digest {DIGEST}\n"
         )
         self.assertEqual((status, output, faults), (0, wanted, ""))
-        self.assertEqual((self.frames / "2.block.digest").read_text(), f"{DIGEST}\n")
+        self.assertEqual((self.frames / "2.block.digest").read_text(encoding="utf-8"), f"{DIGEST}\n")
         self.assertEqual(called("session", "--replay", str(self.frames)), (0, output, ""))
         self.assertEqual(self.logged()[:4], ["chain --digest", "program 5", "other", "frame 10"])
 
@@ -224,7 +223,7 @@ class OfReplays(WithChain):
             with self.subTest(message):
                 place.unlink()
                 if text:
-                    place.write_text(text)
+                    place.write_text(text, encoding="utf-8")
                 status, output, faults = called("session", "--replay", str(self.frames))
                 self.assertEqual((status, output), (1, ""))
                 self.assertRegex(faults, f"^session: {message}\n$".replace("LENGTH", "[0-9]+"))
@@ -235,16 +234,6 @@ class OfReplays(WithChain):
         folder.mkdir()
         message = f"session: {folder}: no file in it ends with .frame or .block or .list\n"
         self.assertEqual(called("session", "--replay", str(folder)), (1, "", message))
-
-
-@unittest.skipUnless(os.environ.get("RVSTM"), "RVSTM names no program")
-class WithTheProgram(InFolder):
-    def test_a_session_in_a_file_goes_on(self) -> None:
-        path = self.write("a.list", f"store key:bob u64:4\n")
-        store = f"{self.folder}/ledger"
-        self.assertEqual(called("session", "--store", store, path)[0], 0)
-        output = called("session", "--store", store, "--get", "key:bob")[1]
-        self.assertEqual(output, 'get key:bob\n      "bob": 0400000000000000  4\n')
 
 
 if __name__ == "__main__":

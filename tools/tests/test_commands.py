@@ -2,7 +2,6 @@
 
 import json
 import os
-import shutil
 import subprocess
 import sys
 import unittest
@@ -16,7 +15,6 @@ from rvstm_tools.options import Command
 from tests.helpers import InFolder, called
 
 LAUNCHER = Path(__file__).resolve().parents[1] / "rvstm-tools"
-EXAMPLES = Path(__file__).resolve().parents[2] / "examples"
 LIST = "program a a.elf\nstore key:1 u8:7\ncall a 9 \"hi\"\nexpect returned \"hi\"\n"
 BLOCK = f"rvblock 1\nprogram 0 a.elf\nstore {'0' * 63}1 07\ncall 0 9 6869\n"
 
@@ -126,7 +124,7 @@ class Test(InFolder):
         path, table = self.write("a.list", LIST), self.folder / "gas"
         words = ("test", "--program", self.program(), path, "--gas", str(table))
         self.assertEqual(called(*words, "--write")[0], 0)
-        self.assertEqual(table.read_text().splitlines()[1:], ["       5     0  a.list"])
+        self.assertEqual(table.read_text(encoding="utf-8").splitlines()[1:], ["       5     0  a.list"])
         self.assertEqual(called(*words)[0], 0)
         for row, within, line in (
             ("4 0 a.list", "24.9", "a.list, call 0: 4 -> 5, 25.0 percent more"),
@@ -138,11 +136,11 @@ class Test(InFolder):
             ("# 5\n5 0 a.list\n7 0 b.list", "0", None),
         ):
             with self.subTest(row):
-                table.write_text(f"{row}\n")
+                table.write_text(f"{row}\n", encoding="utf-8")
                 status, output, _ = called(*words, "--within", within)
                 said = [f"1 call of {table} differs by more than {float(within):g} percent", f"    {line}"] if line else []
                 self.assertEqual((status, output.splitlines()[1:-1]), (int(line is not None), said))
-        table.write_text("nothing\n")
+        table.write_text("nothing\n", encoding="utf-8")
         message = f"test: {table}, line 1: a row has the gas, the number of the call and the list\n"
         self.assertEqual(called(*words), (2, "", message))
 
@@ -224,42 +222,11 @@ class Launcher(InFolder):
         for launcher in (LAUNCHER, link):
             with self.subTest(launcher):
                 words = [sys.executable, str(launcher), "block", "a.list"]
-                done = subprocess.run(words, cwd=self.folder, capture_output=True, text=True, check=False)
+                done = subprocess.run(words, cwd=self.folder, capture_output=True, encoding="utf-8", check=False)
                 self.assertEqual((done.returncode, done.stdout, done.stderr), (0, BLOCK, ""))
 
     def test_a_closed_output(self) -> None:
         path = self.write("a.list", "program a a.elf\n" + "call a 9\n" * 1000)
         line = f"'{LAUNCHER}' block '{path}' | true"
-        done = subprocess.run(["bash", "-c", f"{line}; exit ${{PIPESTATUS[0]}}"], capture_output=True, text=True, check=False)
+        done = subprocess.run(["bash", "-c", f"{line}; exit ${{PIPESTATUS[0]}}"], capture_output=True, encoding="utf-8", check=False)
         self.assertIn((done.returncode, done.stderr), [(1, "block: the output is closed\n"), (0, "")])
-
-
-@unittest.skipUnless(os.environ.get("RVSTM") and EXAMPLES.is_dir(), "RVSTM names no program, or there are no examples")
-class WithTheProgram(InFolder):
-    """Runs rvstm itself. The output is that of docs/contracts.md, "Test it"."""
-
-    LIST = (
-        "program tally tally.elf\nstore key:bob u64:7\ncall tally 2000 key:alice\nexpect returned u64:1\n"
-        'call tally 2000 key:bob\nexpect returned u64:9\ncall tally 2000 00\nexpect reverted "the input is no key"\n'
-        "storage\nexpect key:alice u64:1\nexpect key:bob u64:8\nexpect no other key\nexpect same by 8 workers\n"
-    )
-
-    def test_votes(self) -> None:
-        shutil.copy(EXAMPLES / "tally/tally.elf", self.folder)
-        path = self.write("votes.list", self.LIST)
-        wanted = (
-            f"failed  {path}: 3 calls, expectations: 1 of 7 not met\n"
-            "    line 5, call 1: call tally 2000 key:bob\n"
-            "        line 6: expect returned u64:9\n"
-            "        wanted  returned  0900000000000000  9\n"
-            "        came    returned  0800000000000000  8\n"
-            "1 test: 0 passed, 1 failed; 3 calls, 7 expectations, 1 not met\n"
-        )
-        self.assertEqual(called("test", path), (1, wanted, ""))
-
-    def test_a_program_that_is_refused(self) -> None:
-        path = self.write("a.list", LIST)
-        self.write("a.elf", "no program")
-        status, output, _ = called("test", path)
-        self.assertEqual(status, 1)
-        self.assertIn(f"        {path}, line 1, a.elf: rvstm: elf Truncated 1\n", output)

@@ -118,7 +118,7 @@ class Command(InFolder):
         out = self.folder / "out.svg"
         words = ["conflicts", "--program", self.program(f"cat {self.folder}/text"), "a.block", "--svg", str(out)]
         self.assertEqual(called(*words), (0, "", ""))
-        self.assertIn("a.block: 4 calls", out.read_text())
+        self.assertIn("a.block: 4 calls", out.read_text(encoding="utf-8"))
 
     def test_a_refusal_names_the_line(self) -> None:
         block = self.write("a.block", "rvblock 1\nprogram 0 a.elf\nprogram 1 b.elf\ncall x\n")

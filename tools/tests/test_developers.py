@@ -34,12 +34,14 @@ class OfCommands(unittest.TestCase):
     def test_each_command_has_its_script(self) -> None:
         modules = {
             path.stem.replace("_", "-") for package in commandline.FOLDERS
-            for path in (TOP / "tools/rvstm_developers" / package).glob("*.py") if "\nCOMMAND = Command(" in path.read_text()
+            for path in (TOP / "tools/rvstm_developers" / package).glob("*.py")
+            if "\nCOMMAND = Command(" in path.read_text(encoding="utf-8")
         }
         self.assertEqual({path.name for path in scripts()}, modules)
         for path in scripts():
             tools = "../tools" if path.parent.name == "bench" else ".."
-            self.assertEqual(path.read_text(), f'#!/bin/sh\nexec "$(dirname "$0")/{tools}/rvstm-developers" {path.name} "$@"\n')
+            script = f'#!/bin/sh\nexec "$(dirname "$0")/{tools}/rvstm-developers" {path.name} "$@"\n'
+            self.assertEqual(path.read_text(encoding="utf-8"), script)
 
     def test_helps(self) -> None:
         for path in scripts():
@@ -57,11 +59,11 @@ class OfCommands(unittest.TestCase):
         with self.assertRaises(MisuseError):
             commandline.run("no-such-command", [])
         for words in "", "no-such-command":
-            done = subprocess.run([TOP / "tools/rvstm-developers", *words.split()], capture_output=True, text=True, check=False)
+            done = subprocess.run([TOP / "tools/rvstm-developers", *words.split()], capture_output=True, encoding="utf-8", check=False)
             self.assertEqual((done.returncode, done.stdout), (2, ""))
 
     def test_a_script_runs_its_command_from_any_folder(self) -> None:
-        done = subprocess.run([TOP / "bench/run", "--help"], cwd="/", capture_output=True, text=True, check=True)
+        done = subprocess.run([TOP / "bench/run", "--help"], cwd="/", capture_output=True, encoding="utf-8", check=True)
         self.assertIn("usage: bench/run", done.stdout)
 
     def test_help_of_the_gate_starts_no_gate(self) -> None:

@@ -342,7 +342,7 @@ class OfRuns(InFolder):
         out = self.folder / "found.list"
         status, lines = self.explored("returned some != 7", "--out", str(out), "--length", "50")
         self.assertEqual((status, lines[-1]), (1, f"written to {out}"))
-        text = out.read_text()
+        text = out.read_text(encoding="utf-8")
         self.assertTrue(text.startswith("# Made by rvstm-tools explore a.explore --seed 1 --length 50. The last call breaks\n"))
         self.assertIn("program echo echo.elf\n", text)
         self.assertIn("call echo 100 u8:7\nexpect returned 07\n", text)
@@ -352,7 +352,7 @@ class OfRuns(InFolder):
         self.assertEqual([line for line in one[1] if " s" not in line], [line for line in other[1] if " s" not in line])
 
     def test_a_refused_frame(self) -> None:
-        self.program.write_text("#!/bin/sh\nwhile read line; do echo refused elf BadMagic 2; done\n")
+        self.program.write_text("#!/bin/sh\nwhile read line; do echo refused elf BadMagic 2; done\n", encoding="utf-8")
         path = self.write("b.explore", CALL)
         words = ["explore", "--program", str(self.program), path]
         self.assertEqual(called(*words), (2, "", f"explore: {self.folder}/echo.elf: refused elf BadMagic 2\n"))
@@ -514,7 +514,7 @@ class OfSearches(OverBank):
         out, lists = self.folder / "found.list", list[str]()
 
         def keep(_: Shorter, __: random.Random) -> str:
-            lists.append(out.read_text())
+            lists.append(out.read_text(encoding="utf-8"))
             return "; nothing was tried"
 
         with mock.patch.object(Shorter, "shorten", keep):
@@ -531,14 +531,14 @@ class OfSearches(OverBank):
         words = ("--folder", str(self.folder / "kept"), "--length", "100")
         right = self.described()
         self.assertEqual(self.explored(right, *words)[1][-1], "nothing is broken")
-        state = json.loads((self.folder / "kept/explored.json").read_text())
+        state = json.loads((self.folder / "kept/explored.json").read_text(encoding="utf-8"))
         self.assertEqual((state["next"], state["found"]), (10, None))
         self.explored(right, *words)
-        self.assertEqual(json.loads((self.folder / "kept/explored.json").read_text())["next"], 20)
-        other = self.write("b.explore", Path(right).read_text() + self.rule())
+        self.assertEqual(json.loads((self.folder / "kept/explored.json").read_text(encoding="utf-8"))["next"], 20)
+        other = self.write("b.explore", Path(right).read_text(encoding="utf-8") + self.rule())
         self.assertEqual(self.explored(other, *words)[::2], (
             2, "explore: kept/explored.json: the run there has another description, seed or length: name another folder\n"))
-        (self.folder / "kept/explored.json").write_text("{}")
+        (self.folder / "kept/explored.json").write_text("{}", encoding="utf-8")
         self.assertEqual(self.explored(right, *words)[::2], (
             2, "explore: kept/explored.json: this is not what a run leaves: remove it, or name another folder\n"))
 
@@ -547,7 +547,8 @@ class OfSearches(OverBank):
         self.assertEqual(self.explored(path, *words)[0], 1)
         status, lines, _ = self.explored(path, *words)
         self.assertEqual((status, lines[0].replace(f"{self.folder}/", "")), (1, "still broken by the calls of kept/found.list: line 5: returned n != 77"))
-        self.program.write_text(BANK.replace('data[:2] == "01"', 'data == "014d"').replace("balance + amount < 0", 'data == "014d"'))
+        bank = BANK.replace('data[:2] == "01"', 'data == "014d"').replace("balance + amount < 0", 'data == "014d"')
+        self.program.write_text(bank, encoding="utf-8")
         self.write("echo.elf", "another program")
         status, lines, _ = self.explored(path, *words)
         self.assertEqual((status, lines[0], lines[-1]), (0, "the calls that were found before break nothing now", "nothing is broken"))

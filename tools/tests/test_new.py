@@ -4,7 +4,6 @@ import os
 import re
 import shutil
 import subprocess
-import sys
 import tomllib
 import unittest
 from pathlib import Path
@@ -62,16 +61,16 @@ class New(InFolder):
                 found = {str(path.relative_to(folder)) for path in folder.rglob("*") if path.is_file()}
                 self.assertEqual(found, wanted | {"votes.elf", "votes.lines.elf"})
                 for name in wanted:
-                    self.assertNotRegex((folder / name).read_text(), "@(name|sdk|tools)@")
+                    self.assertNotRegex((folder / name).read_text(encoding="utf-8"), "@(name|sdk|tools)@")
 
     def test_the_places(self) -> None:
         self.stub("rvstm-tools", "#!/bin/sh\n")
         self.made(str(self.folder / "votes"))
-        lines = (self.folder / "votes/Makefile").read_text().splitlines()
+        lines = (self.folder / "votes/Makefile").read_text(encoding="utf-8").splitlines()
         self.assertEqual(lines[0], f"SDK ?= {TOP}/sdk")
         self.assertEqual(lines[1], "test: votes.elf votes.lines.elf ; rvstm-tools test .")
         self.assertEqual(len(lines), 3)
-        self.assertIn("program votes votes.elf\n", (self.folder / "votes/votes.list").read_text())
+        self.assertIn("program votes votes.elf\n", (self.folder / "votes/votes.list").read_text(encoding="utf-8"))
 
     def test_an_empty_folder_may_be_there(self) -> None:
         (self.folder / "votes").mkdir()
@@ -133,7 +132,7 @@ class New(InFolder):
         }.items():
             if top != self.folder:
                 (top / "sdk").mkdir(parents=True)
-                (top / "sdk/Makefile").write_text("")
+                (top / "sdk/Makefile").write_text("", encoding="utf-8")
             with self.subTest(message), mock.patch.object(finding, "home", lambda: Home(top)):
                 self.assertEqual(self.made(f"{self.folder}/votes"), (1, "", f"new: {message}\n"))
 
@@ -145,22 +144,14 @@ class Built(InFolder):
         self.assertEqual((status, faults), (0, ""))
         self.assertTrue((self.folder / "votes/votes.elf").read_bytes().startswith(b"\x7fELF"))
 
-    @unittest.skipUnless(os.environ.get("RVSTM"), "RVSTM names no program")
-    def test_make_runs_the_test(self) -> None:
-        with mock.patch.object(sys, "argv", [str(TOP / "tools/rvstm-tools")]):
-            called("new", f"{self.folder}/votes")
-        done = subprocess.run(["make", "-s"], cwd=self.folder / "votes", capture_output=True, text=True, check=False)
-        self.assertEqual((done.returncode, done.stderr), (0, ""))
-        self.assertRegex(done.stdout, r"^passed  votes.list: 4 calls, expectations: \d+\n1 test: 1 passed, 0 failed;")
-
 
 class Installed(unittest.TestCase):
     def test_pip_installs_each_file_of_the_sdk(self) -> None:
         """The patterns of pyproject.toml name all of sdk but its tests."""
         tools = TOP / "tools"
-        patterns = tomllib.loads((tools / "pyproject.toml").read_text())["tool"]["setuptools"]["data-files"]
+        patterns = tomllib.loads((tools / "pyproject.toml").read_text(encoding="utf-8"))["tool"]["setuptools"]["data-files"]
         named = {path.resolve() for globs in patterns.values() for pattern in globs for path in tools.glob(pattern)}
-        listed = subprocess.run(["git", "ls-files", "sdk"], cwd=TOP, capture_output=True, text=True, check=False).stdout
+        listed = subprocess.run(["git", "ls-files", "sdk"], cwd=TOP, capture_output=True, encoding="utf-8", check=False).stdout
         files = {TOP / name for name in listed.splitlines() if not re.match("sdk/rust/tests/", name)}
         self.assertEqual(files - named, set())
         for folder, globs in patterns.items():

@@ -88,7 +88,7 @@ class OfArchives(InFolder):
 @unittest.skipUnless(HAS_PACKER, "there is no dpkg-deb")
 class OfPackages(InFolder):
     def run_packer(self, *words: str) -> str:
-        return subprocess.run(["dpkg-deb", *words], capture_output=True, text=True, check=True).stdout
+        return subprocess.run(["dpkg-deb", *words], capture_output=True, encoding="utf-8", check=True).stdout
 
     def test_what_is_read_is_what_was_written(self) -> None:
         self.assertEqual(archives.files_in(deb()), ENTRIES)
@@ -283,9 +283,9 @@ class OfManPages(InFolder):
 
     @unittest.skipUnless((TOP / "crates.txt").is_file(), "this is not a checkout")
     def test_the_pages_of_the_tools_are_what_their_parsers_make(self) -> None:
-        version = products.version_of((TOP / products.VERSION_FILE).read_text())
-        self.assertEqual((TOP / parsers.PAGE).read_text(), parsers.page_of(version), f"{parsers.MAKER} makes it again")
-        self.assertEqual((TOP / parsers.COMPLETION).read_text(), parsers.completion(), f"{parsers.MAKER} makes it again")
+        version = products.version_of((TOP / products.VERSION_FILE).read_text(encoding="utf-8"))
+        self.assertEqual((TOP / parsers.PAGE).read_text(encoding="utf-8"), parsers.page_of(version), f"{parsers.MAKER} makes it again")
+        self.assertEqual((TOP / parsers.COMPLETION).read_text(encoding="utf-8"), parsers.completion(), f"{parsers.MAKER} makes it again")
 
     def test_the_page_has_all_commands_and_options(self) -> None:
         page = parsers.page_of("1.2.3")
@@ -297,7 +297,8 @@ class OfManPages(InFolder):
     @unittest.skipUnless(shutil.which("man"), "there is no man")
     def test_the_page_as_man_reads_it(self) -> None:
         path = self.write("rvstm-tools.1", parsers.page_of("1.2.3"))
-        done = subprocess.run(["man", "--warnings", "-E", "UTF-8", "-l", "-Tutf8", path], capture_output=True, text=True, check=False)
+        words = ["man", "--warnings", "-E", "UTF-8", "-l", "-Tutf8", path]
+        done = subprocess.run(words, capture_output=True, encoding="utf-8", check=False)
         self.assertEqual((done.returncode, [line for line in done.stderr.splitlines() if "cannot" in line]), (0, []))
 
     @unittest.skipUnless(shutil.which("bash"), "there is no bash")
@@ -306,7 +307,7 @@ class OfManPages(InFolder):
         def completed(*words: str) -> list[str]:
             given = " ".join(f"'{word}'" for word in words)
             script = f"source {path}; COMP_WORDS=({given}); COMP_CWORD={len(words) - 1}; _rvstm_tools; echo ${{COMPREPLY[@]}}"
-            return subprocess.run(["bash", "-c", script], capture_output=True, text=True, check=True).stdout.split()
+            return subprocess.run(["bash", "-c", script], capture_output=True, encoding="utf-8", check=True).stdout.split()
         self.assertEqual(completed("rvstm-tools", "tr"), ["trace"])
         self.assertEqual(completed("rvstm-tools", "re"), ["release", "result"])
         self.assertEqual(completed("rvstm-tools", "trace", "--li"), ["--list", "--lines"])

@@ -173,7 +173,7 @@ class FakeSeq:
         self.refusals: dict[str, str] = {}
 
     def run(self, words: Sequence[str], folder: Path) -> Printed:
-        text = Path(words[1]).read_text()
+        text = Path(words[1]).read_text(encoding="utf-8")
         for part, refusal in self.refusals.items():
             if part in text:
                 return Printed("", f"rvstm: {refusal}")
@@ -322,12 +322,12 @@ class OfAKeptSession(InFolder):
         kept = self.kept()
         self.assertEqual(kept.run(b"one"), Done(b"answer to one"))
         self.assertEqual(kept.run(b"die before"), Done(b"answer to die before"))
-        self.assertEqual((kept.height, kept.deaths, Path(f"{self.folder}/height").read_text()), (2, 1, "2"))
+        self.assertEqual((kept.height, kept.deaths, Path(f"{self.folder}/height").read_text(encoding="utf-8")), (2, 1, "2"))
 
     def test_a_frame_that_was_kept_is_not_given_again(self) -> None:
         kept = self.kept()
         self.assertEqual(kept.run(b"die after"), Done(b"the last answer"))
-        self.assertEqual((kept.height, kept.deaths, Path(f"{self.folder}/height").read_text()), (1, 1, "1"))
+        self.assertEqual((kept.height, kept.deaths, Path(f"{self.folder}/height").read_text(encoding="utf-8")), (1, 1, "1"))
 
     def test_a_process_that_is_killed_between_two_requests(self) -> None:
         kept = self.kept()

@@ -171,13 +171,13 @@ class Updating(InFolderWithProgram):
         with mock.patch.object(program, "run", lambda words, folder: Printed(result(gas=next(gas)))):
             said = self.tried(f"{BEGIN}expect gas at most 4\n", program, "large", "small", is_update=True)
         self.assertEqual(said[-2:], ["updated a.list", "3 tests: 3 passed, 0 failed; 3 calls, 3 expectations, 0 not met"])
-        self.assertEqual((self.folder / "a.list").read_text(), f"{BEGIN}expect gas at most 7\n")
+        self.assertEqual((self.folder / "a.list").read_text(encoding="utf-8"), f"{BEGIN}expect gas at most 7\n")
 
     def test_nothing_is_written_where_another_line_is_not_met(self) -> None:
         before = f"{BEGIN}expect gas at most 4\nexpect reverted\n"
         said = self.tried(before, FakeProgram(Printed(result())), is_update=True)
         self.assertEqual(said[0], "failed  a.list: 1 call, expectations: 1 of 2 not met")
-        self.assertEqual((self.folder / "a.list").read_text(), before)
+        self.assertEqual((self.folder / "a.list").read_text(encoding="utf-8"), before)
 
     def test_nothing_is_written_where_nothing_changes(self) -> None:
         said = self.tried(f"{BEGIN}expect gas at most 5\n", FakeProgram(Printed(result())), is_update=True)

@@ -79,14 +79,14 @@ def assemble(rvstm: Path, place: Path, source: str) -> Path:
 
 
 def speed_calls(number: int) -> list[Input]:
-    rows = [line.split(" ") for line in (FOLDER / "speed.block").read_text().splitlines()]
+    rows = [line.split(" ") for line in (FOLDER / "speed.block").read_text(encoding="utf-8").splitlines()]
     return [Input(int(row[2]), bytes.fromhex(row[3].replace("-", ""))) for row in rows if row[:2] == ["call", str(number)]]
 
 
 def calls_again(example: str, count: int) -> str:
     """The block of an example with so many calls: its own, again and again. The path of its program holds in every folder."""
     folder = TOP / "examples" / example
-    lines = (folder / f"{example}.block").read_text().splitlines()
+    lines = (folder / f"{example}.block").read_text(encoding="utf-8").splitlines()
     head = [line for line in lines if not line.startswith("call ")]
     calls = [line for line in lines if line.startswith("call ")]
     head = [re.sub(r"^(program \d+ )", rf"\1{folder}/", line) for line in head]

@@ -78,7 +78,7 @@ class Measured:
         made = [TimedBlock("", "transfer", transfers(choice, keys)) for _ in range(BLOCKS_A_ROUND)]
         self.frames = [frame_of(place, block) for block in made]
         self.path = place / f"{keys}.block"
-        self.path.write_text(TimedBlock("", "transfer", made[0].calls, accounts(keys)).text())
+        self.path.write_text(TimedBlock("", "transfer", made[0].calls, accounts(keys)).text(), encoding="utf-8")
         self.session = begun(rvstm, settings, place / "transfer.elf")
         self.first = self.timed([frame_of(place, TimedBlock("", "transfer", [], accounts(keys)))])
         self.answer = processes.answered(self.session, self.frames[0]).body

@@ -158,7 +158,7 @@ class Stored:
             with traced(process.pid, trace):
                 for _ in range(COUNTED):
                     self.commit(count)
-            calls = [SystemCall(name, path, int(result)) for name, path, result in WRITE.findall(trace.read_text())]
+            calls = [SystemCall(name, path, int(result)) for name, path, result in WRITE.findall(trace.read_text(encoding="utf-8"))]
             for path in (f"{file}-wal", str(file)):
                 lengths = [call.result for call in calls if (call.name, call.path) == ("pwrite64", path)]
                 cells += [f"{len(lengths) / COUNTED:.1f}", f"{sum(lengths) / 1024 / COUNTED:,.1f}"]

@@ -44,7 +44,7 @@ def measured(rvstm: Path, place: Path) -> Iterator[Row]:
     for source in ("counter", "write"):
         blocks.assemble(rvstm, place, source)
     for size, block in sized():
-        (place / "one.block").write_text(block.text())
+        (place / "one.block").write_text(block.text(), encoding="utf-8")
         commands: list[list[Word]] = [[rvstm, "seq", "one.block"], [rvstm, "run", "one.block", "--workers", "4"]]
         seq, run = (1000 * min(spent) for spent in processes.times_of(commands, place, TIMES).rounds)
         yield Row(block.name, size, len(block.calls), seq, run)

@@ -29,7 +29,7 @@ class Program:
 def counted(words: Sequence[Word], folder: Path, place: Path) -> int:
     output = place / "callgrind.out"
     running.output_of(["valgrind", "--tool=callgrind", f"--callgrind-out-file={output}", *words], folder)
-    found = re.search(r"^summary: (\d+)", output.read_text(), re.MULTILINE)
+    found = re.search(r"^summary: (\d+)", output.read_text(encoding="utf-8"), re.MULTILINE)
     if not found:
         raise UserError("callgrind counted nothing")
     return int(found[1])
@@ -60,7 +60,7 @@ def print_loops(rvstm: Path, place: Path) -> None:
     for program in programs:
         paths = [place / f"{gas}.block" for gas in GAS]
         for gas, path in zip(GAS, paths):
-            path.write_text(TimedBlock(program.name, "", [Input(gas, program.data)]).text(program.path))
+            path.write_text(TimedBlock(program.name, "", [Input(gas, program.data)]).text(program.path), encoding="utf-8")
         few, many = (last_moment(rvstm, path) for path in paths)
         for name, start in machines.items():
             low, high = (counted([*start, path], FOLDER, place) for path in paths)
@@ -75,7 +75,7 @@ def print_calls(rvstm: Path, place: Path) -> None:
         blocks.assemble(rvstm, place, block.source)
         for rules in range(RULES.get(block.source, 1), 4):
             for count in CALLS:
-                (place / f"{count}.block").write_text(block.first(count).text(rules=rules))
+                (place / f"{count}.block").write_text(block.first(count).text(rules=rules), encoding="utf-8")
             costs = []
             for command, *more in WAYS:
                 low, high = (counted([rvstm, command, f"{count}.block", *more], place, place) for count in CALLS)

@@ -47,10 +47,10 @@ def run(given: argparse.Namespace) -> int:
         text = ElfFile(str(blocks.assemble(given.rvstm, place, "write"))).segments[0].data
         for number in range(PROGRAMS):
             (place / f"{number}.elf").write_bytes(program_of(text, number))
-        (place / "large.block").write_text(block_text(PROGRAMS, CALLS))
-        (place / "few.block").write_text(block_text(1, FEW_CALLS))
-        (place / "long.schedule").write_text("0\n" * LONG_LIST)
-        (place / "few.schedule").write_text("0\n" * SHORT_LIST)
+        (place / "large.block").write_text(block_text(PROGRAMS, CALLS), encoding="utf-8")
+        (place / "few.block").write_text(block_text(1, FEW_CALLS), encoding="utf-8")
+        (place / "long.schedule").write_text("0\n" * LONG_LIST, encoding="utf-8")
+        (place / "few.schedule").write_text("0\n" * SHORT_LIST, encoding="utf-8")
         for block, schedule in (("large.block", "long.schedule"), ("few.block", "few.schedule")):
             wanted = measured(given.rvstm, place, ["seq", block])
             found = [measured(given.rvstm, place, ["run", block, "--workers", str(count)]) for count in (1, 4, 32)]

@@ -82,7 +82,7 @@ def times_at_once(words: Sequence[Word], place: Path) -> list[float]:
 
 def rounds_of(rvstm: Path, place: Path, length: int) -> Rounds:
     count = max(FEWEST_CALLS, min(MOST_CALLS, INSTRUCTIONS_A_BLOCK // length))
-    (place / "calls.block").write_text(TimedBlock("", "work", mixing(length, count)).text())
+    (place / "calls.block").write_text(TimedBlock("", "work", mixing(length, count)).text(), encoding="utf-8")
     commands: list[list[Word]] = [[rvstm, "seq", "calls.block"]]
     commands += [[rvstm, "run", "calls.block", "--workers", str(workers)] for workers in WORKERS]
     yardstick: list[Word] = [rvstm, "seq", "yardstick.block"]
@@ -120,7 +120,7 @@ def run(given: argparse.Namespace) -> int:
     with tempfile.TemporaryDirectory() as folder:
         place = Path(folder)
         blocks.assemble(given.rvstm, place, "work")
-        (place / "yardstick.block").write_text(TimedBlock("", "work", mixing(YARDSTICK_LENGTH, YARDSTICK_CALLS)).text())
+        (place / "yardstick.block").write_text(TimedBlock("", "work", mixing(YARDSTICK_LENGTH, YARDSTICK_CALLS)).text(), encoding="utf-8")
         found = [rounds_of(given.rvstm, place, length) for length in LENGTHS]
     fastest = min(spent for one in found for each in one.at_once for spent in each)
     tables.print_table(COLUMNS, [one.cells(fastest) for one in found])

@@ -46,4 +46,4 @@ class Picture:
         self.parts.append(f'<text x="{place.x:.0f}" y="{place.y:.0f}"{more}>{text}</text>')
 
     def write(self, path: Path) -> None:
-        path.write_text("\n".join([*self.parts, "</svg>", ""]))
+        path.write_text("\n".join([*self.parts, "</svg>", ""]), encoding="utf-8")

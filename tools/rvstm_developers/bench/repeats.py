@@ -39,7 +39,7 @@ def executions(rvstm: Path, place: Path, workers: int) -> int:
 
 
 def row(rvstm: Path, place: Path, block: NamedText, runs: int) -> list[str]:
-    (place / "calls.block").write_text(block.text)
+    (place / "calls.block").write_text(block.text, encoding="utf-8")
     calls = sum(line.startswith("call ") for line in block.text.splitlines())
     conflicts = running.output_of([rvstm, "conflicts", "calls.block"], place)
     cells = [block.name, f"{calls:,}", f"{sum(line.startswith(b'wait ') for line in conflicts.splitlines()):,}"]

@@ -36,7 +36,7 @@ def builds(place: Path) -> dict[str, Path]:
 
 
 def all_blocks(rvstm: Path, place: Path) -> Iterator[tuple[str, str]]:
-    yield "calls that compute", (FOLDER / "speed.block").read_text()
+    yield "calls that compute", (FOLDER / "speed.block").read_text(encoding="utf-8")
     for number, program in enumerate(SPEED_PROGRAMS):
         yield program, TimedBlock(program, program, blocks.speed_calls(number)).text(f"programs/{program}.elf")
     for name, count, block in (("200 counts", 200, blocks.hot_key()), ("1,000 transfers", 1000, blocks.transfers())):
@@ -70,7 +70,7 @@ def print_whole(rvstm: Path, old: Path | None, place: Path) -> None:
     tables.print_head(columns + (["before, ms", "ratio to before"] if old else []))
     for name, text in all_blocks(rvstm, place):
         block = place / "one.block"
-        block.write_text(text)
+        block.write_text(text, encoding="utf-8")
         fastest = fastest_builds(plain, block, place)
         commands: dict[str, Sequence[Word]] = {build: [plain[build], block] for build in fastest}
         commands[NEW] = [rvstm, "seq", block]
@@ -93,11 +93,11 @@ def best_times(commands: Sequence[Sequence[Word]], place: Path) -> list[float]:
 def print_short(rvstm: Path, place: Path) -> None:
     print()
     tables.print_head(SHORT_COLUMNS)
-    (place / "list").write_text("0\n" * 20_000)
+    (place / "list").write_text("0\n" * 20_000, encoding="utf-8")
     for block in (blocks.hot_key(), blocks.transfers()):
         blocks.assemble(rvstm, place, block.source)
-        (place / "whole.block").write_text(block.text())
-        (place / "empty.block").write_text(block.empty().text())
+        (place / "whole.block").write_text(block.text(), encoding="utf-8")
+        (place / "empty.block").write_text(block.empty().text(), encoding="utf-8")
         commands: list[list[Word]] = [[rvstm, "seq", "empty.block"], [rvstm, "seq", "whole.block"]]
         commands.append([rvstm, "drive", "whole.block", "--workers", "1", "--schedule", "list"])
         commands += [[rvstm, "run", "whole.block", "--workers", workers] for workers in ("1", "2", "4")]

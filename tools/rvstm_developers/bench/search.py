@@ -56,9 +56,9 @@ class Bench:
 
     def run(self, program: str, calls: int) -> Spent:
         lines = [CallLine(0, GAS, numbered_key(number) + texts.word(2**32 - 1)) for number in range(calls)]
-        (self.place / "block").write_text(texts.block_text([program], {}, lines, texts.head_of(3)))
+        (self.place / "block").write_text(texts.block_text([program], {}, lines, texts.head_of(3)), encoding="utf-8")
         spent = sound(timed([self.rvstm, "seq", "block"], self.place, result="result"))
-        with open(self.place / "result") as result:
+        with open(self.place / "result", encoding="utf-8") as result:
             ends = [line.split(" ")[2:5] for line in result if line.startswith("call ")]
         if ends != [["out-of-gas", "gas", str(GAS)]] * calls:
             raise UserError(f"{program}: a call ends as {ends[0]}")

@@ -42,7 +42,7 @@ def write_block(options: Options, name: str, content: Content) -> None:
         if isinstance(program, bytes):
             (options.place / paths[-1]).write_bytes(program)
     text = texts.block_text(paths, content.store, content.calls, texts.head_of(RULES))
-    (options.place / f"{name}.block").write_text(text)
+    (options.place / f"{name}.block").write_text(text, encoding="utf-8")
     named = frames.named(text.encode(), options.place)
     (options.place / f"{name}.requests").write_bytes(requests.text_of((*named.programs(), named.frame())))
 
@@ -62,7 +62,7 @@ def shown(name: str, way: str) -> str:
 
 
 def gas_of(options: Options, name: str) -> int:
-    with subprocess.Popen([options.rvstm, "seq", f"{name}.block"], cwd=options.place, stdout=subprocess.PIPE, text=True) as process:
+    with subprocess.Popen([options.rvstm, "seq", f"{name}.block"], cwd=options.place, stdout=subprocess.PIPE, encoding="utf-8") as process:
         assert process.stdout is not None
         return sum(int(line.split(" ", 5)[4]) for line in process.stdout if line.startswith("call "))
 

@@ -47,7 +47,7 @@ def print_ratios(title: str, rows: Iterable[tuple[str, list[float]]]) -> None:
 def program_ratios(rvstm: Path, place: Path, number: int) -> list[float]:
     name = SPEED_PROGRAMS[number]
     calls = [Input(PROGRAM_GAS, blocks.speed_calls(number)[0].data)] * PROGRAM_CALLS
-    (place / f"{name}.block").write_text(TimedBlock(name, name, calls).text(FOLDER / f"programs/{name}.elf"))
+    (place / f"{name}.block").write_text(TimedBlock(name, name, calls).text(FOLDER / f"programs/{name}.elf"), encoding="utf-8")
     times = processes.times_of(runs_of(rvstm, f"{name}.block"), place, PROGRAM_TIMES)
     times.check(name)
     return times.ratios()
@@ -55,8 +55,8 @@ def program_ratios(rvstm: Path, place: Path, number: int) -> list[float]:
 
 def measured(rvstm: Path, place: Path, block: TimedBlock) -> Row:
     blocks.assemble(rvstm, place, block.source)
-    (place / "calls.block").write_text(block.text())
-    (place / "empty.block").write_text(block.empty().text())
+    (place / "calls.block").write_text(block.text(), encoding="utf-8")
+    (place / "empty.block").write_text(block.empty().text(), encoding="utf-8")
     commands = runs_of(rvstm, "calls.block")
     times = processes.times_of([[rvstm, "seq", "empty.block"], *commands], place, TIMES)
     times.check(block.name, first=1)

@@ -263,10 +263,11 @@ def fuzz_file(runs: Runs, choice: Random, kind: Kind, seed: Seed) -> None:
     match kind:
         case Kind.ELF:
             runs.run(folder, ["dis", path])
-            runs.second.write_text(texts.block_text([path], {}, [CallLine(0, 100_000, bytes(1))] * 3, choice.choice(texts.HEADS)))
+            text = texts.block_text([path], {}, [CallLine(0, 100_000, bytes(1))] * 3, choice.choice(texts.HEADS))
+            runs.second.write_text(text, encoding="utf-8")
             fuzz_block(runs, choice, folder, runs.second, path)
         case Kind.BLOCK | Kind.STORAGE:
-            runs.second.write_text(texts.lines_of(choice.randrange(2) for _ in range(2000)))
+            runs.second.write_text(texts.lines_of(choice.randrange(2) for _ in range(2000)), encoding="utf-8")
             fuzz_block(runs, choice, folder, path, runs.second)
         case Kind.SOURCE:
             if runs.run(folder, ["asm", path, "--out", runs.out]) is not None:

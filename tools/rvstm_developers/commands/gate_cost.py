@@ -53,7 +53,7 @@ def processes() -> Iterator[Process]:
         if not path.name.isdigit():
             continue
         try:
-            fields = (path / "stat").read_text().rpartition(")")[2].split()
+            fields = (path / "stat").read_text(encoding="utf-8").rpartition(")")[2].split()
         except OSError:  # it has ended
             continue
         seconds = (int(fields[USER_TIME]) + int(fields[SYSTEM_TIME])) / TICKS
@@ -131,7 +131,7 @@ def print_table(costs: Mapping[Task, float], minutes: float) -> None:
 
 def run(given: argparse.Namespace) -> int:
     began = time.time()
-    with open(given.log, "w") as log:
+    with open(given.log, "w", encoding="utf-8") as log:
         gate = subprocess.Popen(["rt", "ci", *["--anew"] * given.anew, *given.crates], cwd=TOP, stdout=log, stderr=subprocess.STDOUT)
         costs = measure(gate)
     print_table(costs, (time.time() - began) / 60)

@@ -100,7 +100,7 @@ class Sums(NamedTuple):
 
 def commands(rvstm: Path, place: Path) -> Iterator[Trial]:
     out, turns = place / "out.elf", place / "turns.schedule"
-    turns.write_text("0\n1\n" * 200)
+    turns.write_text("0\n1\n" * 200, encoding="utf-8")
 
     def of(name: str, example: str, *words: Word, data: bytes = b"") -> Trial:
         return Trial(name, TOP / "examples" / example, [rvstm, *words], is_right, data)
@@ -230,7 +230,7 @@ def tests_of(path: Path, place: Path) -> Iterator[Trial]:
 def run_all(place: Path, trials: Iterable[Trial]) -> Sums:
     runs = failed = 0
     source, tools = place / "refuses.c", Tools(place / "refuses.so", place / "refused")
-    source.write_text(LIBRARY)
+    source.write_text(LIBRARY, encoding="utf-8")
     running.output_of(["cc", "-O1", "-shared", "-fPIC", "-w", "-o", tools.library, source])
     for trial in trials:
         wanted = run_refused(trial, tools, 0)

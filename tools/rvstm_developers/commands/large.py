@@ -85,7 +85,7 @@ class Bench:
             open(self.place / "errors", "wb") as errors,
         ):
             subprocess.run(launch, cwd=self.place, stdin=given, stdout=out, stderr=errors, check=True)
-        return Usage(*json.loads((self.place / "usage").read_text()))
+        return Usage(*json.loads((self.place / "usage").read_text(encoding="utf-8")))
 
     def fault_of(self, trial: Trial, usage: Usage) -> str:
         errors = (self.place / "errors").read_bytes()

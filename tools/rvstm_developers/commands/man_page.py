@@ -13,7 +13,7 @@ def run(given: argparse.Namespace) -> int:
         helps.check(top, given.rvstm)
         print(f"{helps.PAGE} is what the help makes")
     else:
-        (top / helps.PAGE).write_text(helps.page_of(given.rvstm))
+        (top / helps.PAGE).write_text(helps.page_of(given.rvstm), encoding="utf-8")
     return Status.DONE
 
 

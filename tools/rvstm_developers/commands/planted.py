@@ -35,7 +35,7 @@ class Found(NamedTuple):
 def explored(words: list[str | Path]) -> Found | None:
     """What a run of `rvstm-tools explore` finds, by its lines and when they come; None if nothing is broken."""
     begun, seconds, calls, found = time.monotonic(), 0.0, "", None
-    with subprocess.Popen(words, stdout=subprocess.PIPE, text=True) as process:
+    with subprocess.Popen(words, stdout=subprocess.PIPE, encoding="utf-8") as process:
         assert process.stdout
         for line in process.stdout:
             if form := re.match("broken by call ([0-9]+) of all", line):

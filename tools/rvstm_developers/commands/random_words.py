@@ -124,7 +124,7 @@ def compare(rvstm: Path, seed: str) -> Tally:
         file.write_bytes(made.file)
         limits = [LAUNCH_GAS + choice.choice(GAS_LIMITS) for _ in range(CALLS_A_PROGRAM)]
         calls = [CallLine(0, limit, words.input_of(choice, made.count)) for limit in limits]
-        block.write_text(texts.block_text([file], {}, calls))
+        block.write_text(texts.block_text([file], {}, calls), encoding="utf-8")
         result = results.result_of(running.output_of([rvstm, "seq", block]).decode())
         tally, places = Tally(words=made.count), set[int]()
         for receipt in result.receipts:

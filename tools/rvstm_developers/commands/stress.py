@@ -107,7 +107,7 @@ class Comparison:
 
     def compare_block(self, programs: list[str]) -> None:
         text, block = blocks.block_of(self.choice, programs), self.place / "random.block"
-        block.write_text(text)
+        block.write_text(text, encoding="utf-8")
         wanted = running.run([self.rvstm, "seq", block], self.folder)
         self.blocks += 1
         for way in ways(self.rvstm, self.folder, block, self.choice):

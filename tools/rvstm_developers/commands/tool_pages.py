@@ -10,8 +10,8 @@ from rvstm_tools.releases.products import Products
 
 def run(_: argparse.Namespace) -> int:
     checkout = checkouts.here("tool-pages")
-    (checkout.top / parsers.PAGE).write_text(parsers.page_of(Products(checkout).version()))
-    (checkout.top / parsers.COMPLETION).write_text(parsers.completion())
+    (checkout.top / parsers.PAGE).write_text(parsers.page_of(Products(checkout).version()), encoding="utf-8")
+    (checkout.top / parsers.COMPLETION).write_text(parsers.completion(), encoding="utf-8")
     return Status.DONE
 
 

@@ -88,7 +88,7 @@ class Uses:
         for path in sorted(folder.glob("*/src/**/*.rt")):
             if not is_test(path):
                 self.path = path
-                self.walk(tree(code(path.read_text())).items, ())
+                self.walk(tree(code(path.read_text(encoding="utf-8"))).items, ())
 
     def walk(self, items: Sequence[Item], around: tuple[Around, ...]) -> None:
         start, here = 0, around

@@ -31,7 +31,7 @@ class Linker:
 
     def run(self, *words: str | Path, executable: Path | None = None) -> str:
         done = subprocess.run(
-            [str(word) for word in words], executable=executable, cwd=self.crate, capture_output=True, text=True, check=False
+            [str(word) for word in words], executable=executable, cwd=self.crate, capture_output=True, encoding="utf-8", check=False
         )
         if done.returncode:
             sys.stderr.write(done.stdout + done.stderr)

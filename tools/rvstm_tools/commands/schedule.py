@@ -49,7 +49,7 @@ def run(given: argparse.Namespace) -> int:
         raise MisuseError("it wants a LENGTH, or --to-done BLOCK and --from SCHEDULE")
     if is_continued:
         program = finding.chosen(options.program_choice(given), "schedule")
-        lines = continuation(program, given.to_done, given.workers, given.schedule.read_text(errors="replace"))
+        lines = continuation(program, given.to_done, given.workers, given.schedule.read_text(errors="replace", encoding="utf-8"))
     else:
         lines = schedules.entries(given.workers, given.length, given.form)
     sys.stdout.write(schedules.text_of(lines))

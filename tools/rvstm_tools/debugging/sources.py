@@ -51,7 +51,7 @@ def chains_of(program: ElfFile, addresses: Sequence[int], tool: str | None) -> C
         return chains
     words = [tool, "-a", "-f", "-i", "-C", "-e", program.path]
     given = "".join(f"{address:#x}\n" for address in addresses if program.is_code(address))
-    done = subprocess.run(words, input=given, capture_output=True, text=True, errors="backslashreplace", check=False)
+    done = subprocess.run(words, input=given, capture_output=True, encoding="utf-8", errors="backslashreplace", check=False)
     if done.returncode:
         raise UserError(f"{tool} ended with status {done.returncode}: {done.stderr.strip()}")
     for part in f"\n{done.stdout}".split("\n0x")[1:]:

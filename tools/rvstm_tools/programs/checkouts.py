@@ -21,7 +21,7 @@ class Checkout:
 
     @functools.cached_property
     def needs(self) -> dict[str, list[str]]:
-        lines = (self.top / "crates.txt").read_text().splitlines()
+        lines = (self.top / "crates.txt").read_text(encoding="utf-8").splitlines()
         rows = [line.split(":") for line in lines if not line.startswith("#")]
         below = {row[0].split()[0]: row[1].split() for row in rows if len(row) == 2 and row[0].strip()}
         return {name: [needed for needed in names if needed in below] for name, names in below.items()}
@@ -50,7 +50,7 @@ class Checkout:
         return total.hexdigest()
 
     def lines_of(self, crate: str) -> int:
-        return sum(len(file.read_text().splitlines()) for file in (self.crate(crate) / "src").rglob("*.rt"))
+        return sum(len(file.read_text(encoding="utf-8").splitlines()) for file in (self.crate(crate) / "src").rglob("*.rt"))
 
 
 def here(what: str) -> Checkout:
@@ -75,14 +75,14 @@ def stamp(made: Path, sources: str) -> str:
 
 def is_built(made: Path, sources: str) -> bool:
     """Whether a file is there as it was built of the sources of this checksum."""
-    return made.is_file() and stamp_of(made).is_file() and stamp_of(made).read_text().startswith(stamp(made, sources))
+    return made.is_file() and stamp_of(made).is_file() and stamp_of(made).read_text(encoding="utf-8").startswith(stamp(made, sources))
 
 
 def kit_of(made: Path) -> str:
     """The line of the kit with which a file was built; empty if it is not noted."""
-    return "".join(stamp_of(made).read_text().splitlines()[1:2])
+    return "".join(stamp_of(made).read_text(encoding="utf-8").splitlines()[1:2])
 
 
 def note_built(made: Path, sources: str) -> None:
-    kit = subprocess.run(["rt", "version"], capture_output=True, text=True, check=False).stdout.strip()
-    stamp_of(made).write_text(f"{stamp(made, sources)}{kit}\n")
+    kit = subprocess.run(["rt", "version"], capture_output=True, encoding="utf-8", check=False).stdout.strip()
+    stamp_of(made).write_text(f"{stamp(made, sources)}{kit}\n", encoding="utf-8")

@@ -39,5 +39,5 @@ def lack(sdk: Path, *, is_rust: bool) -> str | None:
 
 def has_libraries() -> bool:
     words = ["rustc", "--print", "target-libdir", "--target", TARGET]
-    done = subprocess.run(words, capture_output=True, text=True, check=False)
+    done = subprocess.run(words, capture_output=True, encoding="utf-8", check=False)
     return done.returncode == 0 and any(Path(done.stdout.strip()).glob("libcore*.rlib"))

@@ -34,7 +34,7 @@ def need_rt() -> None:
 
 def run_rt(words: Sequence[str], folder: Path, niceness: int = 0) -> None:
     command = ["nice", "-n", str(niceness), "rt", *words]
-    done = subprocess.run(command, cwd=folder, stdout=subprocess.PIPE, stderr=subprocess.STDOUT, text=True, check=False)
+    done = subprocess.run(command, cwd=folder, stdout=subprocess.PIPE, stderr=subprocess.STDOUT, encoding="utf-8", check=False)
     if done.returncode != 0:
         sys.stderr.write(done.stdout)
         raise UserError(f"rt ended with status {done.returncode} in {folder.name}; what it said is above")
@@ -73,7 +73,7 @@ class Prover:
         self.crates = checkout.crates_of(crate)
         self.words = words
         processors = len(os.sched_getaffinity(0))
-        self.at_once = at_once or most_at_once(Path("/proc/meminfo").read_text(), processors)
+        self.at_once = at_once or most_at_once(Path("/proc/meminfo").read_text(encoding="utf-8"), processors)
         self.lengths = self._lengths_of_chains()
         self.chain = self._longest_chain()
         self.began = time.monotonic()
@@ -152,8 +152,8 @@ class Prover:
         """Makes a tree of files with a crate, what rt keeps of it, and those below it as they are built."""
         tree.mkdir(parents=True)
         top, crates = self.checkout.top, [*below, name]
-        lines = (top / "crates.txt").read_text().splitlines(keepends=True)
-        (tree / "crates.txt").write_text("".join(line for line in lines if first_word(line) in crates))
+        lines = (top / "crates.txt").read_text(encoding="utf-8").splitlines(keepends=True)
+        (tree / "crates.txt").write_text("".join(line for line in lines if first_word(line) in crates), encoding="utf-8")
         paths = [f"crates/{crate}/{part}" for crate in crates for part in TREE]
         for path in [*paths, f"crates/{name}/out/incremental"]:
             if (top / path).is_dir():

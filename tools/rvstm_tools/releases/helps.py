@@ -71,7 +71,7 @@ def help_of(text: str, name: str) -> Help:
 
 
 def said(program: Path, *words: str) -> str:
-    done = subprocess.run([program, *words], check=False, capture_output=True, text=True)
+    done = subprocess.run([program, *words], check=False, capture_output=True, encoding="utf-8")
     if done.returncode:
         raise UserError(f"{program} {' '.join(words)} ended with status {done.returncode}")
     return done.stdout
@@ -108,5 +108,5 @@ def page_of(program: Path) -> str:
 def check(top: Path, program: Path) -> None:
     """The page of a checkout is the one that the help of the program makes."""
     page = top / PAGE
-    if not page.is_file() or page.read_text() != page_of(program):
+    if not page.is_file() or page.read_text(encoding="utf-8") != page_of(program):
         raise UserError(f"{PAGE} is not what the help of {program} makes: {MAKER} makes it again")

@@ -53,7 +53,7 @@ def deb_of(fields: Mapping[str, str], more: Entries, entries: Entries, seconds: 
         write(tree, entries | {f"DEBIAN/{name}": entry for name, entry in control.items()}, seconds)
         environment = {**os.environ, "SOURCE_DATE_EPOCH": str(seconds), "LC_ALL": "C"}
         try:
-            done = subprocess.run([*WORDS, tree, made], capture_output=True, text=True, env=environment, check=False)
+            done = subprocess.run([*WORDS, tree, made], capture_output=True, encoding="utf-8", env=environment, check=False)
         except FileNotFoundError as error:
             raise UserError(f"there is no {PACKER}: packages are made on Debian") from error
         if done.returncode:

@@ -51,7 +51,7 @@ class Products:
 
     def version(self) -> str:
         """The version that `rvstm --version` prints, from where the program has it."""
-        return version_of((self.checkout.top / VERSION_FILE).read_text())
+        return version_of((self.checkout.top / VERSION_FILE).read_text(encoding="utf-8"))
 
     def version_number(self) -> int:
         """The same as one number, as the library and its header have it."""
@@ -64,7 +64,7 @@ class Products:
 
     def git(self, *words: str) -> str:
         command = ["git", "-C", str(self.checkout.top), *words]
-        done = subprocess.run(command, check=False, capture_output=True, text=True)
+        done = subprocess.run(command, check=False, capture_output=True, encoding="utf-8")
         if done.returncode:
             raise UserError(f"git {words[0]}: {done.stderr.strip()}")
         return done.stdout
@@ -103,7 +103,7 @@ class Products:
 
     def check_versions(self) -> None:
         program, shared = self.path(Product.PROGRAM), self.path(Product.SHARED)
-        said = subprocess.run([program, "--version"], capture_output=True, text=True, check=False).stdout.strip()
+        said = subprocess.run([program, "--version"], capture_output=True, encoding="utf-8", check=False).stdout.strip()
         if said != f"rvstm {self.version()}":
             raise UserError(f"{program} says {said}, not {self.version()}")
         number = ctypes.CDLL(os.fspath(shared)).rvstm_version()
@@ -119,7 +119,7 @@ def stripped(data: bytes) -> bytes:
         given, made = Path(place, "given"), Path(place, "made")
         given.write_bytes(data)
         words = [STRIPPER, "--strip-all", "-R", ".note.gnu.build-id", str(given), str(made)]
-        done = subprocess.run(words, capture_output=True, text=True, check=False)
+        done = subprocess.run(words, capture_output=True, encoding="utf-8", check=False)
         if done.returncode:
             raise UserError(f"{STRIPPER} cannot read it: {done.stderr.strip()}")
         return made.read_bytes()
