@@ -14,9 +14,7 @@ from pathlib import Path
 
 from gate.calls import tool_words
 from gate.cases import TOP
-
-sys.path.append(str(TOP / "tools"))
-from rvstm_tools.commands.library import CRATE, Linker  # after the path of the tools is set
+from rvstm_tools.commands.library import CRATE, Linker
 from rvstm_tools.errors import UserError
 from rvstm_tools.programs import checkouts
 from rvstm_tools.programs.checkouts import Checkout

@@ -4,7 +4,6 @@ of a node that takes signed calls."""
 import hashlib
 import random
 import shutil
-import sys
 import threading
 import time
 from collections.abc import Iterator
@@ -17,8 +16,6 @@ from gate.calls import command
 from gate.cases import TOP, Case, Lacks, Run, holds, same
 from gate.machine import CONTRACTS
 from gate.outside import last_lines
-
-sys.path.append(str(TOP / "tools"))
 from rvstm_tools.models.sessions import NO_DIGEST, Model
 from rvstm_tools.programs.running import Program
 from rvstm_tools.sessions import answers, requests

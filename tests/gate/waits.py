@@ -4,14 +4,11 @@ The receipts say what each call changed. A replay of each call shows its storage
 do not answer. A read waits for the nearest earlier call that wrote or removed the key, and for all that added to it after that call.
 """
 
-import sys
 from collections.abc import Iterator, Sequence
 from pathlib import Path
 
-from gate.cases import TOP, same
-
-sys.path.append(str(TOP / "tools"))
-from rvstm_developers.models import waits
+from gate.cases import same
+from long.models import waits
 from rvstm_tools.debugging.replays import Replay, StorageStep
 from rvstm_tools.debugging.sessions import CallOf
 from rvstm_tools.models.charges import StorageCall

@@ -7,23 +7,28 @@ import sys
 from collections.abc import Sequence
 from pathlib import Path
 
+from rvstm_developers.texts import TOP
 from rvstm_tools import errors
 from rvstm_tools.options import Command
 
-FOLDERS = {"commands": "tools/developers", "bench": "bench"}  # the folder that has a script for each command of each sub-package
+PACKAGES = {
+    "tools/rvstm_developers/commands": "tools/developers", "tools/rvstm_developers/bench": "bench", "tests/long/commands": "tools/developers",
+}
+"""The folders that have a module for each command, and the one that has a script for it."""
+sys.path.append(str(TOP / "tests"))
 
 
 def command_of(name: str) -> Command:
-    for package in FOLDERS:
-        path = Path(__file__).with_name(package) / f"{name.replace('-', '_')}.py"
+    for folder in PACKAGES:
+        path = TOP / folder / f"{name.replace('-', '_')}.py"
         if path.is_file():
-            command: Command = importlib.import_module(f"rvstm_developers.{package}.{path.stem}").COMMAND
+            command: Command = importlib.import_module(".".join((*Path(folder).parts[1:], path.stem))).COMMAND
             return command
     raise errors.MisuseError(f"no command is named {name!r}; tools/developers and bench have a script for each")
 
 
 def parser_of(command: Command) -> argparse.ArgumentParser:
-    folder = FOLDERS[sys.modules[command.run.__module__].__name__.split(".")[1]]
+    folder = "bench" if command.run.__module__.startswith("rvstm_developers.bench.") else "tools/developers"
     parser = argparse.ArgumentParser(
         prog=f"{folder}/{command.name}",
         description=f"{command.summary}\n\n{command.details.strip()}",

@@ -6,8 +6,7 @@ from pathlib import Path
 
 from rvstm_developers import options, texts
 from rvstm_developers.bench import blocks, processes, tables
-from rvstm_developers.machine_code import EXECUTE, READ, WRITE, Part, elf_of
-from rvstm_developers.models.machine import DATA, TEXT
+from rvstm_developers.machine_code import EXECUTE, FIRST_ADDRESS, READ, WRITE, Part, elf_of
 from rvstm_developers.texts import word
 from rvstm_tools.errors import UserError
 from rvstm_tools.options import Command
@@ -15,6 +14,7 @@ from rvstm_tools.programs.elf import ElfFile
 from rvstm_tools.texts.blocks import CallLine
 
 FILE_BYTES, HEADERS = 131_072, 52 + 2 * 32
+DATA = 0x2_0000
 PROGRAMS, CALLS, KEYS, FEW_CALLS = 64, 1024, 256, 251
 GAS = 1_000_000
 LONG_LIST, SHORT_LIST = 20_000_000, 65_535  # entries of the schedules
@@ -23,8 +23,7 @@ LONG_LIST, SHORT_LIST = 20_000_000, 65_535  # entries of the schedules
 def program_of(text: bytes, number: int) -> bytes:
     """A program file of the greatest size: a text, and data whose first word is the number."""
     data = word(number).ljust(FILE_BYTES - HEADERS - len(text), b"\x55")
-    code = Part(TEXT, text, READ | EXECUTE)
-    return elf_of(code, Part(DATA, data, READ | WRITE))
+    return elf_of(Part(FIRST_ADDRESS, text, READ | EXECUTE), Part(DATA, data, READ | WRITE))
 
 
 def block_text(programs: int, calls: int) -> str:

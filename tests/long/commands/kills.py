@@ -13,9 +13,9 @@ from random import Random
 from typing import IO
 
 from rvstm_developers import options
-from rvstm_developers.drawing import blocks, sessions
-from rvstm_developers.stores import files
-from rvstm_developers.stores.files import QUESTIONS
+from long.drawing import blocks, sessions
+from long.stores import files
+from long.stores.files import QUESTIONS
 from rvstm_tools import options as shared_options
 from rvstm_tools.options import Command, argument
 from rvstm_tools.programs.pipes import Ended

@@ -7,9 +7,9 @@ from dataclasses import dataclass
 from pathlib import Path
 
 from rvstm_developers import texts
-from rvstm_developers.large import blocks as large_blocks
-from rvstm_developers.large.blocks import COUNT, LAST, LONGEST_PROGRAM, MOST_GAS, MOST_PROGRAMS, count, each
-from rvstm_developers.models.machine import Block, Program
+from long.large import blocks as large_blocks
+from long.large.blocks import COUNT, LAST, LONGEST_PROGRAM, MOST_GAS, MOST_PROGRAMS, count, each
+from long.models.machine import Block, Program
 from rvstm_tools.models import sessions
 from rvstm_tools.models.charges import StorageCall
 from rvstm_tools.models.sessions import Left, Ran

@@ -4,8 +4,8 @@ from collections.abc import Callable, Sequence
 from dataclasses import dataclass
 from typing import NamedTuple
 
-from rvstm_developers.models import scheduler as model
-from rvstm_developers.models.scheduler import Answer, Block, Marking, Moving, Read, Running, State, Status, Step, Task, Validating
+from long.models import scheduler as model
+from long.models.scheduler import Answer, Block, Marking, Moving, Read, Running, State, Status, Step, Task, Validating
 
 
 def need(holds: bool, what: str) -> None:

@@ -12,7 +12,7 @@ from pathlib import Path
 from random import Random
 
 from rvstm_developers import options, running, texts
-from rvstm_developers.drawing import words
+from long.drawing import words
 from rvstm_developers.machine_code import BRANCHES, WIDTHS
 from rvstm_tools.errors import UserError
 from rvstm_tools.models import charges

@@ -10,10 +10,10 @@ from random import Random
 from typing import NamedTuple, TypeVar
 
 from rvstm_developers import texts
-from rvstm_developers.models import scheduler as model
-from rvstm_developers.models.measures import SMALLER, Measure, check_causes, check_quiet, need, work_by_incarnation, worked
-from rvstm_developers.models.scheduler import Block, Contract, Running, Validating
-from rvstm_developers.models.scheduler import conditional, copy, count, get, put, read_all, wander
+from long.models import scheduler as model
+from long.models.measures import SMALLER, Measure, check_causes, check_quiet, need, work_by_incarnation, worked
+from long.models.scheduler import Block, Contract, Running, Validating
+from long.models.scheduler import conditional, copy, count, get, put, read_all, wander
 from rvstm_tools.errors import MisuseError
 from rvstm_tools.options import Command, argument
 

@@ -9,7 +9,7 @@ from typing import NamedTuple, Self
 from rvstm_developers import machine_code as code
 from rvstm_developers import texts
 from rvstm_developers.machine_code import EXECUTE, PAGE, READ, WRITE, Part, elf_of
-from rvstm_developers.models import waits
+from long.models import waits
 from rvstm_developers.texts import word
 from rvstm_tools.exploring.storages import changed_value
 from rvstm_tools.models import charges

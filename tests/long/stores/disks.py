@@ -6,7 +6,7 @@ from pathlib import Path
 from random import Random
 from typing import NamedTuple
 
-from rvstm_developers.stores.files import Both
+from long.stores.files import Both
 
 ENTRY = struct.Struct("<ccQQ")
 SECTOR = 512

@@ -4,9 +4,9 @@ import functools
 from collections.abc import Callable, Iterable, Mapping
 from typing import NamedTuple
 
-from rvstm_developers.large.blocks import COUNT, LONGEST_PROGRAM, MOST_GAS, count
+from long.large.blocks import COUNT, LONGEST_PROGRAM, MOST_GAS, count
 from rvstm_developers.machine_code import EXECUTE, READ, Part, elf_of
-from rvstm_developers.models.machine import TEXT, Block
+from long.models.machine import TEXT, Block
 from rvstm_developers.texts import HEADS, head_of
 from rvstm_tools.models.sessions import HIGHEST
 from rvstm_tools.sessions import answers, frames, requests

@@ -5,7 +5,7 @@ from pathlib import Path
 from random import Random
 
 from rvstm_developers import texts
-from rvstm_developers.drawing import programs
+from long.drawing import programs
 from rvstm_tools.errors import UserError
 from rvstm_tools.texts.blocks import CallLine
 from rvstm_tools.texts.keys import Key, key_of

@@ -16,8 +16,8 @@ from subprocess import Popen
 from typing import NamedTuple
 
 from rvstm_developers import options
-from rvstm_developers.stores import files
-from rvstm_developers.stores.files import NAMES, PLAIN, Both, Statement
+from long.stores import files
+from long.stores.files import NAMES, PLAIN, Both, Statement
 from rvstm_tools import options as shared_options
 from rvstm_tools.errors import UserError
 from rvstm_tools.options import Command

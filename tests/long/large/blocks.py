@@ -4,7 +4,7 @@ import functools
 from collections.abc import Callable
 
 from rvstm_developers.machine_code import PAGE
-from rvstm_developers.models.machine import MEMORY_END, TEXT, Block, Program
+from long.models.machine import MEMORY_END, TEXT, Block, Program
 from rvstm_developers.texts import word
 from rvstm_tools.models.charges import StorageCall
 from rvstm_tools.texts.blocks import CallLine, Rules
