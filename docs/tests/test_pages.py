@@ -36,9 +36,7 @@ WRONG = {
     ("(#guide)", "(#other)"): "the link #other leads to no heading",
     ("rvstm-tools preview", "rvstm-tools peruse"): "rvstm-tools has no command peruse",
     ("--calls low", "--cells low"): "docs/check has no option --cells",
-    ("lists 16 lines in 2 files", "lists 17 lines in 2 files"): (
-        "--reading high::quadrupled value lists 16 lines in 2 files, not 17 in 2"
-    ),
+    ("lists 16 lines in 2 files", "lists 17 lines in 2 files"): "--reading high::quadrupled value lists 16 lines in 2 files, not 17 in 2",
     ("value after low", "values after low"): (
         "docs/check --reading high::quadrupled values after low::Boxed::doubled: there is no public call and no clause values"
     ),

@@ -213,9 +213,7 @@ class Etcd:
     def count(self, prefix: str) -> int:
         return int(self.ask("kv/range", below(prefix, count_only=True)).get("count", 0))
 
-    def transact(
-        self, compare: Iterable[Object], success: Iterable[Object], failure: Iterable[Object] = ()
-    ) -> tuple[bool, Object]:
+    def transact(self, compare: Iterable[Object], success: Iterable[Object], failure: Iterable[Object] = ()) -> tuple[bool, Object]:
         """Whether all comparisons held, and the answer."""
         reply = self.ask("kv/txn", {"compare": list(compare), "success": list(success), "failure": list(failure)})
         return reply.get("succeeded", False), reply

@@ -28,19 +28,13 @@ class Handle(ctypes.Structure):
 class Settings(ctypes.Structure):
     """An rvstm_settings."""
 
-    _fields_ = [
-        ("frame_limit", ctypes.c_uint64), ("frame_gas", ctypes.c_uint64),
-        ("digest", ctypes.c_bool), ("brief", ctypes.c_bool),
-    ]
+    _fields_ = [("frame_limit", ctypes.c_uint64), ("frame_gas", ctypes.c_uint64), ("digest", ctypes.c_bool), ("brief", ctypes.c_bool)]
 
 
 class Parts(ctypes.Structure):
     """An rvstm_refusal_parts."""
 
-    _fields_ = [
-        ("line", ctypes.c_size_t), ("number", ctypes.c_uint32),
-        ("area", ctypes.c_char * 8), ("name", ctypes.c_char * 24),
-    ]
+    _fields_ = [("line", ctypes.c_size_t), ("number", ctypes.c_uint32), ("area", ctypes.c_char * 8), ("name", ctypes.c_char * 24)]
 
 
 class Session:

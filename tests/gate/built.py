@@ -89,8 +89,7 @@ def main(words: Sequence[str] | None = None) -> int:
     """Takes over what `rt ci` left here."""
     parser = argparse.ArgumentParser(prog="tests/built", description=__doc__, formatter_class=argparse.RawDescriptionHelpFormatter)
     parser.add_argument(
-        "--again",
-        action="store_true",
+        "--again", action="store_true",
         help="libraries of earlier runs were here before, which `rt ci` put back: `rt lib` builds the library for C",
     )
     given = parser.parse_args(words)

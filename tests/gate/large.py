@@ -138,17 +138,10 @@ def calls_of_much(run: Run) -> None:
     read = registers(x5=5000, x6=5000, x8=0x100000, x10=0xFFFFFFFF, x12=64, x17=3)
     touched = registers(x5=0x6C000, x7=4096, x10=0x10FFFC, x11=4, x17=3, x28=1, x29=1830)
     prints(
-        run,
-        put(run, [READ_MANY], f"call 0 2000000 {1:064x}\n", 10_005),
-        BY_EACH,
+        run, put(run, [READ_MANY], f"call 0 2000000 {1:064x}\n", 10_005), BY_EACH,
         f"call 0 returned gas 1025017 pc 00010030 out -\n{read}end\n",
     )
-    prints(
-        run,
-        put(run, [TOUCH_MANY], "call 0 1000 -\n", 5),
-        BY_EACH,
-        f"call 0 returned gas 689 pc 0001005c out 26070000\n{touched}end\n",
-    )
+    prints(run, put(run, [TOUCH_MANY], "call 0 1000 -\n", 5), BY_EACH, f"call 0 returned gas 689 pc 0001005c out 26070000\n{touched}end\n")
 
 
 def storage(run: Run, keys: int, lines: Sequence[str]) -> None:

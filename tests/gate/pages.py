@@ -172,14 +172,8 @@ class Shell:
         path = f"{tree}/bin:{os.environ['PATH']}"
         environment = {**os.environ, "PATH": path, "RVSTM": str(run.program), "PS1": "", "LC_ALL": "C.UTF-8"}
         self.process = subprocess.Popen(
-            ["bash", "--noprofile", "--norc"],
-            cwd=tree,
-            env=environment,
-            stdin=subprocess.PIPE,
-            stdout=subprocess.PIPE,
-            stderr=subprocess.STDOUT,
-            encoding="utf-8",
-            errors="backslashreplace",
+            ["bash", "--noprofile", "--norc"], cwd=tree, env=environment, stdin=subprocess.PIPE, stdout=subprocess.PIPE,
+            stderr=subprocess.STDOUT, encoding="utf-8", errors="backslashreplace",
         )
         self.count = 0
 

@@ -125,9 +125,7 @@ def result(running: Running) -> Outcome:
         return Outcome(running.case, f"came {came}; wanted its end", seconds=seconds)
 
 
-def outcomes(
-    cases: Sequence[Case], setting: Setting, processors: int, seconds_of: Callable[[Case], float]
-) -> Iterator[Outcome]:
+def outcomes(cases: Sequence[Case], setting: Setting, processors: int, seconds_of: Callable[[Case], float]) -> Iterator[Outcome]:
     """Runs cases, as many at once as there are processors, the longest first, and yields each outcome as it comes."""
     waiting = sorted(cases, key=lambda case: case.cost)
     running: list[Running] = []

@@ -14,10 +14,7 @@ from gate.machine import CONTRACTS, Tool
 from gate.texts import Call, block, written
 
 FOLDER, SDK = TOP / "examples/stumbles", TOP / "sdk"
-COMPILERS = {
-    "clang": ["clang", "--target=riscv32-unknown-elf", "-mno-relax", "-fuse-ld=lld"],
-    "gnu": ["riscv64-unknown-elf-gcc"],
-}
+COMPILERS = {"clang": ["clang", "--target=riscv32-unknown-elf", "-mno-relax", "-fuse-ld=lld"], "gnu": ["riscv64-unknown-elf-gcc"]}
 FLAGS = ["-march=rv32im", "-mabi=ilp32", "-O2", "-ffreestanding", "-fno-pic", "-nostdlib", "-static", "-w", "-I", str(SDK)]
 START, SCRIPT = f"{SDK}/start.S", f"-Wl,-T,{SDK}/contract.ld"
 # How a program is linked without the Makefile of the sdk.

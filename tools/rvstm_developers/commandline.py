@@ -30,10 +30,8 @@ def command_of(name: str) -> Command:
 def parser_of(command: Command) -> argparse.ArgumentParser:
     folder = "bench" if command.run.__module__.startswith("rvstm_developers.bench.") else "tools/developers"
     parser = argparse.ArgumentParser(
-        prog=f"{folder}/{command.name}",
-        description=f"{command.summary}\n\n{command.details.strip()}",
-        epilog=f"example:\n  {folder}/{command.name} {command.example}",
-        formatter_class=argparse.RawDescriptionHelpFormatter,
+        prog=f"{folder}/{command.name}", description=f"{command.summary}\n\n{command.details.strip()}",
+        epilog=f"example:\n  {folder}/{command.name} {command.example}", formatter_class=argparse.RawDescriptionHelpFormatter,
     )
     for add in command.arguments:
         add(parser)

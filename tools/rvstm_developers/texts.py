@@ -22,9 +22,7 @@ def head_of(rules: int) -> str:
     return Rules(rules).head
 
 
-def block_text(
-    paths: Iterable[object], storage: Storage | None = None, calls: Iterable[CallLine] = (), head: str = HEADS[0]
-) -> str:
+def block_text(paths: Iterable[object], storage: Storage | None = None, calls: Iterable[CallLine] = (), head: str = HEADS[0]) -> str:
     return head + blocks.text(map(str, paths), storage, calls).removeprefix(HEADS[0])
 
 

@@ -68,12 +68,10 @@ class ProgramChoice:
 def add_program(parser: argparse.ArgumentParser) -> None:
     group = parser.add_mutually_exclusive_group()
     group.add_argument(
-        "--program", type=Path, metavar="PATH",
-        help="the program rvstm; without it the one that RVSTM names, or the one that is found",
+        "--program", type=Path, metavar="PATH", help="the program rvstm; without it the one that RVSTM names, or the one that is found",
     )
     group.add_argument(
-        "--preview",
-        action="store_true",
+        "--preview", action="store_true",
         help="runs the unproved program that `rvstm-tools preview` makes: slow, but there in a few minutes",
     )
 
@@ -89,8 +87,7 @@ CALL = (
 )
 SEED = argument("--seed", type=int, default=1, metavar="N", help="another number draws other things (1)")
 JOBS = argument(
-    "--jobs", type=count, default=len(os.sched_getaffinity(0)), metavar="N",
-    help="how many run at once (as many as there are processors)",
+    "--jobs", type=count, default=len(os.sched_getaffinity(0)), metavar="N", help="how many run at once (as many as there are processors)",
 )
 
 

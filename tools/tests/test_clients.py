@@ -204,9 +204,7 @@ class OfReplays(WithChain):
 
     def test_digests_are_written_and_compared(self) -> None:
         status, output, faults = called("session", "--replay", str(self.frames), "--write")
-        wanted = (
-            f"{self.frames}/1.frame: ok 135, digest {DIGEST}\n{self.frames}/2.block: refused block 3 BadLine 2, digest {DIGEST}\n"
-        )
+        wanted = f"{self.frames}/1.frame: ok 135, digest {DIGEST}\n{self.frames}/2.block: refused block 3 BadLine 2, digest {DIGEST}\n"
         self.assertEqual((status, output, faults), (0, wanted, ""))
         self.assertEqual((self.frames / "2.block.digest").read_text(encoding="utf-8"), f"{DIGEST}\n")
         self.assertEqual(called("session", "--replay", str(self.frames)), (0, output, ""))

@@ -41,11 +41,7 @@ class Branches(unittest.TestCase):
 
 class Printed(unittest.TestCase):
     def test_lines(self) -> None:
-        wanted = [
-            "a.c: lines 3 of 4, 75.0 %; branches 3 of 8, 37.5 %",
-            "    not run: 9",
-            "    not both ways: 5",
-        ]
+        wanted = ["a.c: lines 3 of 4, 75.0 %; branches 3 of 8, 37.5 %", "    not run: 9", "    not both ways: 5"]
         self.assertEqual(list(coverage.source_lines("a.c", source())), wanted)
         self.assertEqual(list(coverage.source_lines("b.c", SourceFile())), ["b.c: lines 0 of 0; branches 0 of 0"])
 

@@ -16,9 +16,7 @@ from tests.helpers import InFolder, called
 TOP = Path(__file__).resolve().parents[2]
 FILES = {
     "": {".gitignore", "Makefile", "README.md", "votes.c", "votes.explore", "votes.list"},
-    "--rust": {
-        ".cargo/config.toml", ".gitignore", "Cargo.toml", "Makefile", "README.md", "src/main.rs", "votes.explore", "votes.list",
-    },
+    "--rust": {".cargo/config.toml", ".gitignore", "Cargo.toml", "Makefile", "README.md", "src/main.rs", "votes.explore", "votes.list"},
 }
 PROGRAMS = ("make", "clang", "ld.lld", "llvm-addr2line", "llvm-strip", "cargo", "rustc")
 MAKE = "#!/bin/sh\nfor made; do case $made in *.elf) echo built >$made ;; esac; done\n"

@@ -49,10 +49,7 @@ class Reading(InFolder):
     def test_parts(self) -> None:
         calls = f"{BEGIN}expect returned\ncall a 9\ncall a 9\nexpect gas at most 7\nexpect out-of-gas\n"
         test = self.read(f"{calls}storage\nexpect key:1 00\n")
-        self.assertEqual(test.calls, [
-            CallPart(0, {3: EndsBy(End.RETURNED)}),
-            CallPart(2, {6: CostsAtMost(7), 7: EndsBy(End.OUT_OF_GAS)}),
-        ])
+        self.assertEqual(test.calls, [CallPart(0, {3: EndsBy(End.RETURNED)}), CallPart(2, {6: CostsAtMost(7), 7: EndsBy(End.OUT_OF_GAS)})])
         self.assertEqual(test.storage, StoragePart({9: Holds(numbered_key(1), b"\0")}))
         self.assertEqual(test.count(), 4)
 
@@ -86,10 +83,7 @@ class Running(InFolderWithProgram):
         program = FakeProgram(Printed(result()), {2: Printed(result())})
         content = f"{BEGIN}expect returned u8:7\nexpect same by 2 workers\nstorage\nexpect no other key\nexpect key:1 u8:1\n"
         said = self.tried(content, program)
-        self.assertEqual(said, [
-            "passed  a.list: 1 call, expectations: 4",
-            "1 test: 1 passed, 0 failed; 1 call, 4 expectations, 0 not met",
-        ])
+        self.assertEqual(said, ["passed  a.list: 1 call, expectations: 4", "1 test: 1 passed, 0 failed; 1 call, 4 expectations, 0 not met"])
         self.assertEqual(program.blocks, ["rvblock 1\nprogram 0 a.elf\ncall 0 9 -\n"])
 
     def test_failed(self) -> None:

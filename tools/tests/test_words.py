@@ -23,12 +23,7 @@ class WordsOfALine(unittest.TestCase):
                 self.assertEqual(words.words_of(line), wanted)
 
     def test_unpaired_quotes(self) -> None:
-        for line, message in {
-            'store "a': '"a',
-            'store a"b 00': 'a"b',
-            '"a"b': '"a"b',
-            'u8:1"a"': 'u8:1"a"',
-        }.items():
+        for line, message in {'store "a': '"a', 'store a"b 00': 'a"b', '"a"b': '"a"b', 'u8:1"a"': 'u8:1"a"'}.items():
             with self.subTest(line), self.assertRaises(UserError) as caught:
                 words.words_of(line)
             self.assertEqual(str(caught.exception), f"{message}: a text has a quote at each end, and a blank before and after it")

@@ -148,8 +148,7 @@ def counting_requests(file: bytes) -> Iterator[Request]:
     zeros, get = Request(Asks.GET, (key_field(numbered_key(0)),)), Request(Asks.GET, (key_field(numbered_key(30)),))
 
     def frame(
-        calls: Sequence[CallLine], store: Storage | None = None, head: str = texts.HEADS[0], word: Asks = Asks.FRAME,
-        program: str = name,
+        calls: Sequence[CallLine], store: Storage | None = None, head: str = texts.HEADS[0], word: Asks = Asks.FRAME, program: str = name,
     ) -> Request:
         return Request(word, (), texts.block_text([program], store, calls, head).encode())
 

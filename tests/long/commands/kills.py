@@ -89,9 +89,7 @@ class Moment:
 class KilledFile:
     """A file whose sessions are killed, and a session without a file that gets what they answered."""
 
-    def __init__(
-        self, rvstm: Path, choice: Random, folder: Path, programs: Sequence[str], place: Path, counts: Counter[str]
-    ) -> None:
+    def __init__(self, rvstm: Path, choice: Random, folder: Path, programs: Sequence[str], place: Path, counts: Counter[str]) -> None:
         self.rvstm, self.choice, self.place, self.counts = rvstm, choice, place, counts
         self.made = sessions.RandomSession(choice, blocks.blocks_of(choice, programs), blocks.KEYS, folder)
         self.made.keeps_digest = True

@@ -80,8 +80,7 @@ class Bench:
         (self.place / "input").write_bytes(trial.input)
         launch = [sys.executable, "-S", "-c", LAUNCHER, str(stack), str(MANY_SECONDS), "usage", str(self.rvstm), *trial.words]
         with (
-            open(self.place / "input", "rb") as given,
-            open(self.place / "output", "wb") as out,
+            open(self.place / "input", "rb") as given, open(self.place / "output", "wb") as out,
             open(self.place / "errors", "wb") as errors,
         ):
             subprocess.run(launch, cwd=self.place, stdin=given, stdout=out, stderr=errors, check=True)

@@ -127,9 +127,7 @@ class Trial:
         self.bad += came != wanted
         print(f"{what}: {came}" + ("" if came == wanted else f"; BAD, and not {wanted}"), flush=True)
 
-    def refuses(
-        self, what: str, name: str, path: Path | None = None, settings: Settings = PLAIN, user: int | None = None
-    ) -> None:
+    def refuses(self, what: str, name: str, path: Path | None = None, settings: Settings = PLAIN, user: int | None = None) -> None:
         """A file is refused by a name, and nothing is changed or left behind."""
         path = path or self.path
         before = folder_of(path) if path.parent == self.folder else None

@@ -236,8 +236,6 @@ def input_of(choice: Random, asked: Sequence[Request]) -> bytes:
     return whole + choice.choice((b"", b"", b"q\n", b"q\nwhat", b"q\n" + parts[0]))
 
 
-def session_of(
-    choice: Random, blocks: Iterator[bytes], keys: Sequence[Key], folder: Path, workers: int | None = None
-) -> Asked:
+def session_of(choice: Random, blocks: Iterator[bytes], keys: Sequence[Key], folder: Path, workers: int | None = None) -> Asked:
     made = RandomSession(choice, blocks, keys, folder).fill()
     return Asked(made.requests, settings_of(choice, made.requests, made.keeps_digest, workers))

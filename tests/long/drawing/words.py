@@ -143,11 +143,7 @@ def program_of(choice: Random, words: Words) -> RandomProgram:
     text = code.text_of([words.word(place * 4 % PAGE) for place in range(count)])
     first = code.text_of(launcher()).ljust(PAGE, b"\0")
     rights = code.EXECUTE | choice.choice((0, code.READ, code.READ, code.READ))
-    segments = [
-        Part(LAUNCHER, first, code.EXECUTE),
-        Part(CODE, text, rights),
-        Part(DATA, choice.randbytes(PAGE), code.READ | code.WRITE),
-    ]
+    segments = [Part(LAUNCHER, first, code.EXECUTE), Part(CODE, text, rights), Part(DATA, choice.randbytes(PAGE), code.READ | code.WRITE)]
     return RandomProgram(code.elf_of(*segments), count)
 
 

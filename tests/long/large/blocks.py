@@ -28,9 +28,7 @@ READS = Program(
     + ["bne s1,zero,again", "addi a2,zero,4", "addi a7,zero,1", "ecall", *NOTHING]
 )
 # Reads a key until its gas is over; nearly all of that goes into the reads.
-READS_ON = Program(
-    ["addi s0,a0,0", "addi a1,sp,-64", "addi a2,zero,64", "again:", *["ecall", "addi a0,s0,0"] * 500, "beq zero,zero,again"]
-)
+READS_ON = Program(["addi s0,a0,0", "addi a1,sp,-64", "addi a2,zero,64", "again:", *["ecall", "addi a0,s0,0"] * 500, "beq zero,zero,again"])
 # Stores a word to each page from an address on, as many as the next word says.
 PAGES = Program(
     ["lw t0,0(a0)", "lw t1,4(a0)", "li t2,4096", "next:", "sw t0,0(t0)", "add t0,t0,t2", "addi t1,t1,-1", "bne t1,zero,next", *NOTHING]

@@ -95,9 +95,7 @@ def frame_refused(name: str) -> Trial:
 # ---- sessions
 
 
-def session(
-    words: list[str], asked: Iterable[Request], wanted: Iterable[Answer], after: bytes = b"", errors: bytes = b""
-) -> Trial:
+def session(words: list[str], asked: Iterable[Request], wanted: Iterable[Answer], after: bytes = b"", errors: bytes = b"") -> Trial:
     text = requests.text_of(asked) + after
     return Trial(["chain", *words], b"".join(answer.text() for answer in wanted), errors, int(bool(errors)), text)
 

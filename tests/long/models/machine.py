@@ -249,9 +249,7 @@ def field_of(change: Change) -> str:
 
 
 class Block:
-    def __init__(
-        self, programs: Sequence[Program], calls: Iterable[CallLine], store: Storage | None = None, rules: int = 1
-    ) -> None:
+    def __init__(self, programs: Sequence[Program], calls: Iterable[CallLine], store: Storage | None = None, rules: int = 1) -> None:
         self.programs, self.calls, self.store, self.rules = programs, list(calls), store or {}, rules
         self.receipts: list[Receipt] | None = None
         self.keys: list[list[Key]] = []  # of each call the keys that it read

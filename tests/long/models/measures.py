@@ -44,9 +44,7 @@ SMALLER = (
     Smaller(
         "no run for who ends an execution, and for one who waits", lambda parts: parts._replace(runs_woken=max(parts.runs_woken - 2, 0))
     ),
-    Smaller(
-        "no run for who ends an execution, and so does not wait", lambda parts: parts._replace(runs_woken=parts.runs_woken - 1), False
-    ),
+    Smaller("no run for who ends an execution, and so does not wait", lambda parts: parts._replace(runs_woken=parts.runs_woken - 1), False),
 )
 
 

@@ -185,9 +185,7 @@ def embedded(library: Path, settings: Settings) -> Embedded:
     assert spec is not None and spec.loader is not None
     module = importlib.util.module_from_spec(spec)
     spec.loader.exec_module(module)
-    session: Embedded = module.Session(
-        str(library), frame_limit=settings.frame_limit, digest=settings.digest, brief=settings.brief
-    )
+    session: Embedded = module.Session(str(library), frame_limit=settings.frame_limit, digest=settings.digest, brief=settings.brief)
     return session
 
 

@@ -95,14 +95,9 @@ def drawn(choice: random.Random) -> Shape:
             units |= {name: whole * spread(choice) for name in names if choice.random() < 0.7}
     return fitted(
         Shape(
-            pages=choice.choice((1, 1, 2, 4, 8, 16, MOST_PAGES)),
-            copies=choice.choice((1, 1, 2, 4, 7)),
-            data_pages=choice.choice((1, UPPER_PAGES, 64, 128)),
-            run=1 << choice.randrange(11),
-            reach=choice.choice(REACHES),
-            zero=choice.choice((0.0, 0.05, 0.5)),
-            leaps={name: spread(choice) * (choice.random() < 0.5) for name in LEAPS},
-            units=units,
+            pages=choice.choice((1, 1, 2, 4, 8, 16, MOST_PAGES)), copies=choice.choice((1, 1, 2, 4, 7)),
+            data_pages=choice.choice((1, UPPER_PAGES, 64, 128)), run=1 << choice.randrange(11), reach=choice.choice(REACHES),
+            zero=choice.choice((0.0, 0.05, 0.5)), leaps={name: spread(choice) * (choice.random() < 0.5) for name in LEAPS}, units=units,
         )
     )
 

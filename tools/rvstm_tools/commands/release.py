@@ -67,10 +67,7 @@ class Release:
     def notes(self, package: str) -> Entries:
         """What each package says of itself: the commit, what is proved, and that no licence is chosen."""
         folder, product = f"share/doc/{package}", parts.PROVED.get(package)
-        found: Entries = {
-            f"{folder}/copyright": File(parts.NO_LICENCE.encode()),
-            f"{folder}/commit": File(f"{self.commit}\n".encode()),
-        }
+        found: Entries = {f"{folder}/copyright": File(parts.NO_LICENCE.encode()), f"{folder}/commit": File(f"{self.commit}\n".encode())}
         if product:
             found[f"{folder}/proved"] = File(f"Proved is {self.products.proof_of(product)}.\n".encode())
         return found

@@ -89,8 +89,7 @@ def percent(word: str) -> float:
 def run(given: argparse.Namespace) -> int:
     """Runs the tests. All lists and the table are read before the first one is run."""
     options = Options(
-        given.files, given.only, given.variant, given.update, given.json, given.junit, given.gas, given.within, given.write,
-        given.jobs,
+        given.files, given.only, given.variant, given.update, given.json, given.junit, given.gas, given.within, given.write, given.jobs,
     )
     try:
         if options.gas is None and (options.is_write or options.within):

@@ -4,9 +4,7 @@ import enum
 from collections.abc import Callable, Sequence
 from typing import NamedTuple
 
-from rvstm_tools.debugging.moments import (
-    Call, Changes, Hits, InterruptedMove, Search, Stop, Watched, is_watchable,
-)
+from rvstm_tools.debugging.moments import Call, Changes, Hits, InterruptedMove, Search, Stop, Watched, is_watchable
 from rvstm_tools.debugging.packets import Wire
 from rvstm_tools.texts.results import End
 

@@ -235,6 +235,4 @@ class Run:
     def _changes(self) -> list[str]:
         """The lines `let` that the last call changed, and what they were."""
         lets: Mapping[str, Rule] = self.description.lets
-        return [
-            line for name in lets for line in storages.change_lines(name, getattr(self.before, name), self.names[name])
-        ]
+        return [line for name in lets for line in storages.change_lines(name, getattr(self.before, name), self.names[name])]

@@ -26,9 +26,7 @@ class Pipes:
         """Starts the process in a folder. `is_as_here` says that it ignores the signals that Python ignores: SIGPIPE and SIGXFSZ.
         Otherwise Python resets them before the process begins."""
         pipe = subprocess.PIPE
-        self.process = subprocess.Popen(
-            words, cwd=folder, stdin=pipe, stdout=pipe, stderr=pipe, restore_signals=not is_as_here
-        )
+        self.process = subprocess.Popen(words, cwd=folder, stdin=pipe, stdout=pipe, stderr=pipe, restore_signals=not is_as_here)
 
     def __enter__(self) -> Self:
         return self

@@ -66,10 +66,7 @@ class Run:
         return self._misses_of(part, part.expectations, self.result.receipts[part.call])
 
     def _misses_of(
-        self,
-        part: CallPart | StoragePart,
-        expectations: Mapping[int, Expectation[Subject]],
-        subject: Subject,
+        self, part: CallPart | StoragePart, expectations: Mapping[int, Expectation[Subject]], subject: Subject,
     ) -> Iterator[Miss]:
         scene = Scene(part.keys(), self.test.view, self.difference)
         for line, expectation in expectations.items():

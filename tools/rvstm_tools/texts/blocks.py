@@ -81,9 +81,7 @@ def store_lines(storage: Storage) -> list[str]:
     return [f"store {key.hex()} {field_of(value)}\n" for key, value in sorted(storage.items())]
 
 
-def text(
-    paths: Iterable[str], storage: Storage | None = None, calls: Iterable[CallLine] = (), rules: Rules = Rules.ONE
-) -> str:
+def text(paths: Iterable[str], storage: Storage | None = None, calls: Iterable[CallLine] = (), rules: Rules = Rules.ONE) -> str:
     lines = [f"program {number} {path}\n" for number, path in enumerate(paths)]
     lines += store_lines(storage or {})
     lines += [f"call {call.program} {call.gas} {field_of(call.data)}\n" for call in calls]

@@ -148,11 +148,7 @@ class SameByWorkers:
 
 def difference_of_others(what: str, changes: Mapping[Key, Change], scene: Scene) -> Difference | None:
     """What is reported of the keys that no line of the part names."""
-    others = [
-        f"{scene.view.key(key)}: {scene.view.short_change(key, change)}"
-        for key, change in changes.items()
-        if key not in scene.keys
-    ]
+    others = [f"{scene.view.key(key)}: {scene.view.short_change(key, change)}" for key, change in changes.items() if key not in scene.keys]
     return Difference(f"no other {what}", NEXT_LINE.join(others)) if others else None
 
 

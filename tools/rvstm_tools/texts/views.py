@@ -153,9 +153,7 @@ class View:
         parts = shape.parts(data)
         if isinstance(parts, Misfit):
             return parts
-        named: dict[str, FieldValue | list[FieldValue]] = {
-            part.field.name: value_of(part) for part in parts if part.field in shape.fields
-        }
+        named: dict[str, FieldValue | list[FieldValue]] = {part.field.name: value_of(part) for part in parts if part.field in shape.fields}
         for field in shape.repeated:
             named[field.name] = [value_of(part) for part in parts if part.field is field]
         return {name: value for name, value in named.items() if name}
