@@ -21,6 +21,7 @@ import status
 from engines import Engine
 from etcd import Object, Pair, is_absent, keys, put, read
 from ledger import DIGESTS, DUMPS, GENESIS, NODES, NO_DIGEST, PROGRAMS, Mark
+from rvstm_tools import endings
 from rvstm_tools.sessions import answers
 from rvstm_tools.sessions.answers import Answer, Refusal, State
 from rvstm_tools.sessions.processes import Settings
@@ -412,7 +413,7 @@ def address(text: str) -> tuple[str, int]:
 
 
 def options(doc: str) -> argparse.Namespace:
-    parser = argparse.ArgumentParser(usage=doc.split("\n\n")[1].removeprefix("usage: "))
+    parser = endings.parser_of(doc)
     parser.add_argument("--etcd", required=True)
     parser.add_argument("--name", required=True)
     parser.add_argument("--folder", required=True)

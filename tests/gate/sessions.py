@@ -2,7 +2,6 @@
 kills, damaged files, and what is on the disk before an answer."""
 
 import hashlib
-import os
 import random
 import re
 import sqlite3
@@ -11,7 +10,7 @@ from collections.abc import Iterator
 from pathlib import Path
 
 from gate.calls import Word, command, tool_words
-from gate.cases import TOP, Case, Differs, Lacks, Run, holds, same, shown
+from gate.cases import TOP, Case, Lacks, Run, holds, same, shown
 from gate.clients import NO_DIGEST, Session, asks, done, frame_of, name_of, refused
 from gate.machine import Tool
 from gate.outside import FOLDER, last_lines

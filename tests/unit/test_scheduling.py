@@ -11,7 +11,7 @@ from pathlib import Path
 from unittest import mock
 
 from gate import main, scheduling
-from gate.cases import Case, Differs, Lacks, Run, Setting, same
+from gate.cases import Case, Lacks, Run, Setting, same
 from gate.machine import Tool
 
 SETTING = Setting(Path("/bin/true"), None, False, 1)

@@ -1,5 +1,6 @@
-"""How scripts beside this package end, which have no parser of their own."""
+"""How scripts beside this package begin and end, whose text is their help."""
 
+import argparse
 import os
 import subprocess
 import sys
@@ -13,15 +14,22 @@ MISTAKES = (ValueError, LookupError, subprocess.SubprocessError)
 """What such scripts raise for a mistake of their user, beside `UserError` and `OSError`."""
 
 
-def run(main: Callable[[], int | None]) -> NoReturn:
-    """Ends the script with the status of main, or with one line if the user made a mistake."""
-    sys.exit(errors.ended(os.path.basename(sys.argv[0]), lambda: main() or 0, MISTAKES))
+def parser_of(text: str) -> argparse.ArgumentParser:
+    """A parser whose usage is the second part of the text of a script."""
+    return argparse.ArgumentParser(usage=text.split("\n\n")[1].removeprefix("usage: "))
 
 
-def tell_usage(text: str) -> int:
-    """Prints the whole text of the script if it was asked for help, and otherwise how it is called. Returns the status."""
-    if sys.argv[1:] in (["--help"], ["-h"]):
-        print(text.rstrip())
-        return Status.DONE
-    print(text.split("\n\n", 1)[1].rstrip(), file=sys.stderr)
-    return Status.MISUSED
+def run(main: Callable[[], int | None], text: str) -> NoReturn:
+    """Ends the script with the status of main, or with one line if the user made a mistake. Without words it prints how the script is
+    called, and its whole text if it was asked for help."""
+
+    def status() -> int:
+        if sys.argv[1:] in (["--help"], ["-h"]):
+            print(text.rstrip())
+            return Status.DONE
+        if not sys.argv[1:]:
+            print(text.split("\n\n", 1)[1].rstrip(), file=sys.stderr)
+            return Status.MISUSED
+        return main() or Status.DONE
+
+    sys.exit(errors.ended(os.path.basename(sys.argv[0]), status, MISTAKES))

@@ -12,7 +12,7 @@ from rvstm_tools.models.sessions import HIGHEST
 from rvstm_tools.sessions import answers, frames, requests
 from rvstm_tools.sessions.answers import Answer, Done
 from rvstm_tools.sessions.requests import Fault, Request, Word, key_field
-from rvstm_tools.texts.blocks import CallLine, field_of
+from rvstm_tools.texts.blocks import field_of
 from rvstm_tools.texts.keys import numbered_key as key
 
 USUAL_STACK = 8192  # KiB, as a shell has it

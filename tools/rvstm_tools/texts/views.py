@@ -8,7 +8,7 @@ from rvstm_tools.errors import UserError
 from rvstm_tools.texts import blocks, differences, keys, rows, shapes, shown, words
 from rvstm_tools.texts.differences import Difference
 from rvstm_tools.texts.keys import Key
-from rvstm_tools.texts.results import Added, Change, Written
+from rvstm_tools.texts.results import Change, Written
 from rvstm_tools.texts.rows import Row
 from rvstm_tools.texts.shapes import Field, Kind, Misfit, Part, Shape
 
