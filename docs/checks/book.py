@@ -83,11 +83,8 @@ def contract_of(asked: Asked) -> str:
 
 def entries_of(row: Row) -> list[Entry]:
     """The definitions of a file that a book has, in the order of the file."""
-    lines, held = sources.lines_of(row.file), definitions.definitions(row.file).by_name
-    return [
-        Entry(Cited(Place.DEFINITION, row.file, name), "\n".join(lines[held[name].start : held[name].start + held[name].count]))
-        for name in row.cited
-    ]
+    lines, held = sources.lines_of(row.file), definitions.places(row.file)
+    return [Entry(Cited(Place.DEFINITION, row.file, name), "\n".join(lines[at] for at in held[name])) for name in row.cited]
 
 
 def seen_of(held: Type) -> Iterator[tuple[str, str]]:

@@ -13,7 +13,7 @@ from checks.definitions import Type
 from checks.reading import Asked, Row
 
 TOKEN = re.compile(r"[^\s(){}\[\];,λ]+")
-RUST_WORD = re.compile(r"\b[A-Z]\w*\b")
+RUST_WORD = re.compile(r"\b([A-Z]\w*)\b")
 FIELD = re.compile(r"[{;]\s*$")
 STYLE = """
 :root { --text: #1c2024; --quiet: #60646c; --line: #dcdfe3; --code: #f6f7f9; --link: #0b5cad; --kit: #7a4a00; --type: #0f6e56; }
@@ -121,12 +121,7 @@ class Page:
         return "\n".join(out)
 
     def linked_types(self, line: str, types: Mapping[str, Cited]) -> str:
-        out, end = "", 0
-        for match in RUST_WORD.finditer(line):
-            out += escape(line[end : match.start()])
-            out += self.link(types[match[0]], match[0]) if match[0] in types else escape(match[0])
-            end = match.end()
-        return out + escape(line[end:])
+        return "".join(self.link(types[part], part) if part in types else escape(part) for part in RUST_WORD.split(line))
 
     # ---- parts
 

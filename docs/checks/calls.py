@@ -74,6 +74,20 @@ def clauses_of(head: str) -> Iterator[Clause]:
         yield Clause(match[1], match[2] or "", head[match.end() : end - 1])
 
 
+def split_types(text: str) -> list[str]:
+    """The parts of a list at its outermost commas, up to a bracket that was not opened."""
+    depth, parts = 0, [""]
+    for before, sign in zip(" " + text, text, strict=False):
+        depth += (sign in "<([{") - (sign in ")]}" or (sign == ">" and before != "-"))
+        if depth < 0:
+            break
+        if sign == "," and depth == 0:
+            parts.append("")
+        else:
+            parts[-1] += sign
+    return [part.strip() for part in parts if part.strip()]
+
+
 def calls_in(path: Path) -> Iterator[Call]:
     """Each call and type of a file that is public in its module. A name may come more than once: then its heads belong together."""
     crate, owner, of_trait = sources.crate_of(path), "", False

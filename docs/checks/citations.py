@@ -8,13 +8,15 @@ if its fields are private, what `ghost Value` says. A trait is cited if a clause
 import enum
 import functools
 import re
-from collections.abc import Iterable, Iterator, Mapping, Sequence
+from collections.abc import Callable, Iterable, Iterator, Mapping, Sequence
 from dataclasses import dataclass
 from pathlib import Path
+from typing import TypeVar
 
 from checks import sources
-from checks.calls import Call
-from checks.definitions import GHOST_FIELD, Kind, Type, definitions, types
+from checks.calls import Call, split_types
+from checks.definitions import GHOST_FIELD, Kind, Type, types
+from checks.items import items
 
 WORD = re.compile(r"(?:^|(?<=[\s(){}\[\];,λ]))[^\s(){}\[\];,.λ]+", re.M)
 FIELD_NAME = re.compile(r"(?<=[{;])\s*\w+ = |^ +(?:pub )?[^\s({]+ : ", re.M)
@@ -43,6 +45,7 @@ class Cited:
         return types(self.place)[self.name]
 
 
+Item = TypeVar("Item")
 Names = Mapping[str, frozenset[Cited]]  # what each name in a text refers to
 
 
@@ -57,7 +60,7 @@ def target(taken: sources.Taken) -> Cited | None:
     file = f"{parts[1]}/specs/{parts[3]}.antt" if parts[2] == "specs" else ""
     if not (sources.CRATES / file).is_file():
         return None
-    owner = definitions(file).owner.get(taken.name)
+    owner = items(file).owner.get(taken.name)
     return Cited(Place.DEFINITION, file, owner) if owner else None
 
 
@@ -118,7 +121,7 @@ def cited_by_type(cited: Cited) -> set[Cited]:
 
 
 def own_names(cited: Cited) -> dict[str, Cited]:
-    held = definitions(cited.place)
+    held = items(cited.place)
     words = words_of(held.by_name[cited.name].code)
     return {name: Cited(Place.DEFINITION, cited.place, owner) for name, owner in held.owner.items() if owner != cited.name and is_in(name, words)}
 
@@ -126,37 +129,23 @@ def own_names(cited: Cited) -> dict[str, Cited]:
 @functools.cache
 def citations(cited: Cited) -> frozenset[Cited]:
     if cited.kind is Place.DEFINITION:
-        code = definitions(cited.place).by_name[cited.name].code
+        code = items(cited.place).by_name[cited.name].code
         return frozenset({*own_names(cited).values(), *cited_by_text(sources.CRATES / cited.place, code)})
     return frozenset(cited_by_type(cited)) if cited.kind is Place.TYPE else frozenset()
 
 
-def closure(begin: Iterable[Cited]) -> set[Cited]:
-    """Some citations, and all that they cite in turn."""
+def closure(begin: Iterable[Item], used_by: Callable[[Item], Iterable[Item]]) -> set[Item]:
+    """Some items, and all that they use in turn."""
     found = set(begin)
     left = list(found)
     while left:
-        for cited in citations(left.pop()) - found:
-            found.add(cited)
-            left.append(cited)
+        new = set(used_by(left.pop())) - found
+        found |= new
+        left += new
     return found
 
 
 # ---- contracts
-
-
-def split_types(text: str) -> list[str]:
-    """The parts of a text between its commas, except those in brackets, up to a bracket that was not opened."""
-    parts, depth = [""], 0
-    for letter in text.replace("->", ""):
-        depth += (letter in "<([") - (letter in ">)]")
-        if depth < 0:
-            break
-        if letter == "," and not depth:
-            parts.append("")
-        else:
-            parts[-1] += letter
-    return [part.strip() for part in parts]
 
 
 def arguments_of(text: str) -> Iterator[tuple[str, str]]:

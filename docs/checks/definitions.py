@@ -7,29 +7,11 @@ from collections.abc import Iterator, Sequence
 from dataclasses import dataclass
 from pathlib import Path
 
-from checks import calls, sources
+from checks import calls, items, sources
 
-DEFINITION = re.compile(r"^(?:(?:abbrev|unfoldable|pub|data|record) )+(\S+)|^(?!use )(\S+) : ")
-MEMBER = re.compile(r"^ +(?:pub )?(\S+) :", re.M)
 TYPE = re.compile(r"^(?:pub(?:\(\w+\))? )?(struct|enum|trait|type) (\w+)")
 GHOST = re.compile(r"^ *ghost (Value|view|invariant) = \{(.*)\};$", re.M)
 GHOST_FIELD = re.compile(r"^ *(?:pub )?ghost \w+: \{(.*?)\}(?: by \{.*\})?,$", re.M)
-
-
-@dataclass(frozen=True)
-class Definition:
-    """A definition of a file, with the comment and the `infix` lines above it."""
-
-    name: str
-    start: int  # its first line, from 0
-    count: int  # how many lines it has
-    code: str  # its text without comments
-
-
-@dataclass(frozen=True)
-class Definitions:
-    by_name: dict[str, Definition]
-    owner: dict[str, str]  # the definition of each name that a definition gives, such as a constructor of its data
 
 
 class Kind(enum.Enum):
@@ -73,19 +55,15 @@ class Type:
 
 
 @functools.cache
-def definitions(file: str) -> Definitions:
-    lines = sources.lines_of(file)
-    heads = [(number, str(match[1] or match[2])) for number, line in enumerate(lines) if (match := DEFINITION.match(line))]
-    starts = [start_of(lines, number) for number, _ in heads]
-    found = Definitions({}, {})
-    for (head, name), start, end in zip(heads, starts, starts[1:] + [len(lines)], strict=True):
+def places(file: str) -> dict[str, range]:
+    """The lines of each definition of a file, from 0, with the comment and the `infix` lines above it."""
+    lines, held = sources.lines_of(file), items.items(file).by_name
+    starts = [start_of(lines, item.line - 1) for item in held.values()]
+    found = dict[str, range]()
+    for name, start, end in zip(held, starts, starts[1:] + [len(lines)], strict=True):
         while not lines[end - 1].strip() or lines[end - 1].startswith("--"):
             end -= 1
-        code = sources.without_comments("\n".join(lines[head:end]))
-        found.by_name[name] = Definition(name, start, end - start, code)
-        found.owner[name] = name
-        if re.match(r"(?:pub )?data ", lines[head]):
-            found.owner.update((member, name) for member in MEMBER.findall(code))
+        found[name] = range(start, end)
     return found
 
 

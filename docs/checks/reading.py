@@ -13,7 +13,7 @@ from pathlib import Path
 from checks import calls, sources
 from checks.calls import Call
 from checks.citations import Cited, Place, citations, cited_by_call, closure
-from checks.definitions import Type, definitions
+from checks.definitions import Type, places
 from rvstm_tools.errors import MisuseError
 
 AFTER = "after"  # the word after which calls are named whose lists were read before
@@ -69,7 +69,7 @@ def asked_for(words: Sequence[str]) -> list[Asked]:
 
 
 def cited_by(asked: Iterable[Asked]) -> set[Cited]:
-    return closure(cited for entry in asked for cited in cited_by_call(entry.call, entry.clauses))
+    return closure((cited for entry in asked for cited in cited_by_call(entry.call, entry.clauses)), citations)
 
 
 @dataclass(frozen=True)
@@ -145,14 +145,13 @@ def in_order(found: Iterable[Cited]) -> list[str]:
 def lines_left_out(file: str, names: Iterable[str]) -> int:
     """How many lines some definitions of a file have, each with the empty line after it."""
     lines, left_out = sources.lines_of(file), set[int]()
-    for held in [definitions(file).by_name[name] for name in names]:
-        end = held.start + held.count
-        left_out |= {*range(held.start, end), end if end < len(lines) and not lines[end] else held.start}
+    for held in [places(file)[name] for name in names]:
+        left_out |= {*held, held.stop if held.stop < len(lines) and not lines[held.stop] else held.start}
     return len(left_out)
 
 
 def row_of(file: str, found: set[Cited]) -> Row:
-    names = list(definitions(file).by_name)
+    names = list(places(file))
     cited = tuple(name for name in names if Cited(Place.DEFINITION, file, name) in found)
     rest = tuple(name for name in names if name not in cited)
     lines = len(sources.lines_of(file))

@@ -8,24 +8,11 @@ import re
 from collections.abc import Iterator
 
 from checks import sources
-from checks.calls import Call, call_of
+from checks.calls import Call, call_of, split_types
 
 LIST = sources.TOP / "docs/rule_calls.txt"
 NAMED = re.compile(r"^\w+::[\w:]+")
 HEAD = re.compile(r"\bfn \w+(?:<.*?>)?\((?P<arguments>.*?),?\)(?: -> (?P<result>.*))?$")
-
-
-def split_types(text: str) -> list[str]:
-    """The parts of a list at its outermost commas."""
-    depth, parts = 0, [""]
-    for before, sign in zip(" " + text, text, strict=False):
-        depth += sign in "<([{"
-        depth -= sign in ")]}" or (sign == ">" and before != "-")
-        if sign == "," and depth == 0:
-            parts.append("")
-        else:
-            parts[-1] += sign
-    return [part.strip() for part in parts if part.strip()]
 
 
 def type_of(argument: str) -> str:

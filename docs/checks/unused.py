@@ -9,7 +9,7 @@ import enum
 import functools
 import re
 from collections import Counter
-from collections.abc import Iterable, Iterator, Sequence
+from collections.abc import Iterator, Sequence
 from dataclasses import dataclass
 from pathlib import Path
 
@@ -83,17 +83,6 @@ def used_by(place: Place) -> set[Place]:
     return own | used_by_text(sources.CRATES / place.file, code)
 
 
-def reached(begin: Iterable[Place]) -> set[Place]:
-    """Some definitions, and all that they use in turn."""
-    found = set(begin)
-    left = list(found)
-    while left:
-        new = used_by(left.pop()) - found
-        found |= new
-        left += new
-    return found
-
-
 def code_files() -> Iterator[Path]:
     yield from (path for crate in sources.crate_names() for path in sources.files_of(crate) if path.suffix == ".rt")
 
@@ -107,7 +96,7 @@ def places(crate: str, folder: str) -> Iterator[Place]:
 @functools.cache
 def by_contracts() -> frozenset[Place]:
     """What the contracts reach."""
-    return frozenset(reached({place for path in code_files() for place in used_by_text(path, sources.code_of(path))}))
+    return frozenset(citations.closure((place for path in code_files() for place in used_by_text(path, sources.code_of(path))), used_by))
 
 
 @functools.cache
@@ -120,7 +109,8 @@ def by_proofs() -> frozenset[Place]:
             place = place_of(sources.Taken(f"Rattle.{own}.proofs.{module.replace('::', '.')}", name))
             found |= {place} if place else set()
     answers = (place for crate in sources.crate_names() for place in places(crate, "proofs"))
-    return frozenset(reached(found | {place for place in answers if items.items(place.file).by_name[place.name].is_answer}))
+    found |= {place for place in answers if items.items(place.file).by_name[place.name].is_answer}
+    return frozenset(citations.closure(found, used_by))
 
 
 def unused_places(crate: str) -> Iterator[Unused]:
