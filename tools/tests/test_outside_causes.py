@@ -1,15 +1,12 @@
-#!/usr/bin/env python3
-"""Tests `tools/developers/outside-causes` on small sources: each wrong place is found, and each right form passes.
+"""Tests `tools/developers/outside-causes` on small sources: each wrong place is found, and each right form passes."""
 
-usage: tools/developers/test_outside_causes.py
-"""
-
+import contextlib
+import io
 import pathlib
-import subprocess
 import tempfile
 import unittest
 
-CHECK = pathlib.Path(__file__).resolve().parent / "outside-causes"
+from rvstm_developers import commandline
 
 # What each names, and a source in which one place is wrong.
 WRONG = {
@@ -67,9 +64,11 @@ def wrong_places(text: str) -> int:
         source = pathlib.Path(folder) / "crate/src/lib.rt"
         source.parent.mkdir(parents=True)
         source.write_text(text, encoding="utf-8")
-        came = subprocess.run([CHECK, folder], capture_output=True, encoding="utf-8", check=False)
-        count = int(came.stdout.split()[-2])
-        assert came.returncode == (count > 0), came
+        said = io.StringIO()
+        with contextlib.redirect_stdout(said):
+            status = commandline.run("outside-causes", [folder])
+        count = int(said.getvalue().split()[-2])
+        assert status == (count > 0), said.getvalue()
         return count
 
 
