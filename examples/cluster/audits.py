@@ -11,7 +11,6 @@ PAIRS_A_READ = 500
 
 
 def all_below(client: Etcd, prefix: str, **options: object) -> Iterator[Pair]:
-    """All pairs below a prefix, in pieces."""
     first = prefix
     while True:
         _, pairs = client.range(etcd.keys(first, etcd.after(prefix), limit=PAIRS_A_READ, **options))

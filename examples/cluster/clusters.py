@@ -39,7 +39,6 @@ def say(text: str) -> None:
 
 
 def free_ports(count: int) -> list[int]:
-    """Ports that are free now."""
     lines = [socket.create_server(("127.0.0.1", 0)) for _ in range(count)]
     ports = [line.getsockname()[1] for line in lines]
     for line in lines:

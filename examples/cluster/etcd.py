@@ -200,7 +200,6 @@ class Etcd:
         return int(reply["header"]["revision"]), pairs_of(reply)
 
     def get(self, key: str) -> Pair | None:
-        """The pair of a key, or None."""
         return next(iter(self.range(keys(key))[1]), None)
 
     def need(self, key: str) -> Pair:

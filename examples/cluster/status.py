@@ -85,7 +85,6 @@ class Status:
         self.node, self.client, self.lock = node, etcd.Etcd(node.urls, SECONDS_FOR_ETCD), threading.Lock()
 
     def answer(self, path: str) -> Page:
-        """The answer for a path."""
         word, _, rest = path.removeprefix("/").partition("/")
         if word in ("state", "get"):
             return self.read(word, rest)

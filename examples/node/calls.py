@@ -60,7 +60,6 @@ def message(program: str, number: int, gas: int, data: bytes) -> bytes:
 
 
 def call_of(body: bytes) -> SignedCall:
-    """The call that the body of a request has."""
     try:
         given = json.loads(body)
         values = [given[name] for name in FIELDS]

@@ -69,7 +69,6 @@ class Node:
         self.shown: deque[pages.Shown] = deque(maxlen=SHOWN_BLOCKS)
 
     def number_at(self, table: str, account: bytes) -> int | None:
-        """The number that a row of an account has."""
         answer = self.session.ask(Request(Word.GET, (Row(table, account).key.hex().encode(),)))
         text = answer.body.decode().removeprefix("value ").strip()
         return None if text == "absent" else int.from_bytes(bytes.fromhex(text), "little")

@@ -42,7 +42,6 @@ def key_in(path: Path) -> Ed25519PrivateKey:
 
 
 def signed(private: Ed25519PrivateKey, program: str, number: int, data: bytes) -> Object:
-    """The object of a signed call."""
     signature = private.sign(calls.message(program, number, GAS, data))
     return {"key": public_of(private).hex(), "number": number, "gas": GAS, "input": data.hex(), "signature": signature.hex()}
 

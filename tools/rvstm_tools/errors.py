@@ -59,6 +59,17 @@ def ended(name: str, run: Callable[[], int], others: tuple[type[Exception], ...]
 
 
 @contextmanager
+def taken_for_misuse() -> Iterator[None]:
+    """Takes a mistake of the user within it for one of the command line."""
+    try:
+        yield
+    except BrokenPipeError:
+        raise
+    except (UserError, OSError) as error:
+        raise MisuseError(reason(error)) from error
+
+
+@contextmanager
 def ended_by_signal() -> Iterator[None]:
     """Takes SIGTERM for Ctrl-C, so that a command can print what it has so far."""
 

@@ -5,13 +5,14 @@ import os
 from collections.abc import Callable
 from dataclasses import dataclass
 from pathlib import Path
-from typing import Any
+from typing import Any, TypeVar
 
+from rvstm_tools.errors import UserError
 from rvstm_tools.texts import lists, numbers
 from rvstm_tools.texts.views import View
 
-
 MOST_ASKED_FOR = 2**63 - 1
+Parsed = TypeVar("Parsed")
 
 
 def count(word: str) -> int:
@@ -37,6 +38,22 @@ def new_file(word: str) -> Path:
     if not path.parent.is_dir():
         raise argparse.ArgumentTypeError(f"{word}: its folder is not there")
     return path
+
+
+def checked(parse: Callable[[str], Parsed]) -> Callable[[str], Parsed]:
+    """The type of an argument whose parser reports what is wrong with a word."""
+
+    def parsed(word: str) -> Parsed:
+        try:
+            return parse(word)
+        except UserError as error:
+            raise argparse.ArgumentTypeError(str(error)) from error
+
+    return parsed
+
+
+def number(least: int, most: int, what: str = "it") -> Callable[[str], int]:
+    return checked(lambda word: numbers.number_of(word, least, most, what))
 
 
 Adder = Callable[[argparse.ArgumentParser], object]  # adds an argument or an option to a parser

@@ -16,7 +16,8 @@ from rvstm_tools.texts.keys import numbered_key as key
 FOLDER = TOP / "bench"
 ACCOUNTS = 1900
 CALLS = 1000
-ROUNDS = 100_000
+ROUNDS, LONGEST_GAS = 100_000, 10_000_000
+INSTRUCTIONS_A_ROUND, OTHER_INSTRUCTIONS = 5, 9  # of bench/programs/work.s
 RULES = {"bump": 3}  # of programs that want later rules than one
 SPEED_PROGRAMS = ("sha256", "sieve", "crc32")  # the programs of speed.block, by their numbers
 
@@ -47,6 +48,12 @@ class TimedBlock:
     def empty(self) -> "TimedBlock":
         """The same with a gas limit of 1 for each call: the files, the text and the starts of calls are left."""
         return replace(self, calls=[call._replace(gas=1) for call in self.calls])
+
+
+def mixing(length: int, count: int) -> list[Input]:
+    """Calls of bench/programs/work.s of so many instructions, each on a key of its own."""
+    mixes = word((length - OTHER_INSTRUCTIONS) // INSTRUCTIONS_A_ROUND)
+    return [Input(LONGEST_GAS, key(number) + mixes) for number in range(count)]
 
 
 def compute() -> TimedBlock:

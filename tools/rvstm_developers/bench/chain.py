@@ -29,8 +29,7 @@ FRAME_LIMIT = 1 << 27  # bytes of a frame: the one of a million keys has 88 MB
 COMPARED = 1_000  # Keys, with whose time that of a block is compared
 TRANSFERS, GAS = 200, 2_000
 ROUNDS, BLOCKS_A_ROUND, BLOCKS_FOR_MEMORY = 15, 10, 1_000
-WORKERS, ROUNDS_BY_WORKERS, LONGEST_GAS = 4, 25, 10_000_000
-INSTRUCTIONS_A_ROUND, OTHER_INSTRUCTIONS = 5, 9  # of bench/programs/work.s
+WORKERS, ROUNDS_BY_WORKERS = 4, 25
 WORKS = (
     (1_000, 1_000, 1_000), (1_000, 3_000, 1_000), (1_000, 10_000, 1_000), (1_000, 30_000, 1_000), (64, 500_000, 1_000),
     (32, 30_000, 1_000), (1_000, 3_000, 100_000), (1_000, 30_000, 100_000),
@@ -146,9 +145,7 @@ def print_by_workers(rvstm: Path, settings: Settings, place: Path) -> None:
         block = TimedBlock(f"{TRANSFERS} transfers", "transfer", transfers(random.Random(keys), keys))
         tables.print_row(Beside(rvstm, settings, place, block, keys).row())
     for count, length, keys in WORKS:
-        mixes = word((length - OTHER_INSTRUCTIONS) // INSTRUCTIONS_A_ROUND)
-        calls = [Input(LONGEST_GAS, key(number) + mixes) for number in range(count)]
-        block = TimedBlock(f"{count:,} calls of {length:,} instructions", "work", calls)
+        block = TimedBlock(f"{count:,} calls of {length:,} instructions", "work", blocks.mixing(length, count))
         tables.print_row(Beside(rvstm, settings, place, block, keys).row())
 
 

@@ -11,20 +11,16 @@ from pathlib import Path
 
 from rvstm_developers import options
 from rvstm_developers.bench import blocks, processes, tables
-from rvstm_developers.bench.blocks import Input, TimedBlock
+from rvstm_developers.bench.blocks import TimedBlock
 from rvstm_developers.bench.pictures import COLOURS, DARK_GREY, GREY, Picture, Point
 from rvstm_developers.running import Word
-from rvstm_developers.texts import word
 from rvstm_tools.errors import UserError
 from rvstm_tools.options import Command
-from rvstm_tools.texts.keys import numbered_key as key
 
 WORKERS = (2, 4)
 LENGTHS = (700, 1_000, 3_000, 10_000, 30_000, 100_000, 300_000, 1_000_000)
 INSTRUCTIONS_A_BLOCK = 30_000_000
 FEWEST_CALLS, MOST_CALLS = 32, 1_000
-INSTRUCTIONS_A_ROUND, OTHER_INSTRUCTIONS = 5, 9  # of bench/programs/work.s
-GAS = 10_000_000
 ROUNDS = 45
 YARDSTICK_LENGTH, YARDSTICK_CALLS = 300_000, 25
 PROCESSORS, QUIET = 4, 3.6
@@ -58,11 +54,6 @@ class Rounds:
         ]
 
 
-def mixing(length: int, count: int) -> list[Input]:
-    mixes = word((length - OTHER_INSTRUCTIONS) // INSTRUCTIONS_A_ROUND)
-    return [Input(GAS, key(number) + mixes) for number in range(count)]
-
-
 def times_at_once(words: Sequence[Word], place: Path) -> list[float]:
     """The times in milliseconds of as many processes of a command as there are processors, each on one of its own."""
     begun, starts, times = {}, {}, []
@@ -82,7 +73,7 @@ def times_at_once(words: Sequence[Word], place: Path) -> list[float]:
 
 def rounds_of(rvstm: Path, place: Path, length: int) -> Rounds:
     count = max(FEWEST_CALLS, min(MOST_CALLS, INSTRUCTIONS_A_BLOCK // length))
-    (place / "calls.block").write_text(TimedBlock("", "work", mixing(length, count)).text(), encoding="utf-8")
+    (place / "calls.block").write_text(TimedBlock("", "work", blocks.mixing(length, count)).text(), encoding="utf-8")
     commands: list[list[Word]] = [[rvstm, "seq", "calls.block"]]
     commands += [[rvstm, "run", "calls.block", "--workers", str(workers)] for workers in WORKERS]
     yardstick: list[Word] = [rvstm, "seq", "yardstick.block"]
@@ -120,7 +111,8 @@ def run(given: argparse.Namespace) -> int:
     with tempfile.TemporaryDirectory() as folder:
         place = Path(folder)
         blocks.assemble(given.rvstm, place, "work")
-        (place / "yardstick.block").write_text(TimedBlock("", "work", mixing(YARDSTICK_LENGTH, YARDSTICK_CALLS)).text(), encoding="utf-8")
+        yardstick = TimedBlock("", "work", blocks.mixing(YARDSTICK_LENGTH, YARDSTICK_CALLS)).text()
+        (place / "yardstick.block").write_text(yardstick, encoding="utf-8")
         found = [rounds_of(given.rvstm, place, length) for length in LENGTHS]
     fastest = min(spent for one in found for each in one.at_once for spent in each)
     tables.print_table(COLUMNS, [one.cells(fastest) for one in found])

@@ -47,18 +47,17 @@ def write_block(options: Options, name: str, content: Content) -> None:
     (options.place / f"{name}.requests").write_bytes(requests.text_of((*named.programs(), named.frame())))
 
 
+def words_of(name: str, way: str) -> list[str]:
+    """The words of a way, as a shell has them."""
+    command, *words = way.split()
+    return [command, *words, "<", f"{name}.requests"] if way in (CHAIN, CHAIN_4) else [command, f"{name}.block", *words]
+
+
 def run_way(options: Options, name: str, way: str) -> Spent:
-    if way in (CHAIN, CHAIN_4):
-        return timed([options.rvstm, *way.split()], options.place, f"{name}.requests")
-    command, *words = way.split()
-    return timed([options.rvstm, command, f"{name}.block", *words], options.place)
-
-
-def shown(name: str, way: str) -> str:
-    if way in (CHAIN, CHAIN_4):
-        return f"{way} < {name}.requests"
-    command, *words = way.split()
-    return " ".join((command, f"{name}.block", *words))
+    words = words_of(name, way)
+    if "<" in words:
+        return timed([options.rvstm, *words[:-2]], options.place, words[-1])
+    return timed([options.rvstm, *words], options.place)
 
 
 def gas_of(options: Options, name: str) -> int:
@@ -84,7 +83,7 @@ def print_block(options: Options, block: Block) -> None:
             work = sound(run_way(options, "reference", SEQ)).processor / (WORK_CALLS * GAS)
             runs.append(run_way(options, block.name, way))
             ratios.append(runs[-1].processor / whole / work)
-        print_row(shown(block.name, way), runs, whole, block.share, statistics.median(ratios))
+        print_row(" ".join(words_of(block.name, way)), runs, whole, block.share, statistics.median(ratios))
 
 
 def print_row(command: str, runs: Sequence[Spent], whole: int, share: Share, ratio: float) -> None:

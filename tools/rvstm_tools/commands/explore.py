@@ -1,9 +1,7 @@
 import argparse
-import sys
 from pathlib import Path
 
 from rvstm_tools import errors, options
-from rvstm_tools.errors import Status, UserError
 from rvstm_tools.exploring.descriptions import Description
 from rvstm_tools.exploring.explorations import SECONDS_TO_SHORTEN, Exploration, Plan
 from rvstm_tools.exploring.folders import Folder
@@ -108,14 +106,8 @@ def plan_of(given: argparse.Namespace) -> Plan:
 
 def run(given: argparse.Namespace) -> int:
     """Explores. A wrong description is status 2."""
-    try:
-        with errors.ended_by_signal():
-            return Exploration(plan_of(given)).explore()
-    except BrokenPipeError:
-        raise
-    except (UserError, OSError) as error:
-        print(f"explore: {errors.reason(error)}", file=sys.stderr)
-        return Status.MISUSED
+    with errors.taken_for_misuse(), errors.ended_by_signal():
+        return Exploration(plan_of(given)).explore()
 
 
 COMMAND = Command(

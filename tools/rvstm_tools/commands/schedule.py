@@ -8,7 +8,7 @@ from rvstm_tools.errors import MisuseError, Status
 from rvstm_tools.options import Command, argument
 from rvstm_tools.programs import finding, running
 from rvstm_tools.programs.running import Runner
-from rvstm_tools.texts import numbers, schedules
+from rvstm_tools.texts import schedules
 
 DETAILS = """\
     rvstm-tools schedule WORKERS LENGTH [turns | worker N | random SEED]
@@ -26,21 +26,6 @@ With --to-done it prints what must follow the list SCHEDULE of the block file BL
 done already, it prints nothing. It runs `rvstm drive` with more and more entries: of each worker alone, the last worker first, and
 twice as many each time. When `drive` prints a result, it cuts what is not needed. If `drive` refuses the list for another reason,
 this command reports it."""
-
-
-def worker_count(word: str) -> int:
-    return number_in(word, 1, schedules.MOST_WORKERS)
-
-
-def length(word: str) -> int:
-    return number_in(word, 0, schedules.MOST_ENTRIES)
-
-
-def number_in(word: str, least: int, most: int) -> int:
-    number = numbers.at_most(word, most) if numbers.is_decimal(word) else None
-    if number is None or number < least:
-        raise argparse.ArgumentTypeError(f"{word}: it is a number of {least} to {most}")
-    return number
 
 
 def run(given: argparse.Namespace) -> int:
@@ -73,8 +58,8 @@ COMMAND = Command(
     run=run,
     arguments=(
         options.add_program,
-        argument("workers", type=worker_count, metavar="WORKERS", help="how many workers there are, 1 to 32"),
-        argument("length", type=length, nargs="?", metavar="LENGTH", help="how many entries are printed"),
+        argument("workers", type=options.number(1, schedules.MOST_WORKERS), metavar="WORKERS", help="how many workers there are, 1 to 32"),
+        argument("length", type=options.number(0, schedules.MOST_ENTRIES), nargs="?", metavar="LENGTH", help="how many entries are printed"),
         argument("form", nargs="*", metavar="FORM", help=f"{schedules.FORMS}; without it turns"),
         argument("--to-done", metavar="BLOCK", help="prints what must follow a list for this block file"),
         argument("--from", type=Path, dest="schedule", metavar="SCHEDULE", help="the list that is continued"),

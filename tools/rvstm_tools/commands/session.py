@@ -13,11 +13,10 @@ from rvstm_tools.sessions.clients import FIRST_KEY, Client
 from rvstm_tools.sessions.processes import LONGEST_FRAME, Session, Settings
 from rvstm_tools.sessions.replays import Replay
 from rvstm_tools.sessions.requests import Word
-from rvstm_tools.texts import numbers, words
-from rvstm_tools.texts.keys import Key
+from rvstm_tools.texts import words
 from rvstm_tools.texts.views import View
 
-MOST_OF_A_SETTING = 9_999_999_999
+SETTING = options.number(0, 9_999_999_999, "a setting")
 DETAILS = f"""\
 It starts `rvstm chain`, and sends the programs of each LIST (`rvstm-tools block --help`). Then it runs a frame for each LIST,
 over the storage that the ones before it left, and prints the result as a table. A line `store` of a LIST sets its key again each
@@ -49,12 +48,12 @@ class Asked:
 
 
 def get_of(word: str) -> Asked:
-    key = key_of(word)
+    key = words.key_of(word)
     return Asked(f"get {word}", lambda client: client.get(key))
 
 
 def list_of(word: str) -> Asked:
-    key = key_of(word) if word else FIRST_KEY
+    key = words.key_of(word) if word else FIRST_KEY
     return Asked(f"list {word}".rstrip(), lambda client: client.list(key))
 
 
@@ -65,20 +64,6 @@ def frame_of(path: Path) -> Asked:
 def dump_of(word: str) -> Asked:
     out = Path(word) if word else None
     return Asked(f"dump {word}".rstrip(), lambda client: client.dump(out))
-
-
-def key_of(word: str) -> Key:
-    try:
-        return words.key_of(word)
-    except UserError as error:
-        raise argparse.ArgumentTypeError(str(error)) from error
-
-
-def count(word: str) -> int:
-    try:
-        return numbers.number_of(word, 0, MOST_OF_A_SETTING, "a setting")
-    except UserError as error:
-        raise argparse.ArgumentTypeError(str(error)) from error
 
 
 STATE = Asked("state", lambda client: client.lines(Word.STATE))
@@ -158,11 +143,11 @@ COMMAND = Command(
         options.add_program,
         argument("lists", nargs="*", type=Path, metavar="LIST", help="a list or a block file, which is run as a frame"),
         argument(
-            "--get", dest="asked", action="append", default=[], type=get_of, metavar="KEY",
+            "--get", dest="asked", action="append", default=[], type=options.checked(get_of), metavar="KEY",
             help="the value at a key, which a word of a list says; it may be given again, as each of the next four",
         ),
         argument(
-            "--list", dest="asked", action="append", nargs="?", const=list_of(""), type=list_of, metavar="FROM",
+            "--list", dest="asked", action="append", nargs="?", const=list_of(""), type=options.checked(list_of), metavar="FROM",
             help="the keys from FROM on, at most 1,024; without FROM from the first one",
         ),
         argument("--state", dest="asked", action="append_const", const=STATE, help="rules, height, keys, programs, settings and digest"),
@@ -174,8 +159,8 @@ COMMAND = Command(
         argument("--replay", type=Path, metavar="FOLDER", help="sends the frames of a folder again, and compares digests"),
         argument("--write", action="store_true", help="with --replay: writes the digests in place of comparing them"),
         argument("--store", metavar="FILE", help="the file that the session is kept in; without it the session is in memory"),
-        argument("--frame-limit", type=count, default=LONGEST_FRAME, metavar="BYTES", help="the most bytes of a frame"),
-        argument("--frame-gas", type=count, metavar="N", help="the most gas of all calls of a frame"),
+        argument("--frame-limit", type=SETTING, default=LONGEST_FRAME, metavar="BYTES", help="the most bytes of a frame"),
+        argument("--frame-gas", type=SETTING, metavar="N", help="the most gas of all calls of a frame"),
         argument("--workers", type=int, choices=range(1, 33), metavar="N", help="runs calls on so many threads if that pays"),
         argument("--brief", action="store_true", help="answers have no lines `regs`; they are not printed here anyway"),
     ),

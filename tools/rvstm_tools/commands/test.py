@@ -1,11 +1,8 @@
 import argparse
-import sys
 from collections.abc import Iterator, Sequence
-from dataclasses import dataclass
 from pathlib import Path
 
-from rvstm_tools import errors
-from rvstm_tools import options as common
+from rvstm_tools import errors, options
 from rvstm_tools.errors import MisuseError, Status, UserError
 from rvstm_tools.options import Command, argument
 from rvstm_tools.programs import finding
@@ -62,20 +59,6 @@ The status is 0 if all tests pass, 1 if one fails or gas differs, and 2 if a lis
 rvstm; then no test is run."""
 
 
-@dataclass(frozen=True)
-class Options:
-    files: list[str]
-    only: list[str]
-    variants: list[str]
-    is_update: bool
-    is_json: bool
-    junit: Path | None
-    gas: Path | None
-    within: float
-    is_write: bool
-    jobs: int
-
-
 def percent(word: str) -> float:
     try:
         number = float(word)
@@ -88,55 +71,49 @@ def percent(word: str) -> float:
 
 def run(given: argparse.Namespace) -> int:
     """Runs the tests. All lists and the table are read before the first one is run."""
-    options = Options(
-        given.files, given.only, given.variant, given.update, given.json, given.junit, given.gas, given.within, given.write, given.jobs,
-    )
-    try:
-        if options.gas is None and (options.is_write or options.within):
+    with errors.taken_for_misuse():
+        if given.gas is None and (given.write or given.within):
             raise MisuseError("--within and --write are for --gas FILE")
-        program = finding.chosen(common.program_choice(given), "test")
-        tests = tests_of(options)
-        table = GasTable(options.gas) if options.gas else None
-        rows = table.read() if table and not options.is_write else {}
-    except (UserError, OSError) as error:
-        print(f"test: {errors.reason(error)}", file=sys.stderr)
-        return Status.MISUSED
+        program = finding.chosen(options.program_choice(given), "test")
+        tests = tests_of(given)
+        table = GasTable(given.gas) if given.gas else None
+        rows = table.read() if table and not given.write else {}
     tried = []
-    for one in Tester(program, is_update=options.is_update, jobs=options.jobs).tried(tests, options.variants):
+    for one in Tester(program, is_update=given.update, jobs=given.jobs).tried(tests, given.variant):
         tried.append(one)
-        for line in [reports.json_of_run(one)] if options.is_json else reports.lines_of_run(one):
+        for line in [reports.json_of_run(one)] if given.json else reports.lines_of_run(one):
             print(line, flush=True)
-    return ended(options, tried, table, rows)
+    return ended(given, tried, table, rows)
 
 
-def ended(options: Options, tried: Sequence[Tried], table: GasTable | None, rows: Gas) -> Status:
+def ended(given: argparse.Namespace, tried: Sequence[Tried], table: GasTable | None, rows: Gas) -> Status:
     sums = reports.sums_of(tried)
-    notes = list(testers.updated(tried)) if options.is_update else []
+    notes = list(testers.updated(tried)) if given.update else []
     differences: list[GasDifference] = []
-    if table and options.is_write:
+    if table and given.write:
         if sums.failed:
             notes.append(f"{table.path} is not written: a test failed")
         else:
             table.write(tried)
             notes.append(f"written to {table.path}")
     elif table:
-        differences = list(table.differences(rows, tried, options.within))
-    if options.junit:
-        junit.write(options.junit, tried, differences, f"{table.path}" if table and not options.is_write else "")
-    if options.is_json:
+        differences = list(table.differences(rows, tried, given.within))
+    if given.junit:
+        junit.write(given.junit, tried, differences, f"{table.path}" if table and not given.write else "")
+    if given.json:
         lines = [*map(reports.json_of_gas, differences), reports.json_of_sums(sums)]
     else:
-        lines = [*notes, *reports.lines_of_gas(differences, f"{options.gas}", options.within), f"{sums}"]
+        lines = [*notes, *reports.lines_of_gas(differences, f"{given.gas}", given.within), f"{sums}"]
     for line in lines:
         print(line)
     return Status.FAILED if sums.failed or differences else Status.DONE
 
 
-def tests_of(options: Options) -> list[ListedTest]:
+def tests_of(given: argparse.Namespace) -> list[ListedTest]:
     """The tests of the lists that the command line names. A list that is named alone has to be one."""
     tests = []
-    for path, is_named in lists_of(options.files):
-        if options.only and not any(name in str(path) for name in options.only):
+    for path, is_named in lists_of(given.files):
+        if given.only and not any(name in str(path) for name in given.only):
             continue
         test = listed.read_test(path)
         if test.count():
@@ -144,7 +121,7 @@ def tests_of(options: Options) -> list[ListedTest]:
         elif is_named:
             raise UserError(f"{path}: no line `expect`, so it tests nothing")
     if not tests:
-        of = f"whose path has {' or '.join(options.only)} " if options.only else ""
+        of = f"whose path has {' or '.join(given.only)} " if given.only else ""
         raise UserError(f"none of these lists {of}has a line `expect`")
     return tests
 
@@ -165,8 +142,8 @@ COMMAND = Command(
     example="rvstm-tools test --variant gnu examples/token",
     run=run,
     arguments=(
-        common.add_program,
-        common.JOBS,
+        options.add_program,
+        options.JOBS,
         argument(
             "files", nargs="+", metavar="FILE",
             help="a list, or a folder: its lists NAME.list, and those of folders in it, that have a line `expect`",
@@ -185,8 +162,8 @@ COMMAND = Command(
             "most of all variants",
         ),
         argument("--json", action="store_true", help="an object a line: each test, gas that differs, and the sums"),
-        argument("--junit", type=common.new_file, metavar="XML", help="a file for the tests in the format of JUnit"),
-        argument("--gas", type=common.new_file, metavar="FILE", help="a table of the gas of all calls, to compare with"),
+        argument("--junit", type=options.new_file, metavar="XML", help="a file for the tests in the format of JUnit"),
+        argument("--gas", type=options.new_file, metavar="FILE", help="a table of the gas of all calls, to compare with"),
         argument("--within", type=percent, default=0.0, metavar="N", help="by how many percent gas may differ from the table (0)"),
         argument("--write", action="store_true", help="makes the table of --gas again, if all tests pass"),
     ),

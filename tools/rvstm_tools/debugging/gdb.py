@@ -101,7 +101,7 @@ class Server:
         self.answers: dict[str, Callable[[str], str]] = {
             "?": lambda _: self.stop(self.stopped), "g": self.all_registers, "p": self.register, "m": self.memory,
             "G": self.refuse, "P": self.refuse, "M": self.refuse, "X": self.refuse,
-            "Z": self.insert, "z": self.remove, "c": self.go_on, "C": self.go_on, "s": self.step, "S": self.step,
+            "Z": self.insert_or_remove, "z": self.insert_or_remove, "c": self.go_on, "C": self.go_on, "s": self.step, "S": self.step,
             "b": self.backward, "v": self.verbose, "q": self.query, "H": lambda _: "OK", "T": lambda _: "OK",
         }
 
@@ -200,27 +200,17 @@ class Server:
 
     # ---- breakpoints
 
-    def insert(self, packet: str) -> str:
+    def insert_or_remove(self, packet: str) -> str:
         address, length = numbers_of(packet[2:])
-        kind = packet[1:2]
-        if kind in ("0", "1"):
-            self.breakpoints[Breakpoint(kind, address)] = self.call.hits_of(address)
-        elif kind == "2" and is_watchable(address, length):
-            watched = Watched(address, length)
+        kind, is_inserted, watched = packet[1:2], packet[0] == "Z", Watched(address, length)
+        if kind not in ("0", "1", "2") or (kind == "2" and is_inserted and not is_watchable(address, length)):
+            return ""
+        if not is_inserted:
+            self.watches.pop(watched, None) if kind == "2" else self.breakpoints.pop(Breakpoint(kind, address), None)
+        elif kind == "2":
             self.watches[watched] = self.call.changes_of(watched)
         else:
-            return ""
-        return "OK"
-
-    def remove(self, packet: str) -> str:
-        address, length = numbers_of(packet[2:])
-        kind = packet[1:2]
-        if kind in ("0", "1"):
-            self.breakpoints.pop(Breakpoint(kind, address), None)
-        elif kind == "2":
-            self.watches.pop(Watched(address, length), None)
-        else:
-            return ""
+            self.breakpoints[Breakpoint(kind, address)] = self.call.hits_of(address)
         return "OK"
 
     def searches(self) -> list[Search]:

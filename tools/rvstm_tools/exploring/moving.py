@@ -50,7 +50,7 @@ class Moving:
         for at, call in enumerate(self.calls):
             if at == left_out:
                 continue
-            made.append(Call(call.kind, self._moved(call, before[at], numbers)))
+            made.append(Call(call.kind, {name: self._moved_value(call, name, before[at], numbers) for name in call.values}))
             if not is_broken:
                 is_broken = bool(self.run.go_on(made[-1:]))
                 numbers = add(numbers, at, self.run.outcomes[-1], self.run)
@@ -68,11 +68,8 @@ class Moving:
             numbers = add(numbers, at, self.run.outcomes[-1], self.run)
         return found
 
-    def _moved(self, call: Call, before: FromSources, now: FromSources) -> dict[str, Value]:
-        """The values of a call, with numbers that are as far from those now as they were from those before."""
-        return {name: self._moved_value(call, name, before, now) for name in call.values}
-
     def _moved_value(self, call: Call, name: str, before: FromSources, now: FromSources) -> Value:
+        """A value of a call; of a number the one that is as far from those now as it was from those before."""
         value, place = call.values[name], call.kind.places[name]
         if not isinstance(value, int) or not isinstance(place, Numbers):
             return value

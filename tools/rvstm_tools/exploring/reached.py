@@ -45,7 +45,7 @@ class Sample:
 
 
 class Sampler:
-    """Takes a sample of each way in which calls of a run end."""
+    """Takes a sample of each way in which calls of a run end; of no run none."""
 
     def __init__(self, run: Run | None) -> None:
         self.run = run
@@ -53,10 +53,6 @@ class Sampler:
         self.samples: list[Sample] = []
         if run:
             run.watch = self.see
-
-    @classmethod
-    def of_nothing(cls) -> "Sampler":
-        return cls(None)
 
     def see(self, call: Call, outcome: Receipt) -> None:
         assert self.run

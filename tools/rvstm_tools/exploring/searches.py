@@ -136,7 +136,7 @@ class Task:
 
     def _do(self, to: Connection) -> None:
         with Run(self.rvstm, self.description) as run:
-            sampler = Sampler(run) if self.has_samples else Sampler.of_nothing()
+            sampler = Sampler(run if self.has_samples else None)
             for number in self.sequences():
                 made = Sequence(run, self.limits, number).made(self.deadline, sampler)
                 to.send(made)

@@ -16,7 +16,6 @@ def roman(text: str) -> str:
 
 
 def as_it_is(lines: Iterable[str]) -> Iterator[str]:
-    """Lines that are not filled."""
     yield ".nf"
     yield from map(escaped, lines)
     yield ".fi"

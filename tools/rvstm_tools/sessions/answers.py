@@ -2,7 +2,7 @@
 
 import re
 from dataclasses import dataclass
-from typing import Protocol
+from typing import ClassVar, Protocol
 
 from rvstm_tools.errors import UserError
 from rvstm_tools.sessions.requests import Bytes
@@ -27,10 +27,7 @@ class Done:
     """What was asked for is done, and these are the bytes that it gives."""
 
     body: bytes = b""
-
-    @property
-    def kind(self) -> Kind:
-        return Kind.OK
+    kind: ClassVar[Kind] = Kind.OK
 
     @property
     def line(self) -> bytes:
@@ -51,11 +48,7 @@ class Refusal:
     name: str
     number: int
     line_number: int | None = None
-
-    @property
-    def body(self) -> bytes:
-        """No bytes follow the line."""
-        return b""
+    body: ClassVar[bytes] = b""  # no bytes follow the line
 
     @property
     def line(self) -> bytes:

@@ -2,7 +2,7 @@
 
 import os
 import re
-from collections.abc import Iterator
+from collections.abc import Callable, Iterator
 from contextlib import contextmanager
 from dataclasses import dataclass
 
@@ -75,12 +75,12 @@ class BlockReader:
         self._is_begun = False
         self._has_rules = False
         self._is_after_storage = False
-        self._takers = {
+        self._takers: dict[str, Callable[[list[str], int], None]] = {
             "rules": self._take_rules,
             "program": self._take_program,
             "store": self._take_key,
             "call": self._take_call,
-            "shape": self._take_shape,
+            "shape": lambda given, _: self.view.take_shape(given),
         }
 
     def take(self, line: Line) -> None:
@@ -141,9 +141,6 @@ class BlockReader:
         self._stored.add(key)
         rules = self.block.rules
         self.block.storage[key] = words.joined(given[1:], rules.longest_value, f"a value under rules {rules}")
-
-    def _take_shape(self, given: list[str], _: int) -> None:
-        self.view.take_shape(given)
 
     def _take_call(self, given: list[str], line: int) -> None:
         if len(given) < 2:

@@ -18,7 +18,6 @@ def whole_number(most: int | None = None) -> Object:
 
 
 def text(pattern: str) -> Object:
-    """A text that the pattern describes."""
     return {"type": "string", "pattern": pattern}
 
 

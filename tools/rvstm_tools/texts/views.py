@@ -120,22 +120,18 @@ class View:
         row, name = rows.row_of(key, frozenset(self.long_tables)), self.names.get(key, "")
         return self.of_tables.get(f"row:{row.table}" if row else name.rpartition(":")[0])
 
-    def value(self, key: Key, data: bytes) -> str:
-        """A value by its fields; in hex if it has no shape, and with the reason if it does not fit its shape."""
-        shape = self.shape_at(key)
+    def value(self, key: Key, data: bytes, *, is_short: bool = False) -> str:
+        """A value by its fields; in hex if it has no shape, and with the reason if it does not fit its shape. One that is short is cut."""
+        shape, in_hex = self.shape_at(key), (differences.short_bytes if is_short else shown.shown_bytes)(data)
         if not shape:
-            return shown.shown_bytes(data)
-        parts = shape.parts(data)
-        return with_reason(shown.shown_bytes(data), parts) if isinstance(parts, Misfit) else self.fields(parts)
-
-    def short_value(self, key: Key, data: bytes) -> str:
-        shape = self.shape_at(key)
-        if not shape:
-            return differences.short_bytes(data)
+            return in_hex
         parts = shape.parts(data)
         if isinstance(parts, Misfit):
-            return with_reason(differences.short_bytes(data), parts)
-        return differences.cut(self.fields(parts))
+            return f"{in_hex}  (not its shape: {parts.reason})"
+        return differences.cut(self.fields(parts)) if is_short else self.fields(parts)
+
+    def short_value(self, key: Key, data: bytes) -> str:
+        return self.value(key, data, is_short=True)
 
     def words_of_value(self, key: Key, data: bytes) -> list[str]:
         """Words of a list that say a value: one for each field if it has a shape."""
@@ -256,11 +252,6 @@ class View:
 def another(target: str) -> UserError:
     """What is reported of a second shape."""
     return UserError(f"{target}: another line `shape` has it")
-
-
-def with_reason(text: str, misfit: Misfit) -> str:
-    """A value in hex, and why it is not shown by its fields."""
-    return f"{text}  (not its shape: {misfit.reason})"
 
 
 def number_of(part: Part) -> int:
