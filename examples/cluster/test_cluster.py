@@ -1,6 +1,6 @@
 """Tests of a whole ledger, which need etcd and the program rvstm: python3 -m unittest, in this folder.
 
-The expected answers come from tools/rvstm_tools/models/sessions.py, which runs each block with `rvstm seq`, and from docs/formats.md.
+The expected answers come from tests/long/models/sessions.py, which runs each block with `rvstm seq`, and from docs/formats.md.
 """
 
 import hashlib
@@ -26,7 +26,6 @@ import engines
 import etcd
 import ledger
 from rvstm_tools.errors import UserError
-from rvstm_tools.models.sessions import Model
 from rvstm_tools.programs.running import Program
 from rvstm_tools.sessions import answers
 from rvstm_tools.sessions.processes import Settings
@@ -148,7 +147,11 @@ class Ledger(unittest.TestCase):
     def digest(self, height: int) -> set[str]:
         return {value.split()[0] for value in self.cluster.digests(height).values()}
 
+    @unittest.skipUnless((engines.TOP / "tests/long").is_dir(), "only a checkout has the model of a session")
     def test_1_answers_are_those_of_seq(self) -> None:
+        sys.path.append(str(engines.TOP / "tests"))
+        from long.models.sessions import Model
+
         for strange, _ in transfers.strange(random.Random(2)).values():
             self.append(strange)
         self.transfers(3)

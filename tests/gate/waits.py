@@ -11,7 +11,7 @@ from gate.cases import same
 from long.models import waits
 from rvstm_tools.debugging.replays import Replay, StorageStep
 from rvstm_tools.debugging.sessions import CallOf
-from rvstm_tools.models.charges import StorageCall
+from rvstm_tools.debugging.charges import StorageCall
 from rvstm_tools.programs.running import Program
 from rvstm_tools.texts import results
 from rvstm_tools.texts.keys import Key

@@ -5,9 +5,10 @@ import threading
 from collections.abc import Sequence
 from pathlib import Path
 
+from long.models import inputs
+from long.models.sessions import Model
 from rvstm_developers import running
 from rvstm_tools.errors import UserError
-from rvstm_tools.models.sessions import Model
 from rvstm_tools.programs.pipes import Ended
 from rvstm_tools.programs.running import Program
 from rvstm_tools.sessions import answers, requests
@@ -45,7 +46,7 @@ def asked(session: Session, asks: Sequence[Request]) -> bytes:
 
 def one_by_one(rvstm: Path, text: bytes, settings: Settings) -> Ended:
     """What a session writes for an input whose requests are given one by one, and at last what follows them."""
-    asks = requests.requests_of(text).requests
+    asks = inputs.requests_of(text).requests
     rest = text[sum(len(request.text()) for request in asks) :]
     with Session(rvstm, settings) as session:
         clock = threading.Timer(SECONDS_A_SESSION, session.process.kill)
@@ -64,7 +65,7 @@ def first_difference(came: Ended, text: bytes, settings: Settings, model: Model)
     if came == wanted:
         return None
     came_lines, wanted_lines = io.BytesIO(came.output), io.BytesIO(wanted.output)
-    for number, request in enumerate(requests.requests_of(text).requests):
+    for number, request in enumerate(inputs.requests_of(text).requests):
         one, other = answers.next_answer(came_lines), answers.next_answer(wanted_lines)
         if one != other:
             return f"{settings}: request {number}, {request.text()[:60]!r}: {shown(one)} and not {shown(other)}"
@@ -97,7 +98,7 @@ def begin_of(session: Session) -> Request:
 def difference_after(rvstm: Path, text: bytes, settings: Settings, place: int) -> str | None:
     """How the answers differ of a session that begins with what another one is after `place` requests; None if they do not. The
     first is begun with its own state, too, so that `last` has nothing in both."""
-    asks = requests.requests_of(text).requests
+    asks = inputs.requests_of(text).requests
     here: dict[bytes, Request] = {}
     with Session(rvstm, settings) as first, Session(rvstm, settings) as second:
         for request in asks[:place]:

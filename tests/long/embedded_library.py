@@ -5,10 +5,10 @@ from collections.abc import Sequence
 from dataclasses import dataclass
 from pathlib import Path
 
+from long.models.sessions import HIGHEST
 from rvstm_developers import running
 from rvstm_developers.texts import TOP
 from rvstm_tools.errors import UserError
-from rvstm_tools.models.sessions import HIGHEST
 from rvstm_tools.programs.pipes import Pipes
 from rvstm_tools.sessions.answers import Kind
 from rvstm_tools.sessions.processes import Settings

@@ -8,7 +8,7 @@ from rvstm_tools.debugging.replays import Frame, Replay, StorageStep, Turn
 from rvstm_tools.debugging.sessions import CallOf, Debugger, Place, place_of
 from rvstm_tools.debugging.sources import Inlined
 from rvstm_tools.errors import UserError
-from rvstm_tools.models import charges
+from rvstm_tools.debugging import charges
 from rvstm_tools.texts import blockfiles
 from rvstm_tools.texts.blockfiles import CallHead
 from rvstm_tools.texts.keys import Key

@@ -7,17 +7,18 @@ from pathlib import Path
 from random import Random
 
 from long import embedded_library
-from rvstm_developers import options, texts
 from long.drawing import programs, sessions
 from long.embedded_library import CLOSE, LETTERS, OPEN, OPEN_WITH, Called, Library, Status
+from long.models.inputs import Fault
+from long.models.sessions import HIGHEST
+from rvstm_developers import options, texts
 from rvstm_developers.texts import TOP
 from rvstm_tools.errors import UserError
-from rvstm_tools.models.sessions import HIGHEST
 from rvstm_tools.options import Command
 from rvstm_tools.programs.pipes import Ended
 from rvstm_tools.sessions import requests
 from rvstm_tools.sessions.processes import Session
-from rvstm_tools.sessions.requests import Fault, Request, Word
+from rvstm_tools.sessions.requests import Request, Word
 from rvstm_tools.texts.blocks import CallLine
 from rvstm_tools.texts.keys import key_of, numbered_key
 

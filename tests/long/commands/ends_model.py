@@ -9,11 +9,11 @@ from pathlib import Path
 from random import Random
 from typing import NamedTuple, TypeVar
 
-from rvstm_developers import texts
 from long.models import scheduler as model
 from long.models.measures import SMALLER, Measure, check_causes, check_quiet, need, work_by_incarnation, worked
 from long.models.scheduler import Block, Contract, Running, Validating
 from long.models.scheduler import conditional, copy, count, get, put, read_all, wander
+from rvstm_developers import texts
 from rvstm_tools.errors import MisuseError
 from rvstm_tools.options import Command, argument
 

@@ -13,8 +13,9 @@ from pathlib import Path
 from random import Random
 
 from long import comparing
-from rvstm_developers import options, texts
 from long.drawing import programs
+from long.models import inputs
+from rvstm_developers import options, texts
 from rvstm_developers.running import Word
 from rvstm_developers.texts import TOP
 from rvstm_tools.options import Command, argument
@@ -126,7 +127,7 @@ def damaged_session(choice: Random, data: bytes, others: Sequence[Seed]) -> byte
         return damaged(choice, data, others)
     if kind == 1:
         return random_bytes(choice)
-    asked = requests.requests_of(data).requests
+    asked = inputs.requests_of(data).requests
     for number in choice.sample(range(len(asked)), min(len(asked), choice.randint(1, 6))):
         asked[number] = damaged_request(choice, asked[number], asked, others)
     return requests.text_of(asked)

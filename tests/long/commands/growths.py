@@ -8,11 +8,11 @@ from pathlib import Path
 from typing import NamedTuple
 
 from long import comparing
+from long.models.sessions import Known, Model
+from long.stores.files import answers_of
 from rvstm_developers import options, running, texts
 from rvstm_developers.running import Word
-from long.stores.files import answers_of
 from rvstm_developers.texts import TOP
-from rvstm_tools.models.sessions import Known, Model
 from rvstm_tools.options import Command, argument
 from rvstm_tools.programs import finding
 from rvstm_tools.programs.pipes import Ended

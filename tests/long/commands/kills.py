@@ -12,16 +12,18 @@ from pathlib import Path
 from random import Random
 from typing import IO
 
-from rvstm_developers import options
 from long.drawing import blocks, sessions
+from long.models import inputs
+from long.models.inputs import Fault
 from long.stores import files
 from long.stores.files import QUESTIONS
+from rvstm_developers import options
 from rvstm_tools import options as shared_options
 from rvstm_tools.options import Command, argument
 from rvstm_tools.programs.pipes import Ended
 from rvstm_tools.sessions import answers, requests
 from rvstm_tools.sessions.answers import Answer
-from rvstm_tools.sessions.requests import Fault, Request, Word
+from rvstm_tools.sessions.requests import Request, Word
 
 WORKER_NUMBERS = (None, None, 2, 8)
 ROUNDS_A_FILE = 25
@@ -158,7 +160,7 @@ class KilledFile:
             self.counts[f"killed {part}"] += 1
             return None
         self.counts["ended by themselves"] += 1
-        fault = requests.requests_of(end).fault
+        fault = inputs.requests_of(end).fault
         is_faulty = fault is not Fault.NONE
         is_right = (run.errors, run.status, more) == (b"rvstm: " + fault if is_faulty else b"", is_faulty, is_faulty)
         return None if is_right else f"{more} answers after the last one, {run.errors!r}, and status {run.status}"

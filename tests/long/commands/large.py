@@ -10,11 +10,11 @@ from dataclasses import dataclass
 from pathlib import Path
 from typing import NamedTuple
 
-from rvstm_developers import options, texts
 from long.large import blocks, limits, sessions
 from long.large import texts as long_texts
 from long.large.limits import USUAL_STACK, Trial
 from long.models.machine import Block
+from rvstm_developers import options, texts
 from rvstm_tools.options import Command, argument
 from rvstm_tools.texts import differences
 

@@ -9,11 +9,11 @@ from pathlib import Path
 from random import Random
 from typing import Protocol, TypeVar
 
-from rvstm_developers import options, running
 from long.drawing import blocks, sessions
 from long.stores import disks, files
 from long.stores.disks import FILE, OUTPUT, Disk, Step
 from long.stores.files import Both
+from rvstm_developers import options, running
 from rvstm_tools import options as shared_options
 from rvstm_tools.errors import UserError
 from rvstm_tools.options import Command, argument

@@ -11,11 +11,11 @@ from dataclasses import dataclass, field
 from pathlib import Path
 from random import Random
 
-from rvstm_developers import options, running, texts
 from long.drawing import words
+from rvstm_developers import options, running, texts
 from rvstm_developers.machine_code import BRANCHES, WIDTHS
+from rvstm_tools.debugging import charges
 from rvstm_tools.errors import UserError
-from rvstm_tools.models import charges
 from rvstm_tools.options import Command, argument
 from rvstm_tools.texts import results
 from rvstm_tools.texts.blocks import CallLine

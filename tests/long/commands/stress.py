@@ -12,8 +12,8 @@ from pathlib import Path
 from random import Random
 
 from long import comparing
-from rvstm_developers import options, running, texts
 from long.drawing import blocks, sessions
+from rvstm_developers import options, running, texts
 from rvstm_tools.options import Command, argument
 from rvstm_tools.programs.pipes import Ended
 from rvstm_tools.programs.running import temporary_file

@@ -3,10 +3,10 @@
 import functools
 from collections.abc import Callable
 
-from rvstm_developers.machine_code import PAGE
 from long.models.machine import MEMORY_END, TEXT, Block, Program
+from rvstm_developers.machine_code import PAGE
 from rvstm_developers.texts import word
-from rvstm_tools.models.charges import StorageCall
+from rvstm_tools.debugging.charges import StorageCall
 from rvstm_tools.texts.blocks import CallLine, Rules
 from rvstm_tools.texts.keys import numbered_key as key
 

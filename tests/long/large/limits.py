@@ -5,13 +5,14 @@ from collections.abc import Callable, Iterable, Mapping
 from typing import NamedTuple
 
 from long.large.blocks import COUNT, LONGEST_PROGRAM, MOST_GAS, count
-from rvstm_developers.machine_code import EXECUTE, READ, Part, elf_of
+from long.models.inputs import Fault
 from long.models.machine import TEXT, Block
+from long.models.sessions import HIGHEST
+from rvstm_developers.machine_code import EXECUTE, READ, Part, elf_of
 from rvstm_developers.texts import HEADS, head_of
-from rvstm_tools.models.sessions import HIGHEST
 from rvstm_tools.sessions import answers, frames, requests
 from rvstm_tools.sessions.answers import Answer, Done
-from rvstm_tools.sessions.requests import Fault, Request, Word, key_field
+from rvstm_tools.sessions.requests import Request, Word, key_field
 from rvstm_tools.texts.blocks import field_of
 from rvstm_tools.texts.keys import numbered_key as key
 

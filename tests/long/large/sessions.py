@@ -6,13 +6,13 @@ from collections.abc import Callable, Iterable
 from dataclasses import dataclass
 from pathlib import Path
 
-from rvstm_developers import texts
 from long.large import blocks as large_blocks
 from long.large.blocks import COUNT, LAST, LONGEST_PROGRAM, MOST_GAS, MOST_PROGRAMS, count, each
+from long.models import sessions
 from long.models.machine import Block, Program
-from rvstm_tools.models import sessions
-from rvstm_tools.models.charges import StorageCall
-from rvstm_tools.models.sessions import Left, Ran
+from long.models.sessions import Left, Ran
+from rvstm_developers import texts
+from rvstm_tools.debugging.charges import StorageCall
 from rvstm_tools.programs import running
 from rvstm_tools.sessions import answers, frames, requests
 from rvstm_tools.sessions.answers import Answer, Done, Refusal

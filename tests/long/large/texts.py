@@ -4,13 +4,13 @@ import functools
 import math
 from typing import NamedTuple
 
-from rvstm_developers import texts
 from long.large import blocks
 from long.large.blocks import COUNT, LONGEST_PROGRAM, count
 from long.large.limits import Make, Trial
-from rvstm_developers.machine_code import EXECUTE, READ, WRITE, Part, elf_of
 from long.models import machine
 from long.models.machine import DATA, TEXT, Block, Call, Instruction
+from rvstm_developers import texts
+from rvstm_developers.machine_code import EXECUTE, READ, WRITE, Part, elf_of
 from rvstm_tools.texts.keys import numbered_key as key
 
 TEXT_WORDS, DATA_BYTES = 16_384, 61_440  # of a source at most

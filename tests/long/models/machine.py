@@ -6,14 +6,14 @@ import re
 from collections.abc import Iterable, Mapping, Sequence
 from typing import NamedTuple, Self
 
+from long.models import waits
 from rvstm_developers import machine_code as code
 from rvstm_developers import texts
 from rvstm_developers.machine_code import EXECUTE, PAGE, READ, WRITE, Part, elf_of
-from long.models import waits
 from rvstm_developers.texts import word
+from rvstm_tools.debugging import charges
+from rvstm_tools.debugging.charges import StorageCall
 from rvstm_tools.exploring.storages import changed_value
-from rvstm_tools.models import charges
-from rvstm_tools.models.charges import StorageCall
 from rvstm_tools.texts import blocks
 from rvstm_tools.texts.blocks import CallLine, Rules
 from rvstm_tools.texts.keys import KEY_LENGTH, Key, Storage

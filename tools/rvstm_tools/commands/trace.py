@@ -8,7 +8,7 @@ from rvstm_tools.debugging.replays import Replay
 from rvstm_tools.debugging.sessions import CallOf
 from rvstm_tools.debugging.traces import Places
 from rvstm_tools.errors import Status, UserError
-from rvstm_tools.models import charges
+from rvstm_tools.debugging import charges
 from rvstm_tools.options import Command, argument
 from rvstm_tools.pictures import flames
 from rvstm_tools.programs import finding, running

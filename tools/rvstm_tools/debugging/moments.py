@@ -13,7 +13,7 @@ from typing import NamedTuple
 from rvstm_tools.debugging import replays
 from rvstm_tools.debugging.sessions import LINES_AT_ONCE, MOST_BYTES, REFUSED, CallOf, Debugger, place_of
 from rvstm_tools.errors import UserError
-from rvstm_tools.models.charges import StorageCall
+from rvstm_tools.debugging.charges import StorageCall
 from rvstm_tools.programs.running import Program
 from rvstm_tools.texts import blockfiles, shown, words
 from rvstm_tools.texts.keys import KEY_LENGTH, Key

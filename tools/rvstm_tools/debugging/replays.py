@@ -9,8 +9,8 @@ from typing import NamedTuple
 
 from rvstm_tools.debugging.sessions import LINES_AT_ONCE, CallOf, Debugger
 from rvstm_tools.errors import UserError
-from rvstm_tools.models import charges
-from rvstm_tools.models.charges import StorageCall
+from rvstm_tools.debugging import charges
+from rvstm_tools.debugging.charges import StorageCall
 from rvstm_tools.texts import shown
 from rvstm_tools.texts.keys import KEY_LENGTH, Key
 from rvstm_tools.texts.results import End, Receipt

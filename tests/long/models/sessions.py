@@ -6,12 +6,14 @@ from dataclasses import dataclass
 from pathlib import Path
 from typing import NamedTuple
 
+from long.models import inputs
+from long.models.inputs import Fault
 from rvstm_tools.errors import UserError
 from rvstm_tools.programs.running import Runner
 from rvstm_tools.sessions import answers, frames, requests
 from rvstm_tools.sessions.answers import Answer, Done, Refusal, State
 from rvstm_tools.sessions.processes import Settings
-from rvstm_tools.sessions.requests import Fault, Request, Word
+from rvstm_tools.sessions.requests import Request, Word
 from rvstm_tools.texts import blocks
 from rvstm_tools.texts.keys import Key, Storage
 
@@ -230,7 +232,7 @@ class Model:
     # ---- a whole input
 
     def outcome(self, text: bytes) -> Outcome:
-        asked = requests.requests_of(text)
+        asked = inputs.requests_of(text)
         output = b"".join(self.answer(request).text() for request in asked.requests)
         if asked.fault is Fault.NONE:
             return Outcome(output, b"", 0)
