@@ -12,7 +12,8 @@ from rvstm_tools import errors
 from rvstm_tools.options import Command
 
 PACKAGES = {
-    "tools/rvstm_developers/commands": "tools/developers", "tools/rvstm_developers/bench": "bench", "tests/long/commands": "tools/developers",
+    "tools/rvstm_developers/commands": "tools/developers", "tools/rvstm_developers/bench": "bench",
+    "tests/long/commands": "tools/developers",
 }
 """The folders that have a module for each command, and the one that has a script for it."""
 sys.path.append(str(TOP / "tests"))

@@ -10,6 +10,7 @@ from rvstm_tools.programs import finding, running
 from rvstm_tools.programs.running import Runner
 from rvstm_tools.texts import schedules
 
+LENGTH = options.number(0, schedules.MOST_ENTRIES)
 DETAILS = """\
     rvstm-tools schedule WORKERS LENGTH [turns | worker N | random SEED]
     rvstm-tools schedule WORKERS --to-done BLOCK --from SCHEDULE
@@ -59,7 +60,7 @@ COMMAND = Command(
     arguments=(
         options.add_program,
         argument("workers", type=options.number(1, schedules.MOST_WORKERS), metavar="WORKERS", help="how many workers there are, 1 to 32"),
-        argument("length", type=options.number(0, schedules.MOST_ENTRIES), nargs="?", metavar="LENGTH", help="how many entries are printed"),
+        argument("length", type=LENGTH, nargs="?", metavar="LENGTH", help="how many entries are printed"),
         argument("form", nargs="*", metavar="FORM", help=f"{schedules.FORMS}; without it turns"),
         argument("--to-done", metavar="BLOCK", help="prints what must follow a list for this block file"),
         argument("--from", type=Path, dest="schedule", metavar="SCHEDULE", help="the list that is continued"),

@@ -159,10 +159,7 @@ class Run:
             broken = broken or self.go_on(calls[first : first + blocks.MOST_CALLS])
         if not broken and calls:
             broken = self.end()
-        return self.finding_at(calls, broken) if broken else None
-
-    def finding_at(self, calls: Sequence[Call], broken: Broken) -> Finding:
-        return Finding(list(calls[: broken.at + 1]), self.outcomes[: broken.at + 1], broken)
+        return Finding(list(calls[: broken.at + 1]), self.outcomes[: broken.at + 1], broken) if broken else None
 
     def _line_of(self, call: Call) -> str:
         data = blocks.field_of(call.kind.data(call.values))

@@ -38,10 +38,7 @@ class Session(Pipes):
 
     def ask(self, request: Request) -> Answer | None:
         """The answer to a request, or None if the process died before it was there in whole."""
-        return self.ask_bytes(request.text())
-
-    def ask_bytes(self, text: bytes) -> Answer | None:
-        return answers.next_answer(self.output) if self.give(text) else None
+        return answers.next_answer(self.output) if self.give(request.text()) else None
 
     def end(self, data: bytes = b"q\n") -> Ended:
         return super().end(data)

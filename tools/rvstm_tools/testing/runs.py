@@ -53,7 +53,7 @@ class Run:
         return result
 
     def misses(self) -> list[Miss]:
-        found = [miss for part in self.test.calls for miss in self._misses_of_call(part)]
+        found = [miss for part in self.test.calls for miss in self._misses_of(part, part.expectations, self.result.receipts[part.call])]
         if self.test.storage:
             found += self._misses_of(self.test.storage, self.test.storage.expectations, self.result.storage)
         return found
@@ -61,9 +61,6 @@ class Run:
     def gas(self) -> dict[int, int]:
         """For each line `gas at most`, what gas its call cost."""
         return {number: self.result.receipts[part.call].gas for part in self.test.calls for number in part.gas_lines()}
-
-    def _misses_of_call(self, part: CallPart) -> Iterator[Miss]:
-        return self._misses_of(part, part.expectations, self.result.receipts[part.call])
 
     def _misses_of(
         self, part: CallPart | StoragePart, expectations: Mapping[int, Expectation[Subject]], subject: Subject,
