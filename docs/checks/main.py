@@ -113,5 +113,6 @@ def run(given: argparse.Namespace) -> int:
 
 
 def main(words: Sequence[str] | None = None) -> int:
+    errors.print_all_letters()
     given = parser().parse_args(sys.argv[1:] if words is None else words)
     return errors.ended("docs/check", lambda: run(given))

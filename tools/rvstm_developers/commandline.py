@@ -2,7 +2,6 @@
 
 import argparse
 import importlib
-import io
 import sys
 from collections.abc import Sequence
 from pathlib import Path
@@ -45,7 +44,6 @@ def run(name: str, words: Sequence[str]) -> int:
 
 
 def main() -> int:
-    if isinstance(sys.stdout, io.TextIOWrapper):
-        sys.stdout.reconfigure(errors="backslashreplace")
+    errors.print_all_letters()
     name, *words = sys.argv[1:] or [""]
     return errors.ended(name or "rvstm-developers", lambda: run(name, words))

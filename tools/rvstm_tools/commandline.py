@@ -2,7 +2,6 @@
 
 import argparse
 import importlib
-import io
 import sys
 from collections.abc import Sequence
 
@@ -44,8 +43,7 @@ def subparsers_of(parser: argparse.ArgumentParser) -> dict[str, argparse.Argumen
 def main(words: Sequence[str] | None = None) -> int:
     """Runs the command that the words name, by default those of the command line."""
     words = sys.argv[1:] if words is None else words
-    if isinstance(sys.stdout, io.TextIOWrapper):
-        sys.stdout.reconfigure(errors="backslashreplace")  # a file's name may be no text of the terminal's encoding
+    errors.print_all_letters()
     names = words[:1] if words and words[0] in NAMES else NAMES
     given = parser_of([command_of(name) for name in names]).parse_args(words)
     command: Command = given.command

@@ -29,6 +29,12 @@ class MisuseError(UserError):
     """What is wrong with the command line."""
 
 
+def print_all_letters() -> None:
+    """Lets standard output take each text. A letter that its encoding does not have is printed by its number."""
+    if isinstance(sys.stdout, io.TextIOWrapper):
+        sys.stdout.reconfigure(errors="backslashreplace")
+
+
 def reason(error: Exception) -> str:
     if isinstance(error, BrokenPipeError):
         return "the output is closed"
