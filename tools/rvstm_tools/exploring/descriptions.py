@@ -114,26 +114,23 @@ class Description:
                 self._take_words(Line(self.path, number, found), text)
 
     def _take_words(self, line: Line, text: str) -> None:
+        takers = {
+            "draw": self._take_draw, "may-end": self._take_ends, "model": self._take_model, "method": self._take_method,
+            "storage": self._take_storage,
+        }
         if line.kind in OF_BLOCKS:
             self.blocks.take(line)
             if line.kind in ("store", "shape"):
                 (self.stores if line.kind == "store" else self.shapes).append(text)
-        elif line.kind == "draw":
-            self._take_draw(line.words[1:])
         elif line.kind == "call":
             self._take_call(line, text)
-        elif line.kind == "may-end":
-            self._take_ends(line.words[1:])
-        elif line.kind == MODEL:
-            self._take_model(line)
-        elif line.kind == "method":
-            self._take_method(line)
-        elif line.kind == "storage":
-            self._take_storage(line)
+        elif line.kind in takers:
+            takers[line.kind](line)
         else:
             raise UserError(f"{line.kind}: not {KINDS}")
 
-    def _take_draw(self, given: list[str]) -> None:
+    def _take_draw(self, line: Line) -> None:
+        given = line.words[1:]
         name = expressions.new_name(given[0] if given else "")
         if name in self.places:
             raise UserError(f"{name}: another line `draw` has this name")
@@ -201,8 +198,8 @@ class Description:
             named[place] = self.places[name]
         return named
 
-    def _take_ends(self, given: list[str]) -> None:
-        kind = self._last_kind("may-end")
+    def _take_ends(self, line: Line) -> None:
+        given, kind = line.words[1:], self._last_kind("may-end")
         wrong = [word for word in given if word not in OTHER_ENDS]
         if wrong or not given:
             raise UserError(f"{' '.join(wrong) or 'may-end'}: it is followed by some of {', '.join(OTHER_ENDS)}")
