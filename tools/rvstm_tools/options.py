@@ -66,12 +66,16 @@ def argument(*names: str, **how: Any) -> Adder:
 
 @dataclass(frozen=True)
 class Command:
-    name: str
     summary: str
     details: str
     example: str
     run: Callable[[argparse.Namespace], int]
     arguments: tuple[Adder, ...] = ()
+
+    @property
+    def name(self) -> str:
+        """That of its module."""
+        return self.run.__module__.rpartition(".")[2].replace("_", "-")
 
 
 @dataclass(frozen=True)

@@ -198,7 +198,8 @@ class CommandLine(unittest.TestCase):
         def run(_: object) -> int:
             raise raised
 
-        command = Command("name", "", "", "", run)
+        run.__module__ = "name"
+        command = Command("", "", "", run)
         with mock.patch.object(commandline, "command_of", lambda _: command), mock.patch.object(commandline, "NAMES", ("name",)):
             status, _, faults = called("name")
         return status, faults

@@ -149,7 +149,6 @@ def add_options(parser: argparse.ArgumentParser) -> None:
 
 
 COMMAND = Command(
-    "embedded",
     "Compares random sessions of the library for C with those of `rvstm chain`, byte for byte.",
     """
 A pair of sessions is side by side in one process, whose requests are mixed, and each session is also given to `rvstm chain` with the

@@ -301,7 +301,6 @@ def run(given: argparse.Namespace) -> int:
 
 
 COMMAND = Command(
-    "ends-model",
     "Checks with a model of the scheduler that each fair schedule ends, and prints 'N passed, M failed'.",
     """
 It walks through all states of small blocks, with one to three workers, and then along random schedules of random blocks, which it

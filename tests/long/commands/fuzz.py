@@ -294,7 +294,6 @@ def run(given: argparse.Namespace) -> int:
 
 
 COMMAND = Command(
-    "fuzz",
     "Feeds damaged files to the program, and prints 'N runs, M failed'.",
     """
 Each run takes a program, block file, source, schedule, list of debug lines or session of the repository, flips bits in it, cuts

@@ -263,7 +263,6 @@ def run(given: argparse.Namespace) -> int:
 
 
 COMMAND = Command(
-    "gdb-moves",
     "Compares random moves of `rvstm-tools gdb` with the whole trace of a call.",
     """
 The trace is made step by step, with the lines `s`, `r` and `m` of `rvstm debug`: the registers, the pc and the upper end of the stack

@@ -260,7 +260,6 @@ def run(given: argparse.Namespace) -> int:
 
 
 COMMAND = Command(
-    "growths",
     "Lets each request for memory fail in turn, and prints 'N runs, M failed'.",
     """
 Each command is run on an example again and again: the first time its first request for memory is refused, then its second, and so

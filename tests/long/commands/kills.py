@@ -211,7 +211,6 @@ def run(given: argparse.Namespace) -> int:
 
 
 COMMAND = Command(
-    "kills",
     "Kills sessions of `rvstm chain --store FILE` at random moments, and compares the next one with a session without a file.",
     """
 In each round a session over a file is asked how the one before left it (`state`, `last`, `programs`, `dump` and `list`), and then

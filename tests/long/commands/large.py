@@ -229,7 +229,6 @@ def run(given: argparse.Namespace) -> int:
 
 
 COMMAND = Command(
-    "large",
     "Gives the program large inputs, and inputs one beyond each limit, and prints time and memory of each.",
     """
 No proof sees a bound that nobody asked for: a body that refuses what is large although no rule limits it. So each row takes

@@ -62,7 +62,6 @@ def run(given: argparse.Namespace) -> int:
 
 
 COMMAND = Command(
-    "planted",
     "Prints how soon `rvstm-tools explore` finds each of ten bugs, and how many calls are left.",
     """
 examples/explored/bank.c is built with each of its bugs, by clang, lld and make, and explored by bank.explore and its model.

@@ -251,7 +251,6 @@ def run(given: argparse.Namespace) -> int:
 
 
 COMMAND = Command(
-    "power-cuts",
     "Cuts the power under `rvstm chain --store FILE`, on images of the disk, and compares what each holds with what was answered.",
     """
 It compiles store_recorder.c with cc. Loaded with LD_PRELOAD it writes each call to a list by which a session changes the file, its

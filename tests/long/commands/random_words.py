@@ -158,7 +158,6 @@ def run(given: argparse.Namespace) -> int:
 
 
 COMMAND = Command(
-    "random-words",
     "Runs programs of random words with `rvstm seq`, and compares each call with a replay that makes every step alone.",
     """
 `seq` makes the frequent steps in a loop over a page of code, and the line `s` of `debug` makes each step alone. The programs have

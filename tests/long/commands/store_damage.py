@@ -148,7 +148,6 @@ def run(given: argparse.Namespace) -> int:
 
 
 COMMAND = Command(
-    "store-damage",
     "Damages files of `rvstm chain --store FILE`, and compares what a session reads in them with what stock SQLite reads.",
     """
 It makes a file with some hundred keys, a program and an answer: once as a session leaves it that ended, without a log; and once as

@@ -460,7 +460,6 @@ def run(given: argparse.Namespace) -> int:
 
 
 COMMAND = Command(
-    "store-faults",
     "Gives `rvstm chain --store FILE` foreign, locked, changed and full files, and compares how it refuses or reads them.",
     """
 It tries what is no file of a session (texts, databases of others, a folder, links, a pipe, a device, a file without rights); two

@@ -156,7 +156,6 @@ def run(given: argparse.Namespace) -> int:
 
 
 COMMAND = Command(
-    "stress",
     "Runs random blocks with random numbers of workers, at once, along random lists and in sessions, and compares with `rvstm seq`.",
     """
 Half of the blocks call contracts of FOLDER, and half call random programs that read, write, remove and add to keys, a third of

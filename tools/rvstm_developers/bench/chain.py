@@ -276,7 +276,6 @@ def run(given: argparse.Namespace) -> int:
 
 
 COMMAND = Command(
-    "chain",
     "Times a block of 200 transfers with `rvstm chain` over 100 to 1,000,000 keys, beside `rvstm seq` in one process a block.",
     """
 The program of a session is handed in, and its first frame has the keys and no call. Then come blocks of transfers between random accounts,

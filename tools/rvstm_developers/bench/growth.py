@@ -86,7 +86,6 @@ def run(given: argparse.Namespace) -> int:
 
 
 COMMAND = Command(
-    "growth",
     "Times blocks that grow, with `rvstm seq` and with `rvstm run` with 4 workers, and draws a picture.",
     """
 Blocks of 64, 256 and 1,024 calls; a block of 256 calls over 10, 1,000 and 100,000 keys of the storage; a block of 64 calls that each

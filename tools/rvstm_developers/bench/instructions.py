@@ -92,7 +92,6 @@ def run(given: argparse.Namespace) -> int:
 
 
 COMMAND = Command(
-    "instructions",
     "Counts the instructions of the processor with callgrind, and prints two tables. The counts do not vary from run to run.",
     """
 It needs valgrind and gcc. The first table: what one instruction of a contract costs, by the difference of two gas limits, beside plainvm.c

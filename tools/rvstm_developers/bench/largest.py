@@ -60,7 +60,6 @@ def run(given: argparse.Namespace) -> int:
 
 
 COMMAND = Command(
-    "largest",
     "Times the largest inputs, and prints for each command the seconds and the most memory that it had, in MiB.",
     """
 The large block has 1,024 calls of 64 programs. Each program is a file of 131,072 bytes, and each call writes 256 keys. `seq` and `run`

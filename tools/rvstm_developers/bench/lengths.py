@@ -122,7 +122,6 @@ def run(given: argparse.Namespace) -> int:
 
 
 COMMAND = Command(
-    "lengths",
     "Times `rvstm run` with 2 and 4 workers beside `rvstm seq` on calls of 700 to 1,000,000 instructions, and draws a picture.",
     """
 The calls of a block are alike: each mixes a word and writes it to a key of its own. All programs run a block in turn, files and text

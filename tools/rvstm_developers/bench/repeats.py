@@ -59,7 +59,6 @@ def run(given: argparse.Namespace) -> int:
 
 
 COMMAND = Command(
-    "repeats",
     "Counts how often `rvstm run` runs the calls of blocks again, with 1 to 32 workers, beside the waits that `rvstm conflicts` prints.",
     """
 The blocks are those of the other benches, and for each example whose calls wait for each other a block of 1,000 calls: those of its

@@ -123,7 +123,6 @@ def run(given: argparse.Namespace) -> int:
 
 
 COMMAND = Command(
-    "run",
     "Times `rvstm seq` beside a plain interpreter in C, in one run, and prints tables.",
     """
 plainvm.c is built by each of gcc and clang that is there, with -O2 and -O3, with and without jump tables. Of each kind the build that is

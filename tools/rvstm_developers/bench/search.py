@@ -151,7 +151,6 @@ def run(given: argparse.Namespace) -> int:
 
 
 COMMAND = Command(
-    "search",
     "Looks for programs that take `rvstm seq` longest for each unit of gas, and prints the worst.",
     """
 Each program is drawn at random and never ends: a loop around operations, storage calls and jumps, over one page of code or many. It runs

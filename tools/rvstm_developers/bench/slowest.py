@@ -146,7 +146,6 @@ def run(given: argparse.Namespace) -> int:
 
 
 COMMAND = Command(
-    "slowest",
     "Times blocks that take a node longest, and prints seconds, processor seconds and the most memory, in MiB.",
     """
 There are two figures. Of calls that use up ten million gas, the most that a call may have, it is the time for a unit of gas; a block has

@@ -133,7 +133,6 @@ def run(given: argparse.Namespace) -> int:
 
 
 COMMAND = Command(
-    "storages",
     "Times blocks with `rvstm chain` over storages of four kinds of keys.",
     """
 A key is a small number after zeros; or a SHA-256; or one of sixteen that have one hash, so that the hints of where keys are serve half of

@@ -108,7 +108,6 @@ def run(given: argparse.Namespace) -> int:
 
 
 COMMAND = Command(
-    "threads",
     "Times `rvstm run` with 1, 2, 4 and 32 workers beside `rvstm seq` on five blocks, and draws a picture.",
     """
 Each time is the best of several runs of the whole program, all programs in turn, less the time of the same block with a gas limit of 1

@@ -139,7 +139,6 @@ def run(given: argparse.Namespace) -> int:
 
 
 COMMAND = Command(
-    "gate-cost",
     "Runs `rt ci` and prints what each crate costs it, in seconds of processor time.",
     """
 It looks at the processes of `rt ci` twice a second, and adds up what each of them used: by crate, and by whether it proved the crate,

@@ -18,7 +18,6 @@ def run(given: argparse.Namespace) -> int:
 
 
 COMMAND = Command(
-    "man-page",
     "Makes the man page of rvstm, man/rvstm.1, of the help of the program and of its commands.",
     "The page has no text of its own but its last part.",
     "crates/rvstm/out/rvstm --check",

@@ -49,7 +49,6 @@ def run(given: argparse.Namespace) -> int:
 
 
 COMMAND = Command(
-    "module-cost",
     "Prints what each module of a crate costs its check, in seconds, by the times of the files that the check kept.",
     """
 A check keeps a file for each module, as soon as it is checked. So the time between two files is what the second one took, if one job

@@ -170,7 +170,6 @@ def run(given: argparse.Namespace) -> int:
 
 
 COMMAND = Command(
-    "outside-causes",
     "Checks that a cause from outside is reported only if the outside reported it.",
     """
 No clause can say when an allocator or a file refuses, so a body could report want of memory if nothing was refused. This reads the

@@ -106,7 +106,6 @@ def is_elf(path: Path) -> bool:
 
 
 COMMAND = Command(
-    name="block",
     summary="Builds a block file from a list that people can read.",
     details=DETAILS,
     example="rvstm-tools block votes.list > votes.block",

@@ -29,7 +29,6 @@ def run(given: argparse.Namespace) -> int:
 
 
 COMMAND = Command(
-    name="conflicts",
     summary="Draws which calls of a block wait for which.",
     details=DETAILS,
     example="rvstm-tools conflicts votes.block --svg votes.svg --list votes.list",

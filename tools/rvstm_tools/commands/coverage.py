@@ -88,7 +88,6 @@ def add_list(program: Program, path: Path, programs: defaultdict[str, Steps]) ->
 
 
 COMMAND = Command(
-    name="coverage",
     summary="Says which lines and branches of contracts the calls of lists ran.",
     details=DETAILS,
     example="rvstm-tools coverage token.list refusals.list --lcov token.info",

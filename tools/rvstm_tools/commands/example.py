@@ -34,7 +34,6 @@ def run(given: argparse.Namespace) -> int:
 
 
 COMMAND = Command(
-    name="example",
     summary="Proves and builds rvstm, if that is not done yet, and runs an example.",
     details=DETAILS,
     example="rvstm-tools example counter",

@@ -111,7 +111,6 @@ def run(given: argparse.Namespace) -> int:
 
 
 COMMAND = Command(
-    name="explore",
     summary="Looks for calls that break what a contract has to keep.",
     details=DETAILS,
     example="rvstm-tools explore token.explore --seconds 10",

@@ -58,7 +58,6 @@ def run(given: argparse.Namespace) -> int:
 
 
 COMMAND = Command(
-    name="gdb",
     summary="Lets gdb debug a call of a block forward and backward, by lines of its source.",
     details=DETAILS,
     example='gdb-multiarch token.lines.elf -ex "target remote | rvstm-tools gdb token.block --call 2"',

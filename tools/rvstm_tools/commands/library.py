@@ -91,7 +91,6 @@ def run(_: argparse.Namespace) -> int:
 
 
 COMMAND = Command(
-    name="library",
     summary="Proves and builds the library for C: an archive and a shared object.",
     details=DETAILS,
     example="rvstm-tools library",

@@ -77,7 +77,6 @@ def build(folder: Path, name: str) -> None:
 
 
 COMMAND = Command(
-    name="new",
     summary="Makes a folder with a contract, its test and a description of random calls.",
     details=DETAILS,
     example="rvstm-tools new votes && rvstm-tools test votes",

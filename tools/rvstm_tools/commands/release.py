@@ -145,7 +145,6 @@ def run(given: argparse.Namespace) -> int:
 
 
 COMMAND = Command(
-    name="release",
     summary="Makes the files of a release: packages for Debian, an archive for other systems, and their checksums.",
     details=DETAILS,
     example="rvstm-tools release /tmp/release",

@@ -36,7 +36,6 @@ def run(given: argparse.Namespace) -> int:
 
 
 COMMAND = Command(
-    name="result",
     summary="Prints a result of rvstm for people, or as lines of JSON.",
     details=DETAILS,
     example="rvstm seq votes.block | rvstm-tools result --list votes.list",

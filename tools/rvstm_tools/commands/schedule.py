@@ -52,7 +52,6 @@ def continuation(runner: Runner, block: str, workers: int, begun: str) -> Sequen
 
 
 COMMAND = Command(
-    name="schedule",
     summary="Prints a schedule file for `rvstm drive`: one worker number a line.",
     details=DETAILS,
     example="rvstm-tools schedule 4 1000 random 7 > block.schedule",

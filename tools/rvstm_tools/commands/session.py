@@ -134,7 +134,6 @@ def answer_typed(client: Client) -> int:
 
 
 COMMAND = Command(
-    name="session",
     summary="Runs frames in a session of `rvstm chain`, and asks it.",
     details=DETAILS,
     example="rvstm-tools session --store ledger votes.list --get key:alice --state",

@@ -136,7 +136,6 @@ def lists_of(files: list[str]) -> Iterator[tuple[Path, bool]]:
 
 
 COMMAND = Command(
-    name="test",
     summary="Runs tests of contracts.",
     details=DETAILS,
     example="rvstm-tools test --variant gnu examples/token",

@@ -69,7 +69,6 @@ def receipt_of(runner: Runner, file: str, number: int) -> Receipt:
 
 
 COMMAND = Command(
-    name="trace",
     summary="Traces a call of a block: its storage calls, and its gas by function.",
     details=DETAILS,
     example="rvstm-tools trace votes.block --call 2 --svg votes.svg",

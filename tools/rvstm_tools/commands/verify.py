@@ -53,7 +53,6 @@ def run(given: argparse.Namespace) -> int:
 
 
 COMMAND = Command(
-    name="verify",
     summary="Says whether a program or a package has the proved program.",
     details=DETAILS,
     example="rvstm-tools verify rvstm_0.2.0_amd64.deb --sums SHA256SUMS",
