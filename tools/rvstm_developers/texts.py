@@ -1,8 +1,10 @@
 """Texts and bytes that many commands make: block files in each format, numbers, and folders that stay."""
 
+import os
 import shutil
 import tempfile
-from collections.abc import Iterable
+from collections.abc import Iterable, Iterator
+from contextlib import contextmanager
 from pathlib import Path
 
 from rvstm_tools.texts import blocks
@@ -33,6 +35,14 @@ def word(number: int, size: int = 4) -> bytes:
 
 def lines_of(items: Iterable[object]) -> str:
     return "".join(f"{item}\n" for item in items)
+
+
+@contextmanager
+def new_folder(prefix: str | None = None, *, is_in_memory: bool = False) -> Iterator[Path]:
+    """A folder that is removed at the end, in memory if that is asked for and there is such a place."""
+    memory = "/dev/shm" if is_in_memory and os.access("/dev/shm", os.W_OK) else None
+    with tempfile.TemporaryDirectory(prefix=prefix, dir=memory) as place:
+        yield Path(place)
 
 
 def kept_folder(prefix: str, files: Iterable[str | Path] = ()) -> Path:

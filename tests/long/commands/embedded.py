@@ -1,7 +1,6 @@
 import argparse
 import random
 import subprocess
-import tempfile
 from collections.abc import Iterator, Sequence
 from pathlib import Path
 from random import Random
@@ -128,8 +127,7 @@ def run(given: argparse.Namespace) -> int:
     if subprocess.run([TOP / "examples/embed/try", given.rvstm], check=False).returncode:
         raise UserError("the examples of examples/embed fail; what is wrong is above")
     choice = random.Random(given.seed)
-    with tempfile.TemporaryDirectory() as folder:
-        place = Path(folder)
+    with texts.new_folder() as place:
         driver = str(embedded_library.compile_driver(place, SANITIZERS if given.sanitizers else ()))
         paths = [programs.make(given.rvstm, choice, place / f"{number}.elf").name for number in range(PROGRAMS)]
         with Library([*(VALGRIND if given.valgrind else ()), driver]) as driven:

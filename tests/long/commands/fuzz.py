@@ -284,8 +284,8 @@ def fuzz_file(runs: Runs, choice: Random, kind: Kind, seed: Seed) -> None:
 
 def run(given: argparse.Namespace) -> int:
     end, choice, kinds = time.monotonic() + given.seconds, random.Random(given.seed), seeds()
-    with tempfile.TemporaryDirectory() as place:
-        runs = Runs(given.rvstm, Path(place))
+    with texts.new_folder() as place:
+        runs = Runs(given.rvstm, place)
         while time.monotonic() < end:
             kind = choice.choice(list(kinds))
             fuzz_file(runs, choice, kind, data_of(runs, choice, kind, kinds[kind]))

@@ -1,7 +1,6 @@
 import argparse
 import os
 import re
-import tempfile
 from collections.abc import Callable, Iterable, Iterator, Sequence
 from dataclasses import dataclass
 from pathlib import Path
@@ -251,8 +250,7 @@ def run_all(place: Path, trials: Iterable[Trial]) -> Sums:
 
 
 def run(given: argparse.Namespace) -> int:
-    with tempfile.TemporaryDirectory() as folder:
-        place = Path(folder)
+    with texts.new_folder() as place:
         trials = [*commands(given.rvstm, place), *sessions_of(given.rvstm, place)]
         sums = run_all(place, trials + ([*tests_of(given.tests, place)] if given.tests else []))
     print(f"{sums.runs} runs, {sums.failed} failed")

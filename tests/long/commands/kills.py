@@ -2,7 +2,6 @@ import argparse
 import random
 import signal
 import subprocess
-import tempfile
 import threading
 import time
 from collections import Counter
@@ -17,7 +16,7 @@ from long.models import inputs
 from long.models.inputs import Fault
 from long.stores import files
 from long.stores.files import QUESTIONS
-from rvstm_developers import options
+from rvstm_developers import options, texts
 from rvstm_tools import options as shared_options
 from rvstm_tools.options import Command, argument
 from rvstm_tools.programs.pipes import Ended
@@ -203,8 +202,8 @@ class Rounds:
 def run(given: argparse.Namespace) -> int:
     rounds = Rounds(given.rvstm, given.folder, random.Random(given.seed), Counter())
     while rounds.done < given.rounds:
-        with tempfile.TemporaryDirectory(prefix="kills-") as place:
-            rounds.over_one_file(Path(place), min(ROUNDS_A_FILE, given.rounds - rounds.done))
+        with texts.new_folder("kills-") as place:
+            rounds.over_one_file(place, min(ROUNDS_A_FILE, given.rounds - rounds.done))
     counted = ", ".join(f"{rounds.counts[name]} {name}" for name in sorted(rounds.counts))
     print(f"{rounds.done} rounds, {rounds.bad} bad; {counted}")
     return 1 if rounds.bad else 0

@@ -4,7 +4,6 @@ import itertools
 import json
 import subprocess
 import sys
-import tempfile
 from collections.abc import Callable, Iterator, Sequence
 from dataclasses import dataclass
 from pathlib import Path
@@ -216,8 +215,8 @@ def rows(bench: Bench) -> Iterator[Row]:
 
 
 def run(given: argparse.Namespace) -> int:
-    with tempfile.TemporaryDirectory(prefix="large-") as place:
-        bench = Bench(given.rvstm, Path(place))
+    with texts.new_folder("large-") as place:
+        bench = Bench(given.rvstm, place)
         asked = [row for row in rows(bench) if given.only in row.name]
         if given.list:
             print("\n".join(row.name for row in asked))

@@ -1,11 +1,11 @@
 import argparse
 import re
 import subprocess
-import tempfile
 import time
 from pathlib import Path
 from typing import NamedTuple
 
+from rvstm_developers import texts
 from rvstm_developers.running import output_of
 from rvstm_tools import options
 from rvstm_tools.errors import Status
@@ -48,8 +48,8 @@ def explored(words: list[str | Path]) -> Found | None:
 def run(given: argparse.Namespace) -> int:
     program, top = finding.chosen(options.program_choice(given), "planted"), checkouts.here("planted").top
     folder, failed = top / "examples/explored", 0
-    with tempfile.TemporaryDirectory() as place:
-        bank = Path(place, "bank.c")
+    with texts.new_folder() as place:
+        bank = place / "bank.c"
         bank.write_bytes((folder / "bank.c").read_bytes())
         for number, bug in enumerate(BUGS, 1):
             output_of(["make", "-s", "-f", top / "sdk/Makefile", "bank.elf", f"MORE=-DBUG={number}"], bank.parent)

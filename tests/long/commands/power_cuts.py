@@ -1,7 +1,6 @@
 import argparse
 import os
 import random
-import tempfile
 from collections import Counter
 from collections.abc import Iterable, Iterator
 from dataclasses import dataclass
@@ -13,7 +12,7 @@ from long.drawing import blocks, sessions
 from long.stores import disks, files
 from long.stores.disks import FILE, OUTPUT, Disk, Step
 from long.stores.files import Both
-from rvstm_developers import options, running
+from rvstm_developers import options, running, texts
 from rvstm_tools import options as shared_options
 from rvstm_tools.errors import UserError
 from rvstm_tools.options import Command, argument
@@ -237,10 +236,10 @@ def recorded_sessions(rvstm: Path, recorder: Recorder, choice: Random, folder: P
 
 
 def run(given: argparse.Namespace) -> int:
-    choice, memory = random.Random(given.seed), "/dev/shm" if os.access("/dev/shm", os.W_OK) else None
-    with tempfile.TemporaryDirectory(prefix="power-cuts-", dir=memory) as place:
-        recorder = Recorder(given.rvstm, Path(place))
-        images = Images(given.rvstm, choice, Path(place), recorder, given.most)
+    choice = random.Random(given.seed)
+    with texts.new_folder("power-cuts-", is_in_memory=True) as place:
+        recorder = Recorder(given.rvstm, place)
+        images = Images(given.rvstm, choice, place, recorder, given.most)
         counts = images.counts
         for what in recorded_sessions(given.rvstm, recorder, choice, given.folder):
             images.cut(what)

@@ -2,7 +2,6 @@ import argparse
 import os
 import random
 import shutil
-import tempfile
 import time
 from collections import Counter
 from collections.abc import Iterator, Sequence
@@ -118,8 +117,8 @@ class Tally:
 
 def compare(rvstm: Path, seed: str) -> Tally:
     choice: Random = random.Random(seed)
-    with tempfile.TemporaryDirectory() as folder:
-        file, block = Path(folder) / "random.elf", Path(folder) / "random.block"
+    with texts.new_folder() as folder:
+        file, block = folder / "random.elf", folder / "random.block"
         made = words.program_of(choice, words.Words(choice))
         file.write_bytes(made.file)
         limits = [LAUNCH_GAS + choice.choice(GAS_LIMITS) for _ in range(CALLS_A_PROGRAM)]

@@ -1,8 +1,6 @@
 import argparse
-import os
 import random
 import sqlite3
-import tempfile
 from collections import Counter
 from collections.abc import Iterable, Iterator
 from dataclasses import dataclass
@@ -11,7 +9,7 @@ from random import Random
 
 from long.stores import files
 from long.stores.files import Both
-from rvstm_developers import options, running
+from rvstm_developers import options, running, texts
 from rvstm_tools import options as shared_options
 from rvstm_tools.errors import UserError
 from rvstm_tools.options import Command, argument
@@ -136,9 +134,8 @@ class Damage:
 
 
 def run(given: argparse.Namespace) -> int:
-    memory = "/dev/shm" if os.access("/dev/shm", os.W_OK) else None
-    with tempfile.TemporaryDirectory(prefix="store-damage-", dir=memory) as place:
-        damage = Damage(given.rvstm, random.Random(given.seed), Path(place))
+    with texts.new_folder("store-damage-", is_in_memory=True) as place:
+        damage = Damage(given.rvstm, random.Random(given.seed), place)
         damage.open(damage.bytes_turned(given.long))
         damage.tell("bytes turned over")
         damage.open(damage.random(RANDOM_LONG if given.long else RANDOM))

@@ -6,7 +6,6 @@ import shutil
 import sqlite3
 import subprocess
 import sys
-import tempfile
 from collections.abc import Callable, Iterator, Mapping
 from contextlib import contextmanager, nullcontext, suppress
 from pathlib import Path
@@ -16,7 +15,7 @@ from typing import NamedTuple
 
 from long.stores import files
 from long.stores.files import NAMES, PLAIN, Both, Statement
-from rvstm_developers import options
+from rvstm_developers import options, texts
 from rvstm_tools import options as shared_options
 from rvstm_tools.errors import UserError
 from rvstm_tools.options import Command
@@ -450,9 +449,9 @@ TRIALS = (try_foreign, try_links, try_rights, try_two, try_journal, try_taken_aw
 
 
 def run(given: argparse.Namespace) -> int:
-    with tempfile.TemporaryDirectory(prefix="store-faults-") as place:
+    with texts.new_folder("store-faults-") as place:
         os.chmod(place, 0o755)
-        trial = Trial(given.rvstm, random.Random(given.seed), Path(place))
+        trial = Trial(given.rvstm, random.Random(given.seed), place)
         for part in TRIALS:
             part(trial)
     print(f"{trial.tried} trials, {trial.bad} bad")

@@ -4,7 +4,6 @@ import random
 import signal
 import subprocess
 import sys
-import tempfile
 import time
 from collections.abc import Iterator
 from dataclasses import dataclass
@@ -139,12 +138,12 @@ def run(given: argparse.Namespace) -> int:
     half, end = time.monotonic() + given.seconds / 2, time.monotonic() + given.seconds
     others: list[subprocess.Popen[bytes]] = []
     try:
-        with tempfile.TemporaryDirectory() as place:
-            done = Comparison(given.rvstm, given.folder, Path(place), choice)
+        with texts.new_folder() as place:
+            done = Comparison(given.rvstm, given.folder, place, choice)
             while time.monotonic() < end and not stop:
                 if not others and time.monotonic() > half:
                     others = busy()
-                programs = choice.choice((contracts, None)) or blocks.made_programs(given.rvstm, Path(place), choice)
+                programs = choice.choice((contracts, None)) or blocks.made_programs(given.rvstm, place, choice)
                 done.compare_block(programs)
                 if done.blocks % BLOCKS_A_SESSION == 0:
                     done.compare_session(programs)

@@ -3,14 +3,13 @@ import importlib.util
 import math
 import random
 import statistics
-import tempfile
 import time
 from collections.abc import Sequence
 from pathlib import Path
 from random import Random
 from typing import Protocol
 
-from rvstm_developers import options
+from rvstm_developers import options, texts
 from rvstm_developers.bench import blocks, commits, processes, tables
 from rvstm_developers.bench.blocks import Input, TimedBlock
 from rvstm_developers.bench.pictures import COLOURS, Picture, Point
@@ -266,8 +265,7 @@ def run(given: argparse.Namespace) -> int:
         commits.print_tables(given.rvstm, given.most)
         return 0
     settings = Settings(FRAME_LIMIT, digest=given.digest, brief=given.brief)
-    with tempfile.TemporaryDirectory() as folder:
-        place = Path(folder)
+    with texts.new_folder() as place:
         blocks.assemble(given.rvstm, place, "transfer")
         if not given.by_workers:
             print_by_keys(given, settings, place)

@@ -6,7 +6,6 @@ import re
 import shutil
 import struct
 import subprocess
-import tempfile
 import time
 from collections.abc import Iterator, Sequence
 from dataclasses import dataclass
@@ -204,8 +203,7 @@ def print_tables(rvstm: Path, most: int) -> None:
     rows: list[list[str]] = []
     calls: list[list[str]] = []
     starts: list[list[str]] = []
-    with tempfile.TemporaryDirectory(prefix="commits-") as folder:
-        place = Path(folder)
+    with texts.new_folder("commits-") as place:
         program, empty = compiled(place), memory_of_none(rvstm, place)
         for keys in (keys for keys in SIZES if keys <= most):
             with contextlib.closing(Stored(rvstm, program, place, keys)) as stored:

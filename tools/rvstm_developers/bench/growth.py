@@ -1,11 +1,10 @@
 import argparse
 import math
-import tempfile
 from collections.abc import Iterator, Sequence
 from dataclasses import dataclass
 from pathlib import Path
 
-from rvstm_developers import options
+from rvstm_developers import options, texts
 from rvstm_developers.bench import blocks, processes, tables
 from rvstm_developers.bench.blocks import Input, TimedBlock
 from rvstm_developers.bench.pictures import COLOURS, Picture, Point
@@ -74,8 +73,8 @@ def picture(rows: Sequence[Row]) -> Picture:
 
 
 def run(given: argparse.Namespace) -> int:
-    with tempfile.TemporaryDirectory() as place:
-        rows = list(measured(given.rvstm, Path(place)))
+    with texts.new_folder() as place:
+        rows = list(measured(given.rvstm, place))
     tables.print_head(["what grows", "size", "calls", "`seq`, ms", "a call, us", "`run`, 4 workers, ms", "a call, us"])
     for row in rows:
         times = (f"{part:.1f}" for spent in (row.seq, row.run) for part in (spent / 1000, spent / row.calls))

@@ -1,11 +1,10 @@
 import argparse
 import re
-import tempfile
 from collections.abc import Iterator, Sequence
 from dataclasses import dataclass
 from pathlib import Path
 
-from rvstm_developers import options, running
+from rvstm_developers import options, running, texts
 from rvstm_developers.bench import blocks, tables
 from rvstm_developers.bench.blocks import FOLDER, RULES, SPEED_PROGRAMS, Input, TimedBlock
 from rvstm_developers.running import Word
@@ -85,9 +84,9 @@ def print_calls(rvstm: Path, place: Path) -> None:
 
 
 def run(given: argparse.Namespace) -> int:
-    with tempfile.TemporaryDirectory() as place:
-        print_loops(given.rvstm, Path(place))
-        print_calls(given.rvstm, Path(place))
+    with texts.new_folder() as place:
+        print_loops(given.rvstm, place)
+        print_calls(given.rvstm, place)
     return 0
 
 

@@ -1,6 +1,5 @@
 import argparse
 import hashlib
-import tempfile
 from collections.abc import Sequence
 from pathlib import Path
 
@@ -41,8 +40,7 @@ def measured(rvstm: Path, place: Path, words: Sequence[str]) -> bytes:
 
 def run(given: argparse.Namespace) -> int:
     tables.print_head(["command", "seconds", "MiB"])
-    with tempfile.TemporaryDirectory() as folder:
-        place = Path(folder)
+    with texts.new_folder() as place:
         text = ElfFile(str(blocks.assemble(given.rvstm, place, "write"))).segments[0].data
         for number in range(PROGRAMS):
             (place / f"{number}.elf").write_bytes(program_of(text, number))

@@ -3,13 +3,12 @@ import math
 import os
 import statistics
 import subprocess
-import tempfile
 import time
 from collections.abc import Sequence
 from dataclasses import dataclass
 from pathlib import Path
 
-from rvstm_developers import options
+from rvstm_developers import options, texts
 from rvstm_developers.bench import blocks, processes, tables
 from rvstm_developers.bench.blocks import TimedBlock
 from rvstm_developers.bench.pictures import COLOURS, DARK_GREY, GREY, Picture, Point
@@ -108,8 +107,7 @@ def picture(found: Sequence[Rounds]) -> Picture:
 
 
 def run(given: argparse.Namespace) -> int:
-    with tempfile.TemporaryDirectory() as folder:
-        place = Path(folder)
+    with texts.new_folder() as place:
         blocks.assemble(given.rvstm, place, "work")
         yardstick = TimedBlock("", "work", blocks.mixing(YARDSTICK_LENGTH, YARDSTICK_CALLS)).text()
         (place / "yardstick.block").write_text(yardstick, encoding="utf-8")

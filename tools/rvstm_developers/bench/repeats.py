@@ -1,12 +1,11 @@
 import argparse
 import re
 import statistics
-import tempfile
 from collections.abc import Iterator
 from pathlib import Path
 from typing import NamedTuple
 
-from rvstm_developers import options, running
+from rvstm_developers import options, running, texts
 from rvstm_developers.bench import blocks, tables
 from rvstm_tools.errors import UserError
 from rvstm_tools.options import Command, argument
@@ -51,8 +50,7 @@ def row(rvstm: Path, place: Path, block: NamedText, runs: int) -> list[str]:
 
 
 def run(given: argparse.Namespace) -> int:
-    with tempfile.TemporaryDirectory() as folder:
-        place = Path(folder)
+    with texts.new_folder() as place:
         rows = (row(given.rvstm, place, block, given.runs) for block in all_blocks(given.rvstm, place))
         tables.print_table(["block", "calls", "waits", *map(tables.of_workers, WORKERS)], rows)
     return 0

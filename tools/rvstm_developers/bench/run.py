@@ -1,11 +1,10 @@
 import argparse
 import shutil
 import statistics
-import tempfile
 from collections.abc import Iterator, Mapping, Sequence
 from pathlib import Path
 
-from rvstm_developers import options, running
+from rvstm_developers import options, running, texts
 from rvstm_developers.bench import blocks, processes, tables
 from rvstm_developers.bench.blocks import FOLDER, SPEED_PROGRAMS, TimedBlock
 from rvstm_developers.running import Word
@@ -115,9 +114,9 @@ def print_place_of_loop(rvstm: Path) -> None:
 
 
 def run(given: argparse.Namespace) -> int:
-    with tempfile.TemporaryDirectory() as place:
-        print_whole(given.rvstm, given.old, Path(place))
-        print_short(given.rvstm, Path(place))
+    with texts.new_folder() as place:
+        print_whole(given.rvstm, given.old, place)
+        print_short(given.rvstm, place)
     print_place_of_loop(given.rvstm)
     return 0
 

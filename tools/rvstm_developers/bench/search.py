@@ -2,7 +2,6 @@ import argparse
 import random
 import statistics
 import sys
-import tempfile
 import time
 from dataclasses import dataclass
 from pathlib import Path
@@ -142,8 +141,8 @@ def print_long(bench: Bench, names: list[str]) -> None:
 
 
 def run(given: argparse.Namespace) -> int:
-    with tempfile.TemporaryDirectory() as place:
-        bench = Bench(given.rvstm, Path(place))
+    with texts.new_folder() as place:
+        bench = Bench(given.rvstm, place)
         without = "".join(f"-{unit}" for unit in given.without)
         names = given.programs or [found.name for found in search(bench, given.seconds, without)[: given.worst]]
         print_long(bench, names)

@@ -1,12 +1,11 @@
 import argparse
 import statistics
 import subprocess
-import tempfile
 from collections.abc import Callable, Sequence
 from dataclasses import dataclass
 from pathlib import Path
 
-from rvstm_developers import options as shared_options
+from rvstm_developers import options as shared_options, texts
 from rvstm_developers import texts
 from rvstm_developers.bench import blocks, slow_sessions, tables
 from rvstm_developers.bench.processes import Spent, sound, timed
@@ -133,8 +132,8 @@ def run(given: argparse.Namespace) -> int:
     if unknown := [row for row in rows if row not in NOTES]:
         raise MisuseError(f"there is no row {unknown[0]}: {', '.join(NOTES)}")
     calls, rounds = (2, 1) if given.quick else (given.calls, given.rounds)
-    with tempfile.TemporaryDirectory() as place:
-        options = Options(given.rvstm, Path(place), calls, rounds)
+    with texts.new_folder() as place:
+        options = Options(given.rvstm, place, calls, rounds)
         prepare(options)
         asked = [block for block in BLOCKS if block.name in rows]
         if asked:

@@ -2,7 +2,6 @@ import argparse
 import hashlib
 import random
 import statistics
-import tempfile
 from collections.abc import Callable, Mapping, Sequence
 from pathlib import Path
 
@@ -123,8 +122,8 @@ def print_kind(rvstm: Path, files: Mapping[str, bytes], kind: str, sizes: Sequen
 
 def run(given: argparse.Namespace) -> int:
     sizes = [keys for keys in SIZES if keys <= max(given.most, COMPARED)]
-    with tempfile.TemporaryDirectory() as place:
-        files = {source: blocks.assemble(given.rvstm, Path(place), source).read_bytes() for source in SOURCES}
+    with texts.new_folder() as place:
+        files = {source: blocks.assemble(given.rvstm, place, source).read_bytes() for source in SOURCES}
     tables.print_head(COLUMNS)
     for kind in KINDS if given.rounds else ():
         print_kind(given.rvstm, files, kind, sizes, given.rounds)

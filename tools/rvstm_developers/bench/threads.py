@@ -1,11 +1,10 @@
 import argparse
 import subprocess
-import tempfile
 from collections.abc import Iterable, Sequence
 from dataclasses import dataclass
 from pathlib import Path
 
-from rvstm_developers import options
+from rvstm_developers import options, texts
 from rvstm_developers.bench import blocks, processes, tables
 from rvstm_developers.bench.blocks import FOLDER, SPEED_PROGRAMS, Input, TimedBlock
 from rvstm_developers.bench.pictures import COLOURS, Picture, Point
@@ -86,8 +85,7 @@ def picture(rows: Sequence[Row]) -> Picture:
 
 
 def run(given: argparse.Namespace) -> int:
-    with tempfile.TemporaryDirectory() as folder:
-        place = Path(folder)
+    with texts.new_folder() as place:
         if given.programs:
             rates = [program_ratios(given.rvstm, place, number) for number in range(len(SPEED_PROGRAMS))]
             print_ratios("files and text included", zip(SPEED_PROGRAMS, rates))
