@@ -1,5 +1,6 @@
 """The commands as a user calls them: output, errors and statuses."""
 
+import io
 import json
 import os
 import subprocess
@@ -9,7 +10,7 @@ import xml.etree.ElementTree as ElementTree
 from pathlib import Path
 from unittest import mock
 
-from rvstm_tools import commandline
+from rvstm_tools import commandline, errors
 from rvstm_tools.errors import Status
 from rvstm_tools.options import Command
 from tests.helpers import InFolder, called
@@ -208,6 +209,13 @@ class CommandLine(unittest.TestCase):
         self.assertEqual(self.ended(FileNotFoundError(2, "No such file", "x")), (Status.FAILED, "name: x: No such file\n"))
         self.assertEqual(self.ended(BrokenPipeError()), (Status.FAILED, "name: the output is closed\n"))
         self.assertEqual(self.ended(KeyboardInterrupt()), (Status.INTERRUPTED, "name: interrupted\n"))
+
+    def test_a_letter_that_the_encoding_does_not_have(self) -> None:
+        written = io.BytesIO()
+        with mock.patch("sys.stdout", io.TextIOWrapper(written, encoding="ascii", write_through=True)):
+            errors.print_all_letters()
+            print("\u2261")
+            self.assertEqual(written.getvalue(), b"\\u2261\n")
 
     def test_a_mistake_of_the_tools_is_no_message(self) -> None:
         for mistake in (KeyError("b"), ValueError("x"), IndexError("y")):
