@@ -324,7 +324,7 @@ def long_program(number: int) -> bytes:
 
 def most_memory(session: Session) -> int:
     """The most bytes of addresses that a session had."""
-    found = re.search(r"^VmPeak:\s+(\d+) kB$", Path(f"/proc/{session.process.pid}/status").read_text(), re.M)
+    found = re.search(r"^VmPeak:\s+(\d+) kB$", Path(f"/proc/{session.process.pid}/status").read_text(encoding="utf-8"), re.M)
     assert found
     return 1024 * int(found[1])
 
