@@ -1,15 +1,12 @@
 -- The turns of a session over a file, and those of its state in memory.
-use Rattle.std.proofs.Common.{◌≡◌, ◌≢◌, ◌+◌, ℕ, List, Bool, true, false, cond, length, Option, Some, None, Result, Ok, Err, inl, inr, refl, sym, ap, subst, ◌∙◌, arith}
+use Rattle.std.proofs.Common.{◌≡◌, ◌≢◌, ◌+◌, ℕ, List, Bool, true, false, cond, length, Option, None, Result, Ok, Err, inl, inr, refl, sym, ap, subst, ◌∙◌, arith}
 use Rattle.std.specs.Prelude.{nat_le, nat_lt}
 use Rattle.std.specs.FinMap.{contains_key}
-use Rattle.std.specs.Option.{option_map}
 use Rattle.sha2.specs.Sha256.{sha256}
 use Rattle.elf32.specs.Layout.{Layout}
 use Rattle.requests.specs.Requests.{Ask, Program, Forget, Programs, Frame, Try, Last, Get, ListEntries, Dump, Begin, State as AskState}
 use Rattle.round_trips.specs.Begun.{EqualButLast}
 use Rattle.round_trips.proofs.Alike.{after_alike, reply_alike}
-use Rattle.session_file.specs.Opening.{answer_parts}
-use Rattle.session_file.specs.declared.rows.AnswerRow.{AnswerRow}
 use Rattle.session_states.specs.States.{FileState, last_of}
 use Rattle.sqlite_trees.specs.View.{View}
 use Rattle.turns.specs.Failures.{MayFail}
@@ -17,7 +14,7 @@ use Rattle.turns.specs.Pending.{IsDue, IsUndone}
 use Rattle.turns.specs.Replies.{Done, Refused, Reply, answer_text}
 use Rattle.turns.specs.Stages.{IsTurn, reply_in}
 use Rattle.turns.specs.Telling.{dump_text}
-use Rattle.turns.specs.Turn.{Accepted, Turn, accepted, frame_answer, last_reply, named_turn, program_of_file, program_turn, told, turn, with_program}
+use Rattle.turns.specs.Turn.{Accepted, Turn, accepted, frame_answer, named_turn, program_of_file, program_turn, told, turn, with_program}
 use Rattle.turns.specs.declared.answer.Answer.{Answer}
 use Rattle.turns.specs.declared.answer.Answer.TheVariants as answer
 use Rattle.turns.specs.declared.kept.KeptAnswer.{KeptAnswer}
@@ -28,8 +25,8 @@ use Rattle.turns.specs.declared.refusal.FrameRefusal.{FrameRefusal}
 use Rattle.turns.specs.declared.refusal.FrameRefusal.TheVariants.{FileTooLong, NoProgram, TooHigh}
 use Rattle.turns.specs.declared.settings.Settings.{Settings}
 use Rattle.turns.specs.declared.state.State.{State}
-use Rattle.durable_serving.specs.Durable.{IsFileAnswer, IsFileReply, last_behind, last_if_begun, last_text, moment}
-use Rattle.durable_serving.specs.Keeping.{IsByTurn, over}
+use Rattle.durable_serving.specs.Durable.{IsFileAnswer, IsFileReply, last_behind, last_if_begun, moment}
+use Rattle.durable_serving.specs.Keeping.{over}
 
 -- ---- a state without its last answer
 
@@ -139,23 +136,12 @@ by_turn settings s last ask given other h failed reply is =
       },
     )
 
--- `last`, if its turn answers it
-last_is : (s : State) (found : Option AnswerRow) → IsByTurn Last s found → (kept : Option KeptAnswer) → s.last ≡ kept → answer_text (last_reply kept) ≡ last_text (last_of kept (option_map answer_parts found))
-last_is s found by (Some kept) is = refl
-last_is s found by None is = ap (λ (o : Option AnswerRow). last_text (option_map answer_parts o)) (sym (by is))
-
-by_reply : (settings : Settings) (s : State) (found : Option AnswerRow) (ask : Ask) (given : Answer) → IsDue s ask (pending.Nothing given) → IsByTurn ask s found
-    → ((failure : Failure) → given ≡ answer.Failed failure → ⊥) → reply_in s given ≡ (turn settings s ask).reply → s ≡ (turn settings s ask).after
-    → Stays settings (over s (last_of s.last (option_map answer_parts found))) ask (answer_text (reply_in s given))
-by_reply settings s found Last given due by failed reply is = λ faults is_clean. inl (ap answer_text reply ∙ last_is s found by s.last refl, refl)
-by_reply settings s found ask given due by failed reply is = by_turn settings s (last_of s.last (option_map answer_parts found)) ask given (λ e. cc) due failed reply is
-
 -- an answer by which nothing changes
-pub told_answer : (settings : Settings) (s : State) (found : Option AnswerRow) (ask : Ask) (given : Answer) → IsTurn settings s ask given s → IsDue s ask (pending.Nothing given) → IsByTurn ask s found
-    → Stays settings (over s (last_of s.last (option_map answer_parts found))) ask (answer_text (reply_in s given))
-told_answer settings s found ask (answer.Failed failure) is due by = λ faults is_clean. inr (inl (failure, may_fail_bare settings s ask failure is.0, refl, refl))
-told_answer settings s found ask (answer.Storage buffer) is due by =
-    subst (λ (a : Ask). Stays settings (over s (last_of s.last (option_map answer_parts found))) a (answer_text (Done (dump_text s.rules s.store)))) (sym is.0) (λ faults is_clean. inl (refl, refl))
-told_answer settings s found ask (answer.Done bytes) is due by = by_reply settings s found ask (answer.Done bytes) due by (λ failure e. cc) is.0 is.1
-told_answer settings s found ask answer.Last is due by = by_reply settings s found ask answer.Last due by (λ failure e. cc) is.0 is.1
-told_answer settings s found ask (answer.Refused why) is due by = by_reply settings s found ask (answer.Refused why) due by (λ failure e. cc) is.0 is.1
+pub told_answer : (settings : Settings) (s : State) (last : Option (List ℕ × List ℕ)) (ask : Ask) (given : Answer) → IsTurn settings s ask given s → IsDue s ask (pending.Nothing given) → ask ≢ Last
+    → Stays settings (over s last) ask (answer_text (reply_in s given))
+told_answer settings s last ask (answer.Failed failure) is due other = λ faults is_clean. inr (inl (failure, may_fail_bare settings s ask failure is.0, refl, refl))
+told_answer settings s last ask (answer.Storage buffer) is due other =
+    subst (λ (a : Ask). Stays settings (over s last) a (answer_text (Done (dump_text s.rules s.store)))) (sym is.0) (λ faults is_clean. inl (refl, refl))
+told_answer settings s last ask (answer.Done bytes) is due other = by_turn settings s last ask (answer.Done bytes) other due (λ failure e. cc) is.0 is.1
+told_answer settings s last ask answer.Last is due other = by_turn settings s last ask answer.Last other due (λ failure e. cc) is.0 is.1
+told_answer settings s last ask (answer.Refused why) is due other = by_turn settings s last ask (answer.Refused why) other due (λ failure e. cc) is.0 is.1

@@ -105,12 +105,3 @@ lasts_on g old mid new a b = record {
     | inr more ↦ inr (omega (arith, b.counts, more))
   ];
 }
-
--- ---- what a crash leaves
-
--- what a file that is open keeps
-pub leaves_kept : (settings : Settings) (v : View) (f : FileState) (recovers : Trees → Type 0) → (v.is_open ≡ false → IsTrue v.is_broken) → ((db : Trees) → IsTrue v.is_open → recovers db → db ≡ v.committed)
-    → v.is_broken ≡ false → IsKeptBy settings v f → (db : Trees) → recovers db → HoldsState settings f db
-leaves_kept settings v f recovers shut settled sound (k, keeps, is) db left =
-    let still : IsTrue v.is_open = sound_open v shut sound in
-    (k, subst (λ (d : Trees). HoldsIn d k) (sym (settled db still left)) (is still).committed, keeps)

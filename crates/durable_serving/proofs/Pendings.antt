@@ -1,10 +1,6 @@
 -- What is pending of a request, and what a session over a file answers it.
-use Rattle.std.proofs.Common.{◌≡◌, ◌≢◌, ◌<◌, ◌≤◌, ◌⊎◌, ℕ, List, [], length, Bool, true, false, cond, IsTrue, Option, Some, None, inl, inr, refl, sym, ap, subst, ◌∙◌, arith}
-use Rattle.std.proofs.lemmas.Bool.Decides.{nat_tests}
-use Rattle.std.specs.Prelude.{nat_lt}
+use Rattle.std.proofs.Common.{◌≡◌, ◌≢◌, ◌<◌, ◌⊎◌, ℕ, List, [], Bool, true, false, IsTrue, Option, Some, None, inl, inr, refl, sym, ap, subst, ◌∙◌}
 use Rattle.std.specs.Option.{option_map}
-use Rattle.sha2.specs.Sha256.{sha256}
-use Rattle.elf32.specs.Image.{image_of}
 use Rattle.requests.specs.Requests.{Ask, Program, Forget, Frame, Last, Begin}
 use Rattle.round_trips.specs.Begun.{EqualButLast}
 use Rattle.round_trips.proofs.Alike.{after_alike, frame_after, reply_alike}
@@ -17,10 +13,10 @@ use Rattle.sqlite_trees.specs.Tree.{Trees}
 use Rattle.sqlite_trees.specs.View.{View, HasCause, IsClean}
 use Rattle.sqlite_trees.specs.declared.error.StoreError.{StoreError}
 use Rattle.sqlite_trees.specs.declared.error.StoreError.TheVariants as store
-use Rattle.turns.specs.Pending.{IsDue, IsMade, IsNewProgram, IsPending, IsPendingChange, IsRefusal, after_run_of, turn_of}
+use Rattle.turns.specs.Pending.{IsDue, IsMade, IsPending, IsPendingChange, after_run_of, turn_of}
 use Rattle.turns.specs.Replies.{Done, Refused, Reply, answer_text}
 use Rattle.turns.specs.Stages.{reply_in}
-use Rattle.turns.specs.Turn.{Turn, named_turn, program_turn, told, turn}
+use Rattle.turns.specs.Turn.{Turn, told, turn}
 use Rattle.turns.specs.declared.answer.Answer.{Answer}
 use Rattle.turns.specs.declared.answer.Answer.TheVariants as answer
 use Rattle.turns.specs.declared.kept.KeptAnswer.{KeptAnswer}
@@ -29,11 +25,10 @@ use Rattle.turns.specs.declared.pending.Pending.TheVariants as pending
 use Rattle.turns.specs.declared.pending.PendingFrame.{PendingFrame}
 use Rattle.turns.specs.declared.pending.PendingRun.{PendingRun}
 use Rattle.turns.specs.declared.refusal.FrameRefusal.{FrameRefusal}
-use Rattle.turns.specs.declared.refusal.FrameRefusal.TheVariants.{FileTooLong}
 use Rattle.turns.specs.declared.settings.Settings.{Settings}
 use Rattle.turns.specs.declared.state.State.{State}
 use Rattle.durable_serving.specs.Durable.{HoldsState, IsBeyondFormat, IsFileAnswer, IsLater, MayChange, MayRefuse, behind_turn, file_turn, last_behind, last_if_begun, moment}
-use Rattle.durable_serving.specs.Keeping.{IsAnsweredBy, IsBeyond, IsKeepCause, IsStorable, IsWanted, Leaves, body_in, course_of, next_state, over, pending_last}
+use Rattle.durable_serving.specs.Keeping.{IsAnsweredBy, IsBeyond, IsKeepCause, IsWanted, Leaves, next_state, over, pending_last, reply_of}
 use Rattle.durable_serving.specs.declared.keeping.KeepFault.{KeepFault}
 use Rattle.durable_serving.specs.declared.keeping.KeepFault.TheVariants.{Room, Store}
 use Rattle.durable_serving.proofs.FileTurns.{bare, bare_alike, forget_last, may_fail_bare, program_last, same_bare}
@@ -224,14 +219,14 @@ module _ (settings : Settings) (s : State) (found : Option AnswerRow) (ask : Ask
       → ((db : Trees) → now db → was db ⊎ HoldsState settings (next_state (over s last_now) p) db)
       → IsLater (moment (over s last_now) v m) (moment (file_state after later) w n) → (IsClean w → v.is_broken ≡ false)
       → (IsClean w → IsKeepCause v (MoreFaults m n) (IsBeyond settings s p) fault) → (is_shut ≡ true → IsClean w → MoreFaults m n)
-      → IsAnsweredBy settings (moment (file_state s found) v m) ask (course_of is_shut fault) after later (moment (file_state after later) w n) was now
+      → IsAnsweredBy settings (moment (file_state s found) v m) ask (reply_of is_shut fault) after later (moment (file_state after later) w n) × Leaves settings (over s last_now) ask was now
   not_kept later after is_shut fault change is wanted same_state same_found crash since sound cause shut = go is_shut fault wanted cause shut
     where
       same : file_state after later ≡ file_state s found
       same = (λ j. file_state (same_state j) (same_found j))
 
       go : (b : Bool) (e : KeepFault) → IsWanted p e → (IsClean w → IsKeepCause v (MoreFaults m n) (IsBeyond settings s p) e) → (b ≡ true → IsClean w → MoreFaults m n)
-          → IsAnsweredBy settings (moment (file_state s found) v m) ask (course_of b e) after later (moment (file_state after later) w n) was now
+          → IsAnsweredBy settings (moment (file_state s found) v m) ask (reply_of b e) after later (moment (file_state after later) w n) × Leaves settings (over s last_now) ask was now
       go true (Room failure) wants why failed = (record { later = since; failed = failed refl; cause = tt; may = is.changes; same = same }, leaves is crash)
       go true (Store error) wants why failed = (record { later = since; failed = failed refl; cause = refused_for (file_state after later) is sound error why; may = is.changes; same = same }, leaves is crash)
       go false (Room failure) wants why failed = ((since, inr (inl (failure, may_fail_bare settings s ask failure (change.room failure wants), refl, same))), leaves is crash)
@@ -243,48 +238,3 @@ change_of settings s ask (pending.Program name image text) is change = is
 change_of settings s ask (pending.Forget name) is change = is
 change_of settings s ask (pending.Frame frame) is change = is
 change_of settings s ask (pending.Begin begin) is change = is
-
--- ---- the file can have it
-
--- a program that is taken is no longer than one may be
-short_program : (s : State) (file bytes : List ℕ) → (program_turn s file).reply ≡ Done bytes → length file ≤ 131072
-short_program s file bytes taken = go (nat_lt 131072 (length file)) refl taken
-  where
-    go : (b : Bool) → nat_lt 131072 (length file) ≡ b → (cond b (told s (Refused FileTooLong)) (named_turn s (sha256 file) file)).reply ≡ Done bytes → length file ≤ 131072
-    go true is done = absurd cc
-    go false is done = grind (arith, nat_tests)
-
-pub storable : (settings : Settings) (s : State) (ask : Ask) (p : Pending) (body : List ℕ) → IsPending settings s ask p → body ≡ body_in ask → IsStorable body p
-storable settings s ask (pending.Nothing told) body is same = tt
-storable settings s ask (pending.Program name image text) body is same =
-    let (file, e, hash, loads) = is.asked in
-    let whole : body ≡ file = same ∙ ap body_in e in
-    let reply : (turn settings (bare s) (Program file)).reply ≡ Done text.items =
-    subst (λ (a : Ask). (turn settings (bare s) a).reply ≡ Done text.items) e (change_reply settings s ask _ is (no_last_program ask file e)) in
-    (ap sha256 whole ∙ sym hash, ap image_of whole ∙ loads, rw whole (short_program (bare s) file text.items reply))
-storable settings s ask (pending.Forget name) body is same = tt
-storable settings s ask (pending.Frame frame) body is same = tt
-storable settings s ask (pending.Begin begin) body is same = tt
-
--- a refusal can be had whatever bytes came
-pub storable_refusal : (p : Pending) (body : List ℕ) → IsRefusal p → IsStorable body p
-storable_refusal (pending.Nothing told) body refusal = tt
-storable_refusal (pending.Program name image text) body refusal = absurd refusal
-storable_refusal (pending.Forget name) body refusal = tt
-storable_refusal (pending.Frame frame) body refusal = tt
-storable_refusal (pending.Begin begin) body refusal = tt
-
--- a refusal is no program
-pub new_refusal : (s : State) (p : Pending) → IsRefusal p → IsNewProgram s p
-new_refusal s (pending.Nothing told) refusal = tt
-new_refusal s (pending.Program name image text) refusal = absurd refusal
-new_refusal s (pending.Forget name) refusal = tt
-new_refusal s (pending.Frame frame) refusal = tt
-new_refusal s (pending.Begin begin) refusal = tt
-
-pub is_new : (settings : Settings) (s : State) (ask : Ask) (p : Pending) → IsPending settings s ask p → IsNewProgram s p
-is_new settings s ask (pending.Nothing told) is = tt
-is_new settings s ask (pending.Program name image text) is = is.new
-is_new settings s ask (pending.Forget name) is = tt
-is_new settings s ask (pending.Frame frame) is = tt
-is_new settings s ask (pending.Begin begin) is = tt

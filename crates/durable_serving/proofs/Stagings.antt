@@ -29,7 +29,8 @@ use Rattle.turns.specs.declared.pending.PendingFrame.{PendingFrame}
 use Rattle.turns.specs.declared.pending.PendingRun.{PendingRun}
 use Rattle.turns.specs.declared.settings.Settings.{Settings}
 use Rattle.turns.specs.declared.state.State.{State}
-use Rattle.durable_serving.specs.Keeping.{IsBeyond, IsStorable, Spares, Stages, StagesRun, next_state, over}
+use Rattle.serving.specs.Asking.{IsStorable}
+use Rattle.durable_serving.specs.Keeping.{IsBeyond, Spares, Stages, StagesRun, next_state, over}
 
 -- a state after a run has the programs of the one before
 pub run_programs : (s : State) (run : Option PendingRun) → (after_run_of s run).programs ≡ s.programs

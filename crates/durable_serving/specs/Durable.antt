@@ -1,12 +1,9 @@
 -- A session over a file: what it answers, and what a crash leaves.
 use Rattle.std.specs.Prelude.{◌≡◌, ◌≢◌, ◌<◌, ◌≤◌, ◌⊎◌, ⊤, ℕ, Bool, List, [], ◌∷◌, ◌++◌, codes, Option, Some, None}
-use Rattle.std.specs.Io.KnownBytes.{Appends}
 use Rattle.std.specs.Option.{ForSome}
 use Rattle.byte_streams.specs.Refusals.{line_text}
-use Rattle.byte_streams.specs.declared.fault.WriteFault.{WriteFault}
-use Rattle.requests.specs.Requests.{Ask, Program, Forget, Frame, Last, Begin, requests_of}
-use Rattle.requests.specs.declared.request.RequestFault.{RequestFault}
-use Rattle.serving.specs.Serving.{AreAnswered, IsEndedBy, MayEnd, end_text, fault_of, until_quit}
+use Rattle.requests.specs.Requests.{Ask, Program, Forget, Frame, Last, Begin}
+use Rattle.serving.specs.Serving as serving
 use Rattle.session_file.specs.Kept.{HoldsIn, Kept}
 use Rattle.session_file.specs.Limits.{HasSmallNumbers, IsLongAnswer}
 use Rattle.session_states.specs.Faults.{parts_of}
@@ -24,8 +21,6 @@ use Rattle.turns.specs.declared.refusal.FrameRefusal.{FrameRefusal as Refusals}
 use Rattle.turns.specs.declared.refusal.FrameRefusal.TheVariants.{NoFrame}
 use Rattle.turns.specs.declared.settings.Settings.{Settings}
 use Rattle.turns.specs.declared.state.State.{State}
-use Rattle.durable_serving.specs.declared.answering.DurableFault.{DurableFault}
-use Rattle.durable_serving.specs.declared.answering.DurableFault.TheVariants.{Session, Store}
 
 -- ---- answers
 
@@ -127,25 +122,16 @@ abbrev pub HoldsNext : Settings → FileState → List Ask → Trees → Type 0
 HoldsNext settings f [] db = ⊥
 HoldsNext settings f (ask ∷ asks) db = HoldsState settings (file_turn settings f ask).1 db
 
--- a part of a text that is not all of it
-abbrev pub IsProperPart : List ℕ → List ℕ → Type 0
-IsProperPart part text = (left : List ℕ) × (left ≢ []) × (part ++ left ≡ text)
-
--- nothing, or a proper part of the answer to the next request: an answer that is whole counts as given; if no request is left, a
--- part of what is written last, or all of it, which changes nothing
-abbrev pub IsPart : Settings → Option RequestFault → FileMoment → List Ask → List ℕ → Type 0
-IsPart settings fault now [] part = (left : List ℕ) × (part ++ left ≡ end_text fault)
-IsPart settings fault now (ask ∷ asks) part = (part ≡ []) ⊎ ((text : List ℕ) × (next : FileMoment) × IsFileAnswer settings now ask text next × IsProperPart part text)
+-- a crash leaves one of these, and each holds what the answered requests leave, or the next one too
+abbrev pub IsLeft : Settings → (Trees → Type 0) → FileState → List Ask → Type 0
+IsLeft settings recovers f rest = (db : Trees) → recovers db → HoldsState settings f db ⊎ HoldsNext settings f rest db
 
 -- Wherever a session stops: the first requests of its input were answered in whole, and of the next answer a proper part at most;
 -- and a crash leaves what the answered requests leave, or the next one too. So as soon as an answer is whole, a crash leaves the
 -- session after it.
 abbrev pub IsStopped : Settings → FileMoment → List ℕ → Option (List ℕ) → Option (List ℕ) → (Trees → Type 0) → Type 0
 IsStopped settings old bytes before now recovers =
-    (heard : List Ask) × (rest : List Ask) × (text : List ℕ) × (mid : FileMoment) × (part : List ℕ)
-    × (until_quit (requests_of bytes).asks ≡ heard ++ rest) × AreAnswered (IsFileAnswer settings) old heard text mid
-    × Appends before now (text ++ part) × IsPart settings (fault_of (requests_of bytes)) mid rest part
-    × ((db : Trees) → recovers db → HoldsState settings mid.session db ⊎ HoldsNext settings mid.session rest db)
+    serving.IsStopped (IsFileAnswer settings) (λ mid rest _. IsLeft settings recovers mid.session rest) old bytes old before now
 
 -- ---- how a session ends
 
@@ -156,15 +142,3 @@ pub record IsShutBy (settings : Settings) (old : FileMoment) (ask : Ask) (fault 
   pub cause : MayRefuse settings old ask fault new
   pub may : MayChange settings old.session ask
   pub same : new.session ≡ old.session
-
--- by a fault of its input or its writer, as a session without a file; or since the file is shut
-abbrev pub IsDurablyEndedBy : Type 0 → Settings → DurableFault → FileMoment → List ℕ → FileMoment → Option (List ℕ) → Option (List ℕ) → Type 0
-IsDurablyEndedBy may_fail settings (Session fault) old bytes new before after = IsEndedBy may_fail (IsFileAnswer settings) fault old bytes new before after
-IsDurablyEndedBy may_fail settings (Store fault) old bytes new before after =
-    (heard : List Ask) × (ask : Ask) × (rest : List Ask) × (text : List ℕ) × (mid : FileMoment) × (until_quit (requests_of bytes).asks ≡ heard ++ ask ∷ rest)
-    × AreAnswered (IsFileAnswer settings) old heard text mid × Appends before after text × IsShutBy settings mid ask fault new
-
--- a write may have been refused so
-abbrev pub MayDurablyEnd : (WriteFault → Type 0) → DurableFault → Type 0
-MayDurablyEnd may_refuse (Session fault) = MayEnd may_refuse fault
-MayDurablyEnd may_refuse (Store fault) = ⊤

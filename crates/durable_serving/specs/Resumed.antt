@@ -2,10 +2,10 @@
 use Rattle.std.specs.Prelude.{◌≡◌, ◌⊎◌, ℕ, List, [], ◌∷◌, ◌++◌, Option}
 use Rattle.std.specs.Io.KnownBytes.{Appends}
 use Rattle.requests.specs.Requests.{Ask, requests_of}
-use Rattle.serving.specs.Serving.{AreAnswered, fault_of, until_quit}
+use Rattle.serving.specs.Serving.{AreAnswered, IsPart, fault_of, until_quit}
 use Rattle.session_states.specs.States.{FileState}
 use Rattle.turns.specs.declared.settings.Settings.{Settings}
-use Rattle.durable_serving.specs.Durable.{FileMoment, IsFileAnswer, IsPart, file_turn}
+use Rattle.durable_serving.specs.Durable.{FileMoment, IsFileAnswer, file_turn}
 
 -- the session that the next request leaves
 abbrev pub IsNext : Settings → FileState → List Ask → FileState → Type 0
@@ -18,5 +18,5 @@ abbrev pub IsResumed : Settings → FileMoment → List ℕ → Option (List ℕ
 IsResumed settings old bytes before now found =
     (heard : List Ask) × (rest : List Ask) × (text : List ℕ) × (mid : FileMoment) × (part : List ℕ)
     × (until_quit (requests_of bytes).asks ≡ heard ++ rest) × AreAnswered (IsFileAnswer settings) old heard text mid
-    × Appends before now (text ++ part) × IsPart settings (fault_of (requests_of bytes)) mid rest part
+    × Appends before now (text ++ part) × IsPart (IsFileAnswer settings) (fault_of (requests_of bytes)) mid rest part
     × ((found ≡ mid.session) ⊎ IsNext settings mid.session rest found)

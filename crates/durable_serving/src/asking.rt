@@ -1,155 +1,105 @@
-//! Doing what a request asks for.
+//! A session over a file, as requests meet it.
 
-ghost use Rattle.std.specs.Prelude.{◌≡◌, ◌≤◌, ℕ, List, false, IsTrue};
-ghost use Rattle.requests.specs.Reading.{Tells, ask_of};
-ghost use Rattle.requests.specs.Requests.{Ask, Is, request_of};
+ghost use Rattle.std.proofs.Common.{inl};
+ghost use Rattle.std.specs.Prelude.{◌≡◌, ◌≤◌, OnOk};
+ghost use Rattle.requests.specs.Requests.{Ask};
+ghost use Rattle.serving.specs.Asking.{Asks, IsStorable};
 ghost use Rattle.sqlite_trees.specs.View.{doubt};
-ghost use Rattle.turns.specs.Pending.{IsDue, IsNewProgram, IsPending};
-ghost use Rattle.durable_serving.specs.Keeping.{IsAnsweredBy, IsByTurn, IsCourseIn, IsFoundAsked, IsKeptIn, IsReady, IsUnbroken, IsStorable, body_in, course_of, moment_of};
+ghost use Rattle.turns.specs.Pending.{IsNewProgram};
+ghost use Rattle.durable_serving.specs.Durable.{IsFileAnswer, IsShutBy};
+ghost use Rattle.durable_serving.specs.Keeping.{IsDoneIn, IsKeptIn, IsUnbroken, MayLeave, moment_of, reply_of, reply_text, state_kept};
+ghost use Rattle.durable_serving.specs.Settled.{leaves_kept};
 
 use crate::keeping::{KeepFault, keep};
-use crate::reply::FileReply;
+use crate::reply::{FileReply, write_reply};
 use crate::session::FileSession;
-use requests::{Asked, Request, RequestFault};
-use session_file::AnswerRow;
+use byte_streams::{Destination, WriteFault};
+use serving::Session;
 use session_states::StoreFault;
 use sqlite_trees::store::Store;
 use std::alloc::Global;
-use turns::{
-    Answer, CallRunner, Pending, Settings, State, fail_unkept, pending_long, pending_turn,
-};
+use turns::{Answer, Pending, Settings, State};
 
-/// What comes of what was read.
-#[derive(Drop)]
-pub(crate) enum FileCourse {
-    /// A request, and this is its answer.
-    Answers(FileReply),
-    /// The end: a `q`, or the end of the input.
-    Ends,
-    /// The end, since the next bytes are no request.
-    Breaks(RequestFault),
-    /// The end, since the file is shut.
-    Shuts(StoreFault),
-}
+/// A file keeps it, and a failure of the file that only another open mends shuts it.
+impl<S: Store> Session for FileSession<S> {
+    type Reply = FileReply;
 
-/// Does what was read.
-pub(crate) fn take_asked<S: Store, C: CallRunner>(
-    alloc: Global,
-    runner: &mut C,
-    settings: Settings,
-    session: &mut FileSession<S>,
-    asked: Asked,
-) -> FileCourse
-    requires ready { C.ready }
-    requires kept { IsKeptIn S.Store settings session.old }
-    requires sound { IsUnbroken S.Store session.old }
-    ensures says { (xs ys : List ℕ) → Tells settings.frame_limit asked xs ys → IsCourseIn S.Store settings session.old result session.new xs ys }
-    ensures kept { IsKeptIn S.Store settings session.new }
-    ensures ready { IsReady session.new.found (S.Store.view session.new.file) result }
-    ensures clean { doubt (S.Store.view session.old.file).is_clean ≤ doubt (S.Store.view session.new.file).is_clean }
-{
-    match asked {
-        Asked::Whole(request) => take_request(alloc, runner, settings, session, request),
-        Asked::TooLong(line) => {
-            let pending = pending_long(alloc, &session.state, line);
-            take_pending(alloc, settings, session, &[], pending)
-        }
-        Asked::Unkept(line) => {
-            FileCourse::Answers(FileReply::Turn(fail_unkept(&session.state, line)))
-        }
-        Asked::Broken(fault) => FileCourse::Breaks(fault),
-        Asked::End => FileCourse::Ends,
+    type Fault = StoreFault;
+
+    ghost state = { λ s. s.state };
+
+    ghost is_kept = { IsKeptIn S.Store };
+
+    ghost is_open = { IsUnbroken S.Store };
+
+    ghost answers = { λ settings s ask text t. IsFileAnswer settings (moment_of S.Store s) ask text (moment_of S.Store t) };
+
+    ghost shuts = { λ settings s ask fault t. IsShutBy settings (moment_of S.Store s) ask fault (moment_of S.Store t) };
+
+    ghost leaves = { MayLeave S.Store };
+
+    ghost text_of = { λ s reply. reply_text s.state s.found reply };
+
+    ghost settled = { λ settings s rest kept sound clean db left.
+        inl (leaves_kept settings (S.Store.view s.file) (state_kept s) (S.Store.recovers s.file) (S.Store.broken_if_shut s.file) (S.Store.settled s.file) (sound clean) kept db left) };
+
+    fn state(&self) -> &State {
+        &self.state
+    }
+
+    fn last(&self) -> FileReply {
+        FileReply::Last
+    }
+
+    fn keep(
+        &mut self,
+        alloc: Global,
+        settings: Settings,
+        body: &[u8],
+        pending: Pending,
+    ) -> Result<FileReply, StoreFault> {
+        take_pending(alloc, settings, self, body, pending)
+    }
+
+    fn write<W: Destination>(&self, reply: FileReply, out: &mut W) -> Result<(), WriteFault> {
+        write_reply(self, reply, out)
     }
 }
 
-/// Does what a request asks for. A `q` has no answer.
-fn take_request<S: Store, C: CallRunner>(
-    alloc: Global,
-    runner: &mut C,
-    settings: Settings,
-    session: &mut FileSession<S>,
-    request: Request,
-) -> FileCourse
-    requires ready { C.ready }
-    requires kept { IsKeptIn S.Store settings session.old }
-    requires sound { IsUnbroken S.Store session.old }
-    ensures says { (xs ys : List ℕ) → request_of xs ≡ Is (ask_of request) ys → IsCourseIn S.Store settings session.old result session.new xs ys }
-    ensures kept { IsKeptIn S.Store settings session.new }
-    ensures ready { IsReady session.new.found (S.Store.view session.new.file) result }
-    ensures clean { doubt (S.Store.view session.old.file).is_clean ≤ doubt (S.Store.view session.new.file).is_clean }
-{
-    if is_found_asked(&request, &session.state, &session.found) {
-        return FileCourse::Answers(FileReply::Found);
-    }
-    match request {
-        Request::Quit => FileCourse::Ends,
-        request => {
-            let pending = pending_turn(alloc, runner, settings, &session.state, &request);
-            take_pending(alloc, settings, session, body_of(&request), pending)
-        }
-    }
-}
-
-/// Whether a `last` is asked before the first frame of this run, and an answer was found.
-fn is_found_asked(request: &Request, state: &State, found: &Option<AnswerRow>) -> bool
-    ensures yes { IsTrue result → IsFoundAsked (ask_of request.now) state.now found.now }
-    ensures no { result ≡ false → IsByTurn (ask_of request.now) state.now found.now }
-{
-    match request {
-        Request::Last => state.last.is_none() && found.is_some(),
-        _ => false,
-    }
-}
-
-/// The bytes of a program that a request hands in; none of any other.
-fn body_of(request: &Request) -> &[u8]
-    ensures { result.now ≡ body_in (ask_of request.now) }
-{
-    match request {
-        Request::Program(file) => file.as_slice(),
-        _ => &[],
-    }
-}
-
-/// Keeps what is pending of a request with these bytes after its line.
+/// Keeps what is pending of a request with these bytes after its line, and answers the request. Refused if the file is shut.
 fn take_pending<S: Store>(
     alloc: Global,
     settings: Settings,
     session: &mut FileSession<S>,
     body: &[u8],
     pending: Pending,
-) -> FileCourse
+) -> Result<FileReply, StoreFault>
     requires kept { IsKeptIn S.Store settings session.old }
     requires sound { IsUnbroken S.Store session.old }
     requires new { IsNewProgram session.old.state pending }
     requires storable { IsStorable body.now pending }
-    ensures says { (ask : Ask) → IsPending settings session.old.state ask pending → IsDue session.old.state ask pending → IsByTurn ask session.old.state session.old.found
-        → IsAnsweredBy settings (moment_of S.Store session.old) ask result session.new.state session.new.found (moment_of S.Store session.new) (S.Store.recovers session.old.file) (S.Store.recovers session.new.file) }
+    ensures says { (ask : Ask) → Asks settings session.old.state ask pending → IsDoneIn S.Store settings session.old ask result session.new }
     ensures kept { IsKeptIn S.Store settings session.new }
-    ensures ready { IsReady session.new.found (S.Store.view session.new.file) result }
+    ensures sound { OnOk result (IsUnbroken S.Store session.new) }
     ensures clean { doubt (S.Store.view session.old.file).is_clean ≤ doubt (S.Store.view session.new.file).is_clean }
 {
     match pending {
-        Pending::Nothing(answer) => FileCourse::Answers(FileReply::Turn(answer)),
+        Pending::Nothing(answer) => Ok(FileReply::Turn(answer)),
         pending => match keep(alloc, session, settings, body, pending) {
-            Ok(answer) => FileCourse::Answers(FileReply::Turn(answer)),
-            Err(fault) => course_of(session.file.is_shut(), fault),
+            Ok(answer) => Ok(FileReply::Turn(answer)),
+            Err(fault) => reply_of(session.file.is_shut(), fault),
         },
     }
 }
 
 /// What comes of a change that was not kept.
-fn course_of(is_shut: bool, fault: KeepFault) -> FileCourse
-    ensures { result ≡ course_of is_shut fault }
+fn reply_of(is_shut: bool, fault: KeepFault) -> Result<FileReply, StoreFault>
+    ensures { result ≡ reply_of is_shut fault }
 {
     match fault {
-        KeepFault::Room(_) if is_shut => FileCourse::Shuts(StoreFault::Memory),
-        KeepFault::Room(failure) => {
-            FileCourse::Answers(FileReply::Turn(Answer::Failed(failure)))
-        }
-        KeepFault::Store(error) if is_shut => FileCourse::Shuts(StoreFault::of_error(error)),
-        KeepFault::Store(error) => {
-            FileCourse::Answers(FileReply::Failed(StoreFault::of_error(error)))
-        }
+        KeepFault::Room(_) if is_shut => Err(StoreFault::Memory),
+        KeepFault::Room(failure) => Ok(FileReply::Turn(Answer::Failed(failure))),
+        KeepFault::Store(error) if is_shut => Err(StoreFault::of_error(error)),
+        KeepFault::Store(error) => Ok(FileReply::Failed(StoreFault::of_error(error))),
     }
 }

@@ -1,7 +1,8 @@
 //! Keeping what is pending: on the disk first, and then in memory.
 
 ghost use Rattle.turns.specs.Pending.{IsMade, IsNewProgram, MayWantRoom};
-ghost use Rattle.durable_serving.specs.Keeping.{IsFoundBehind, IsKeptIn, IsStorable, KeepsPending};
+ghost use Rattle.serving.specs.Asking.{IsStorable};
+ghost use Rattle.durable_serving.specs.Keeping.{IsFoundBehind, IsKeptIn, KeepsPending};
 
 use crate::session::FileSession;
 use crate::staging::stage;

@@ -2,7 +2,6 @@
 //! answer is written.
 #![tactic(auto)]
 
-mod answering;
 mod asking;
 mod keeping;
 mod laws;
@@ -11,7 +10,7 @@ mod reply;
 mod session;
 mod staging;
 
-pub use answering::{DurableFault, serve_durably};
 pub use laws::stopped_session_goes_on;
 pub use opening::{SessionFault, open_durably};
+pub use reply::FileReply;
 pub use session::FileSession;

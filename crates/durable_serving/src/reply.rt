@@ -1,22 +1,26 @@
 //! What a session over a file answers.
 
+ghost use Rattle.std.specs.Option.{option_map};
 ghost use Rattle.serving.specs.Writing.{Prints};
-ghost use Rattle.durable_serving.specs.Keeping.{HasReply, reply_text};
+ghost use Rattle.session_file.specs.Opening.{answer_parts};
+ghost use Rattle.session_states.specs.States.{last_of};
+ghost use Rattle.durable_serving.specs.Durable.{last_text};
+ghost use Rattle.durable_serving.specs.Keeping.{reply_text};
 
 use crate::session::FileSession;
 use byte_streams::{Destination, WriteFault, refusal_line};
 use serving::{write_answer, write_both};
 use session_states::StoreFault;
 use sqlite_trees::store::Store;
-use turns::Answer;
+use turns::{Answer, FrameRefusal};
 
 /// What a request is answered.
 #[derive(Drop)]
-pub(crate) enum FileReply {
+pub enum FileReply {
     /// As its turn says.
     Turn(Answer),
-    /// By the last answer, which was found in the file.
-    Found,
+    /// By the last answer.
+    Last,
     /// The file did not take what it changes.
     Failed(StoreFault),
 }
@@ -27,18 +31,33 @@ pub(crate) fn write_reply<S: Store, W: Destination>(
     reply: FileReply,
     out: &mut W,
 ) -> Result<(), WriteFault>
-    requires { HasReply session.now.found reply }
     ensures { Prints W.contents W.may_refuse W.is_flushed result out.old out.new (reply_text session.now.state session.now.found reply) }
 {
     match reply {
         FileReply::Turn(answer) => write_answer(&session.state, answer, out),
-        FileReply::Found => match &session.found {
-            Some(found) => write_both(found.line.as_slice(), found.bytes.as_slice(), out),
-            None => unreachable!(),
-        },
+        FileReply::Last => print_last(session, out),
         FileReply::Failed(fault) => {
             let line = refusal_line("failed ", fault.parts());
             write_both(line.as_str().as_bytes(), &[], out)
         }
+    }
+}
+
+/// Writes the last answer: that of this run, or the one that was found in the file, or the refusal if there is none.
+fn print_last<S: Store, W: Destination>(
+    session: &FileSession<S>,
+    out: &mut W,
+) -> Result<(), WriteFault>
+    ensures { Prints W.contents W.may_refuse W.is_flushed result out.old out.new (last_text (last_of session.now.state.last (option_map answer_parts session.now.found))) }
+{
+    match &session.state.last {
+        Some(_) => write_answer(&session.state, Answer::Last, out),
+        None => match &session.found {
+            Some(found) => write_both(found.line.as_slice(), found.bytes.as_slice(), out),
+            None => {
+                let none = Answer::Refused(FrameRefusal::NoFrame);
+                write_answer(&session.state, none, out)
+            }
+        },
     }
 }

@@ -10,7 +10,8 @@ ghost use Rattle.session_states.specs.States.{text_of};
 ghost use Rattle.turns.specs.Pending.{after_run_of};
 ghost use Rattle.turns.specs.Stages.{left_of};
 ghost use Rattle.turns.specs.declared.pending.Pending.TheVariants as pending;
-ghost use Rattle.durable_serving.specs.Keeping.{IsStorable, StagesPending, StagesRun};
+ghost use Rattle.serving.specs.Asking.{IsStorable};
+ghost use Rattle.durable_serving.specs.Keeping.{StagesPending, StagesRun};
 
 use rv_ledger::Rules;
 use session_file::SessionFile;

@@ -14,20 +14,19 @@ use Rattle.clap.specs.Words.{Text}
 use Rattle.cmdline.specs.Line.{Asked, RunOf, SeqOf, ConflictsOf, DriveOf, AsmOf, DisOf, DebugOf, MigrateOf, ChainOf}
 use Rattle.debugger.specs.Replay.{ReplayState}
 use Rattle.debugger.specs.Session.{AppendsBeginning, MayBeCutOff}
-use Rattle.durable_serving.specs.Durable.{FileMoment, IsDurablyEndedBy, IsFileAnswer}
-use Rattle.durable_serving.specs.declared.answering.DurableFault.{DurableFault}
-use Rattle.durable_serving.specs.declared.answering.DurableFault.TheVariants as durable
+use Rattle.durable_serving.specs.Durable.{FileMoment, IsFileAnswer, IsShutBy}
 use Rattle.requests.specs.Requests.{Ask, requests_of}
 use Rattle.requests.specs.declared.request.RequestFault.{RequestFault}
 use Rattle.rv_ledger.specs.declared.job.Job.{Job}
-use Rattle.serving.specs.Serving.{Answering, AreAnswered, IsCutAt, IsEndedBy, IsServed, end_text, fault_of, until_quit}
+use Rattle.serving.specs.Serving.{Answering, AreAnswered, IsCutAt, IsEndedBy, IsServed, Shutting, end_text, fault_of, until_quit}
 use Rattle.serving.specs.declared.serving.ServeFault.{ServeFault}
-use Rattle.serving.specs.declared.serving.ServeFault.TheVariants.{Broken, Unreadable, Output}
+use Rattle.serving.specs.declared.serving.ServeFault.TheVariants.{Broken, Unreadable, Output, Shut}
 use Rattle.turns.specs.Failures.{IsAnswer}
 use Rattle.turns.specs.Turn.{new_session}
 use Rattle.turns.specs.declared.settings.Settings.{Settings}
 use Rattle.engines.proofs.SameFiles.{text_is}
 use Rattle.engines.proofs.Told.{part_begins}
+use Rattle.engines.specs.Chain.{never_shut}
 use Rattle.engines.specs.Conflicts.{IsConflictsFault, IsConflictsText}
 use Rattle.engines.specs.Debug.{first_moment, replayed_text, session_text, IsReplayedFault}
 use Rattle.engines.specs.Dis.{IsListingFault, listing_of_file}
@@ -160,25 +159,21 @@ module _ {S : Type 0} (answers : Answering S) (first : S) (bytes : List ℕ) (ol
   answered heard rest text mid is done h =
       (heard, rest, text, mid, [], is, done, nothing_next (fault_of (requests_of bytes)) mid rest, subst (λ t. Appends old new t) (sym (append-nil text)) h)
 
-  ended : (may_fail : Type 0) (fault : ServeFault) (after : S) → IsEndedBy may_fail answers fault first bytes after old new → BeginsSession answers first bytes old new
-  ended may_fail (Broken fault) after h = served (Some fault) after h
-  ended may_fail Unreadable after h = answered h.0 h.1 h.2 after h.3 h.4 h.5
-  ended may_fail (Output fault) after h =
+  ended : {F : Type 0} (may_fail : Type 0) (shuts : Shutting S F) (fault : ServeFault F) (after : S) → IsEndedBy may_fail answers shuts fault first bytes after old new → BeginsSession answers first bytes old new
+  ended may_fail shuts (Broken fault) after h = served (Some fault) after h
+  ended may_fail shuts Unreadable after h = answered h.0 h.1 h.2 after h.3 h.4 h.5
+  ended may_fail shuts (Output fault) after h =
       (h.0, h.1, h.2, h.3, h.4, h.5, h.6, cut_at (fault_of (requests_of bytes)) h.3 after h.1 h.4 h.7, h.8)
-
-durably_ended : (may_fail : Type 0) (settings : Settings) (fault : DurableFault) (first after : FileMoment) (bytes : List ℕ) (old new : Option (List ℕ)) → IsDurablyEndedBy may_fail settings fault first bytes after old new
-    → BeginsSession (IsFileAnswer settings) first bytes old new
-durably_ended may_fail settings (durable.Session fault) first after bytes old new h = ended (IsFileAnswer settings) first bytes old new may_fail fault after h
-durably_ended may_fail settings (durable.Store fault) first after bytes old new h = answered (IsFileAnswer settings) first bytes old new h.0 (h.1 ∷ h.2) h.3 h.4 h.5 h.6 h.7
+  ended may_fail shuts (Shut fault) after h = answered h.0 (h.1 ∷ h.2) h.3 h.4 h.5 h.6 h.7
 
 of_cut : (settings : Settings) (old new : Option (List ℕ)) (bytes : List ℕ) (e : Refusal) → IsCutSession settings old new bytes e → (new ≡ old) ⊎ BeginsSession (IsAnswer settings) (new_session settings) bytes old new
 of_cut settings old new bytes e (inl h) = inl h.0
-of_cut settings old new bytes e (inr h) = inr (ended (IsAnswer settings) (new_session settings) bytes old new ⊤ h.0 h.1 h.3)
+of_cut settings old new bytes e (inr h) = inr (ended (IsAnswer settings) (new_session settings) bytes old new ⊤ never_shut h.0 h.1 h.3)
 
 of_kept : (may_fail : Type 0) (settings : Settings) (old new : Option (List ℕ)) (bytes : List ℕ) (e : Refusal) → IsCutKept may_fail settings old new bytes e
     → (new ≡ old) ⊎ ((first : FileMoment) × BeginsSession (IsFileAnswer settings) first bytes old new)
 of_kept may_fail settings old new bytes e (inl h) = inl h.0
-of_kept may_fail settings old new bytes e (inr (inl h)) = inr (h.1, durably_ended may_fail settings h.0 h.1 h.2 bytes old new h.4)
+of_kept may_fail settings old new bytes e (inr (inl h)) = inr (h.1, ended (IsFileAnswer settings) h.1 bytes old new may_fail (IsShutBy settings) h.0 h.2 h.4)
 of_kept may_fail settings old new bytes e (inr (inr h)) = inr (h.0.0, served (IsFileAnswer settings) h.0.0 bytes old new None h.0.1 h.0.2)
 
 over_input : {A : Type 0} (typed : Option (List ℕ)) (P Q : List ℕ → Type 0) → IfSome typed P → ((bytes : List ℕ) → P bytes → A ⊎ Q bytes) → A ⊎ IfSome typed Q

@@ -1,13 +1,12 @@
 -- What a session over a file asks of its stores.
 use Rattle.std.proofs.Common.{◌≡◌, ◌∙◌, ℕ, ◌++◌, List, ap, append_assoc, subst, inl, inr}
 use Rattle.std.specs.Prelude.{Option, Some, None, Result, Ok, Err, IfSome, OnErr, OnOk}
-use Rattle.durable_serving.specs.Durable.{FileMoment, IsDurablyEndedBy}
+use Rattle.durable_serving.specs.Durable.{FileMoment, IsFileAnswer, IsShutBy}
 use Rattle.durable_serving.specs.Opened as session
-use Rattle.durable_serving.specs.declared.answering.DurableFault.{DurableFault}
-use Rattle.durable_serving.specs.declared.answering.DurableFault.TheVariants as durable
 use Rattle.durable_serving.specs.declared.opening.SessionFault.{SessionFault}
 use Rattle.durable_serving.specs.declared.opening.SessionFault.TheVariants as unwanted
 use Rattle.requests.specs.declared.request.RequestFault.TheVariants as request
+use Rattle.serving.specs.Serving.{IsEndedBy}
 use Rattle.serving.specs.declared.serving.ServeFault.{ServeFault}
 use Rattle.serving.specs.declared.serving.ServeFault.TheVariants as serve
 use Rattle.session_disk.specs.declared.fault.OpenFault.{OpenFault}
@@ -18,7 +17,7 @@ use Rattle.session_states.specs.declared.fault.StoreFault.TheVariants.{Busy, Hot
 use Rattle.sqlite_trees.specs.declared.error.StoreError.{StoreError}
 use Rattle.sqlite_trees.specs.declared.error.StoreError.TheVariants as failure
 use Rattle.turns.specs.declared.settings.Settings.{Settings}
-use Rattle.engines.specs.Chain.{cut_of, durably_cut, fault_of}
+use Rattle.engines.specs.Chain.{durably_cut, fault_of}
 use Rattle.engines.specs.Opened.{Asks}
 use Rattle.engines.specs.Stores.{AsksAsTold, AsksForNone, AsksForSession, AsksInVain, IsOfSession, StoreOrder}
 use Rattle.engines.specs.declared.fault.Refusal.{Refusal}
@@ -87,22 +86,20 @@ ended (Store fault) old new path _ asks = inr (inr asks)
 ended fault old new path _ asks = asks
 
 -- how a session ends
-of_input : (fault : ServeFault) → IsOfSession (cut_of fault)
-of_input (serve.Broken request.BadLine) = tt
-of_input (serve.Broken request.Cut) = tt
-of_input serve.Unreadable = tt
-of_input (serve.Output fault) = tt
+of_end : (may_fail : Type 0) (settings : Settings) (fault : ServeFault StoreFault) (old new : FileMoment) (bytes : List ℕ) (before after : Option (List ℕ))
+    → IsEndedBy may_fail (IsFileAnswer settings) (IsShutBy settings) fault old bytes new before after → IsOfSession (durably_cut fault)
+of_end may_fail settings (serve.Broken request.BadLine) old new bytes before after h = tt
+of_end may_fail settings (serve.Broken request.Cut) old new bytes before after h = tt
+of_end may_fail settings serve.Unreadable old new bytes before after h = tt
+of_end may_fail settings (serve.Output fault) old new bytes before after h = tt
+of_end may_fail settings (serve.Shut Busy) old new bytes before after h = h.8.cause
+of_end may_fail settings (serve.Shut HotJournal) old new bytes before after h = h.8.cause
+of_end may_fail settings (serve.Shut NotASession) old new bytes before after h = h.8.cause
+of_end may_fail settings (serve.Shut OtherVersion) old new bytes before after h = h.8.cause
+of_end may_fail settings (serve.Shut OtherSettings) old new bytes before after h = h.8.cause
+of_end may_fail settings (serve.Shut fault) old new bytes before after h = tt
 
-of_end : (may_fail : Type 0) (settings : Settings) (fault : DurableFault) (old new : FileMoment) (bytes : List ℕ) (before after : Option (List ℕ)) → IsDurablyEndedBy may_fail settings fault old bytes new before after → IsOfSession (durably_cut fault)
-of_end may_fail settings (durable.Session fault) old new bytes before after h = of_input fault
-of_end may_fail settings (durable.Store Busy) old new bytes before after h = h.8.cause
-of_end may_fail settings (durable.Store HotJournal) old new bytes before after h = h.8.cause
-of_end may_fail settings (durable.Store NotASession) old new bytes before after h = h.8.cause
-of_end may_fail settings (durable.Store OtherVersion) old new bytes before after h = h.8.cause
-of_end may_fail settings (durable.Store OtherSettings) old new bytes before after h = h.8.cause
-of_end may_fail settings (durable.Store fault) old new bytes before after h = tt
-
-pub of_session : (may_fail : Type 0) (settings : Settings) (fault : DurableFault) (old new : FileMoment) (input : Option (List ℕ)) (before after : Option (List ℕ)) (e : Refusal) → e ≡ durably_cut fault
-    → IfSome input (λ bytes. IsDurablyEndedBy may_fail settings fault old bytes new before after) → IfSome input (λ _. IsOfSession e)
+pub of_session : (may_fail : Type 0) (settings : Settings) (fault : ServeFault StoreFault) (old new : FileMoment) (input : Option (List ℕ)) (before after : Option (List ℕ)) (e : Refusal) → e ≡ durably_cut fault
+    → IfSome input (λ bytes. IsEndedBy may_fail (IsFileAnswer settings) (IsShutBy settings) fault old bytes new before after) → IfSome input (λ _. IsOfSession e)
 of_session may_fail settings fault old new None before after e is h = tt
 of_session may_fail settings fault old new (Some bytes) before after e is h = rw is (of_end may_fail settings fault old new bytes before after h)

@@ -1,28 +1,41 @@
 -- How a session is refused.
-use Rattle.durable_serving.specs.declared.answering.DurableFault.{DurableFault}
-use Rattle.durable_serving.specs.declared.answering.DurableFault.TheVariants as durable
 use Rattle.session_disk.specs.declared.fault.OpenFault.{OpenFault}
 use Rattle.session_disk.specs.declared.fault.OpenFault.TheVariants as disk
 use Rattle.session_states.specs.declared.fault.StoreFault.{StoreFault}
 use Rattle.session_states.specs.declared.fault.StoreFault.TheVariants as told
+use Rattle.std.specs.declared.convert.Infallible.{Infallible}
+use Rattle.requests.specs.declared.request.RequestFault.{RequestFault}
 use Rattle.requests.specs.declared.request.RequestFault.TheVariants as request
+use Rattle.serving.specs.Serving.{Shutting}
 use Rattle.serving.specs.declared.serving.ServeFault.{ServeFault}
 use Rattle.serving.specs.declared.serving.ServeFault.TheVariants as serve
+use Rattle.turns.specs.declared.state.State.{State}
 use Rattle.engines.specs.declared.fault.InputFault.TheVariants.{BadLine, Cut, Unreadable}
 use Rattle.engines.specs.declared.fault.Refusal.{Refusal}
 use Rattle.engines.specs.declared.fault.Refusal.TheVariants.{Output, Request, Store}
 
--- why the command is refused where a fault ended its session
-abbrev pub cut_of : ServeFault → Refusal
-cut_of (serve.Broken request.BadLine) = Request BadLine
-cut_of (serve.Broken request.Cut) = Request Cut
+-- why the command is refused if bytes that are no request ended its session
+abbrev pub broken_of : RequestFault → Refusal
+broken_of request.BadLine = Request BadLine
+broken_of request.Cut = Request Cut
+
+-- why it is refused if a fault ended its session in memory, which nothing shuts
+abbrev pub cut_of : ServeFault Infallible → Refusal
+cut_of (serve.Broken fault) = broken_of fault
 cut_of serve.Unreadable = Request Unreadable
 cut_of (serve.Output fault) = Output fault
+cut_of (serve.Shut never) = elim never [ ]
 
--- why it is refused where a fault ended its session over a file
-abbrev pub durably_cut : DurableFault → Refusal
-durably_cut (durable.Session fault) = cut_of fault
-durably_cut (durable.Store fault) = Store fault
+-- no request shuts a session in memory
+abbrev pub never_shut : Shutting State Infallible
+never_shut s ask fault next = ⊥
+
+-- why it is refused if a fault ended its session over a file
+abbrev pub durably_cut : ServeFault StoreFault → Refusal
+durably_cut (serve.Broken fault) = broken_of fault
+durably_cut serve.Unreadable = Request Unreadable
+durably_cut (serve.Output fault) = Output fault
+durably_cut (serve.Shut fault) = Store fault
 
 -- what is told of a file that is not opened
 abbrev pub fault_of : OpenFault → StoreFault

@@ -2,6 +2,7 @@
 use Rattle.std.specs.Prelude.{◌≡◌, ◌⊎◌, ⊤, ℕ, Bool, true, codes, List, [], ◌∷◌, Option, Some, None, IfOk, IfSome, IsOkAnd}
 use Rattle.std.specs.Io.KnownBytes.{Appends}
 use Rattle.std.specs.Option.{option_map, unwrap_or}
+use Rattle.std.specs.declared.convert.Infallible.{Infallible}
 use Rattle.block_file.specs.Block.{block_of}
 use Rattle.block_file.specs.Migrate.{migrated}
 use Rattle.block_file.specs.Schedule.{schedule_of}
@@ -12,8 +13,7 @@ use Rattle.clap.specs.Words.{IsAmong, Kinds, Text, fault_of}
 use Rattle.clap.specs.declared.error.kind.ErrorKind.TheVariants as kind
 use Rattle.cmdline.specs.Line.{Asked, RunOf, SeqOf, ConflictsOf, DriveOf, AsmOf, DisOf, DebugOf, MigrateOf, ChainOf, requested, rvstm_app}
 use Rattle.debugger.specs.Session.{AppendsBeginning, MayBeCutOff}
-use Rattle.durable_serving.specs.Durable.{FileMoment, IsDurablyEndedBy, IsFileAnswer}
-use Rattle.durable_serving.specs.declared.answering.DurableFault.{DurableFault}
+use Rattle.durable_serving.specs.Durable.{FileMoment, IsFileAnswer, IsShutBy}
 use Rattle.serving.specs.Serving.{IsEndedBy, IsServed}
 use Rattle.serving.specs.declared.serving.ServeFault.{ServeFault}
 use Rattle.session_states.specs.declared.fault.StoreFault.{StoreFault}
@@ -25,7 +25,7 @@ use Rattle.turns.specs.Turn.{new_session}
 use Rattle.turns.specs.declared.settings.Settings.{Settings}
 use Rattle.turns.specs.declared.state.State.{State}
 use Rattle.workers.specs.declared.fault.RunFault.TheVariants as run
-use Rattle.engines.specs.Chain.{cut_of, durably_cut}
+use Rattle.engines.specs.Chain.{cut_of, durably_cut, never_shut}
 use Rattle.engines.specs.Conflicts.{AppendsConflicts, IsConflictsFault}
 use Rattle.engines.specs.Counts.{AreCountsAlong, AreCountsOfRun, counts_text}
 use Rattle.engines.specs.Debug.{replayed_text, IsReplayedFault}
@@ -145,12 +145,12 @@ ClosesStore {F} are_folded asked = ⊤
 -- how a session is refused, and what it answered by then: want of memory for its input, or a fault that ended it
 abbrev pub IsCutSession : Settings → Option (List ℕ) → Option (List ℕ) → List ℕ → Refusal → Type 0
 IsCutSession settings old new bytes e = ((new ≡ old) × (e ≡ Seq Memory))
-    ⊎ ((fault : ServeFault) × (after : State) × (e ≡ cut_of fault) × IsEndedBy ⊤ (IsAnswer settings) fault (new_session settings) bytes after old new)
+    ⊎ ((fault : ServeFault Infallible) × (after : State) × (e ≡ cut_of fault) × IsEndedBy ⊤ (IsAnswer settings) never_shut fault (new_session settings) bytes after old new)
 
 -- the same of one that a file keeps: also what the file is refused as, before the session or where it is closed behind it
 abbrev pub IsCutKept : Type 0 → Settings → Option (List ℕ) → Option (List ℕ) → List ℕ → Refusal → Type 0
 IsCutKept may_fail settings old new bytes e = ((new ≡ old) × ((e ≡ Seq Memory) ⊎ ((fault : StoreFault) × (e ≡ Store fault))))
-    ⊎ ((fault : DurableFault) × (first after : FileMoment) × (e ≡ durably_cut fault) × IsDurablyEndedBy may_fail settings fault first bytes after old new)
+    ⊎ ((fault : ServeFault StoreFault) × (first after : FileMoment) × (e ≡ durably_cut fault) × IsEndedBy may_fail (IsFileAnswer settings) (IsShutBy settings) fault first bytes after old new)
     ⊎ (PrintsKept settings old new bytes × ((fault : StoreFault) × (e ≡ Store fault)))
 
 abbrev pub IsRefusedSession : Settings → Option Text → Option (List ℕ) → Option (List ℕ) → List ℕ → Refusal → Type 0

@@ -1,13 +1,14 @@
 //! The engine of `rvstm chain`, over any input and writer.
 
 ghost use Rattle.std.specs.Prelude.{◌≡◌, false, IfErr, IfSome, None, OnOk};
-ghost use Rattle.durable_serving.specs.Durable.{IsDurablyEndedBy, IsFileAnswer, IsStopped, MayDurablyEnd, moment};
+ghost use Rattle.std.specs.declared.convert.Infallible.{Infallible};
+ghost use Rattle.durable_serving.specs.Durable.{IsFileAnswer, IsShutBy, IsStopped, moment};
 ghost use Rattle.durable_serving.specs.Keeping.{IsKeptBy};
-ghost use Rattle.durable_serving.specs.declared.answering.DurableFault.{DurableFault};
-ghost use Rattle.engines.specs.Chain.{cut_of, durably_cut};
+ghost use Rattle.engines.specs.Chain.{broken_of, cut_of, durably_cut, never_shut};
 ghost use Rattle.serving.specs.Serving.{IsEndedBy, IsServed, MayEnd};
 ghost use Rattle.serving.specs.declared.serving.ServeFault.{ServeFault};
 ghost use Rattle.session_states.specs.States.{file_state};
+ghost use Rattle.session_states.specs.declared.fault.StoreFault.{StoreFault};
 ghost use Rattle.sqlite_trees.specs.View.{IsClean};
 ghost use Rattle.turns.specs.Failures.{IsAnswer};
 ghost use Rattle.turns.specs.Turn.{new_session};
@@ -15,11 +16,13 @@ ghost use Rattle.turns.specs.declared.state.State.{State};
 
 use crate::fault::{InputFault, Refusal};
 use byte_streams::{BufferedSource, Destination};
-use durable_serving::{DurableFault, FileSession, serve_durably};
+use durable_serving::FileSession;
 use requests::RequestFault;
 use serving::{ServeFault, serve};
+use session_states::StoreFault;
 use sqlite_trees::store::Store;
 use std::alloc::Global;
+use std::convert::Infallible;
 use turns::{CallRunner, Settings, State};
 
 /// Answers each request of an input in a new session, up to a `q` or the input's end. A runner runs the calls of its frames,
@@ -36,9 +39,9 @@ pub fn chain_to<R: BufferedSource, C: CallRunner, W: Destination>(
     requires ready { C.ready }
     ensures ok { OnOk result (IfSome (R.remaining input.old) (λ bytes. (after : State)
         × IsServed (IsAnswer settings) None (new_session settings) bytes after (W.contents out.old) (W.contents out.new))) }
-    ensures err { IfErr result (λ e. IfSome (R.remaining input.old) (λ bytes. (fault : ServeFault) × (after : State) × (e ≡ cut_of fault)
-        × IsEndedBy (R.may_fail input.old) (IsAnswer settings) fault (new_session settings) bytes after (W.contents out.old) (W.contents out.new))) }
-    ensures refused { IfErr result (λ e. (fault : ServeFault) × (e ≡ cut_of fault) × MayEnd (W.may_refuse out.old) fault) }
+    ensures err { IfErr result (λ e. IfSome (R.remaining input.old) (λ bytes. (fault : ServeFault Infallible) × (after : State) × (e ≡ cut_of fault)
+        × IsEndedBy (R.may_fail input.old) (IsAnswer settings) never_shut fault (new_session settings) bytes after (W.contents out.old) (W.contents out.new))) }
+    ensures refused { IfErr result (λ e. (fault : ServeFault Infallible) × (e ≡ cut_of fault) × MayEnd (W.may_refuse out.old) fault) }
 {
     let mut state = State::new(alloc, settings);
     match serve(alloc, input, runner, settings, &mut state, out) {
@@ -47,21 +50,34 @@ pub fn chain_to<R: BufferedSource, C: CallRunner, W: Destination>(
     }
 }
 
-/// Why the command is refused where a fault ended its session.
-fn cut_of(fault: ServeFault) -> Refusal
+/// Why the command is refused if a fault ended its session.
+fn cut_of(fault: ServeFault<Infallible>) -> Refusal
     ensures { result ≡ cut_of fault }
 {
     match fault {
-        ServeFault::Broken(RequestFault::BadLine) => Refusal::Request(InputFault::BadLine),
-        ServeFault::Broken(RequestFault::Cut) => Refusal::Request(InputFault::Cut),
+        ServeFault::Broken(fault) => broken_of(fault),
         ServeFault::Unreadable => Refusal::Request(InputFault::Unreadable),
         ServeFault::Output(fault) => Refusal::Output(fault),
     }
 }
 
+/// Why it is refused if bytes that are no request ended its session.
+fn broken_of(fault: RequestFault) -> Refusal
+    ensures { result ≡ broken_of fault }
+{
+    match fault {
+        RequestFault::BadLine => Refusal::Request(InputFault::BadLine),
+        RequestFault::Cut => Refusal::Request(InputFault::Cut),
+    }
+}
+
 /// Answers each request of an input in the session of an open file, as `chain_to` does in a new session. What a request changes is
-/// on the disk before its answer is written. Refused as `chain_to` is, and as Store where the file is shut: the request that met
-/// that has no answer.
+/// on the disk before a byte of its answer is written. If the file did not take a change, and is open and as before, the answer is
+/// `failed store`, and the request may be given again. Refused as `chain_to` is, and as Store if the file is shut: only another open
+/// mends it, the request that met this has no answer, and the next session shows whether it was kept.
+///
+/// Wherever the session ends, a crash leaves what the requests that were answered in whole left, or the next one too. By the
+/// crash argument of the file's log the same holds if the machine stops at any moment of it.
 pub fn durable_chain_to<R: BufferedSource, S: Store, C: CallRunner, W: Destination>(
     alloc: Global,
     input: &mut R,
@@ -75,24 +91,27 @@ pub fn durable_chain_to<R: BufferedSource, S: Store, C: CallRunner, W: Destinati
     requires sound { IsClean (S.Store.view session.old.file) → (S.Store.view session.old.file).is_broken ≡ false }
     ensures ok { OnOk result (IfSome (R.remaining input.old) (λ bytes. IsServed (IsFileAnswer settings) None (moment (file_state session.old.state session.old.found) (S.Store.view session.old.file) (S.Store.faults session.old.file)) bytes
         (moment (file_state session.new.state session.new.found) (S.Store.view session.new.file) (S.Store.faults session.new.file)) (W.contents out.old) (W.contents out.new))) }
-    ensures err { IfErr result (λ e. (fault : DurableFault) × (e ≡ durably_cut fault) × IfSome (R.remaining input.old) (λ bytes. IsDurablyEndedBy (R.may_fail input.old) settings fault
+    ensures err { IfErr result (λ e. (fault : ServeFault StoreFault) × (e ≡ durably_cut fault) × IfSome (R.remaining input.old) (λ bytes. IsEndedBy (R.may_fail input.old) (IsFileAnswer settings) (IsShutBy settings) fault
         (moment (file_state session.old.state session.old.found) (S.Store.view session.old.file) (S.Store.faults session.old.file)) bytes (moment (file_state session.new.state session.new.found) (S.Store.view session.new.file) (S.Store.faults session.new.file)) (W.contents out.old) (W.contents out.new))) }
     ensures stopped { IsClean (S.Store.view session.new.file) → IfSome (R.remaining input.old) (λ bytes. IsStopped settings (moment (file_state session.old.state session.old.found) (S.Store.view session.old.file) (S.Store.faults session.old.file)) bytes
         (W.contents out.old) (W.contents out.new) (S.Store.recovers session.new.file)) }
-    ensures refused { IfErr result (λ e. (fault : DurableFault) × (e ≡ durably_cut fault) × MayDurablyEnd (W.may_refuse out.old) fault) }
+    ensures kept { IsKeptBy settings (S.Store.view session.new.file) (file_state session.new.state session.new.found) }
+    ensures refused { IfErr result (λ e. (fault : ServeFault StoreFault) × (e ≡ durably_cut fault) × MayEnd (W.may_refuse out.old) fault) }
 {
-    match serve_durably(alloc, input, runner, settings, session, out) {
+    match serve(alloc, input, runner, settings, session, out) {
         Ok(()) => Ok(()),
         Err(fault) => Err(durably_cut(fault)),
     }
 }
 
-/// Why the command is refused where a fault ended its session over a file.
-fn durably_cut(fault: DurableFault) -> Refusal
+/// Why the command is refused if a fault ended its session over a file.
+fn durably_cut(fault: ServeFault<StoreFault>) -> Refusal
     ensures { result ≡ durably_cut fault }
 {
     match fault {
-        DurableFault::Session(fault) => cut_of(fault),
-        DurableFault::Store(fault) => Refusal::Store(fault),
+        ServeFault::Broken(fault) => broken_of(fault),
+        ServeFault::Unreadable => Refusal::Request(InputFault::Unreadable),
+        ServeFault::Output(fault) => Refusal::Output(fault),
+        ServeFault::Shut(fault) => Refusal::Store(fault),
     }
 }

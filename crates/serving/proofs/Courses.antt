@@ -1,54 +1,54 @@
 -- What comes of what was read.
-use Rattle.std.proofs.Common.{◌≡◌, ◌<◌, ℕ, true, false, List, length, Some, None, refl}
-use Rattle.requests.specs.Reading.{Tells, ask_of, is_too_long}
-use Rattle.requests.specs.Requests.{Is, Quit, body_length, request_of, with_body}
-use Rattle.requests.specs.declared.request.Asked.TheVariants as asked
-use Rattle.requests.specs.declared.request.Request.{Request}
-use Rattle.requests.specs.declared.request.Request.TheVariants as one
-use Rattle.requests.specs.declared.request.RequestFault.{RequestFault}
+use Rattle.std.proofs.Common.{◌≡◌, ◌<◌, ℕ, true, List, arith}
+use Rattle.requests.specs.Reading.{is_too_long}
+use Rattle.requests.specs.Requests.{Ask, Last, Quit, body_length, with_body}
 use Rattle.requests.specs.declared.request.RequestLine.{RequestLine}
-use Rattle.turns.specs.Stages.{IsAnswered, IsTurn}
-use Rattle.turns.specs.Turn.{turn}
-use Rattle.turns.specs.declared.answer.Answer.{Answer}
-use Rattle.turns.specs.declared.settings.Settings.{Settings}
-use Rattle.turns.specs.declared.state.State.{State}
-use Rattle.serving.specs.Asking.{IsCourse}
+use Rattle.requests.specs.declared.request.RequestLine.TheVariants as line
+use Rattle.serving.specs.Asking.{ComesFirst, IsAnsweredBy, IsCourse}
+use Rattle.serving.specs.Serving.{Answering, Leaving, Shutting}
 use Rattle.serving.specs.declared.serving.Course.{Course}
-use Rattle.serving.specs.declared.serving.Course.TheVariants.{Answers, Breaks, Ends}
-use Rattle.serving.proofs.Answers.{never_fails}
-use Rattle.serving.proofs.Comes.{comes_first, no_quit, no_quit_kept, no_quit_long, none_comes, quit_comes}
+use Rattle.serving.specs.declared.serving.Course.TheVariants.{Answers, Breaks, Ends, Shuts}
 
-pub quit_ends : (settings : Settings) (s : State) (xs ys : List ℕ) → request_of xs ≡ Is Quit ys → IsCourse settings s Ends s xs ys
-quit_ends settings s xs ys is = (quit_comes xs ys is, refl)
+-- a request that was answered came first
+pub course_comes : {S R F : Type 0} (answers : Answering S) (shuts : Shutting S F) (leaves : Leaving S) (text_of : S → R → List ℕ) (s : S) (ask : Ask) (course : Course R F) (after : S) (xs ys : List ℕ)
+    → ComesFirst ask xs ys → IsAnsweredBy answers shuts leaves text_of s ask course after → IsCourse answers shuts leaves text_of s course after xs ys
+course_comes answers shuts leaves text_of s ask (Answers reply) after xs ys comes is = (ask, comes, is)
+course_comes answers shuts leaves text_of s ask (Shuts fault) after xs ys comes is = (ask, comes, is)
+course_comes answers shuts leaves text_of s ask Ends after xs ys comes is = absurd is
+course_comes answers shuts leaves text_of s ask (Breaks fault) after xs ys comes is = absurd is
 
-pub other_done : (settings : Settings) (s after : State) (request : Request) (given : Answer) → (request ≡ one.Quit → ⊥) → IsTurn settings s (ask_of request) given after
-    → (xs ys : List ℕ) → request_of xs ≡ Is (ask_of request) ys → IsCourse settings s (Answers given) after xs ys
-other_done settings s after request given other done xs ys is = (ask_of request, comes_first (ask_of request) xs ys (no_quit request other) is, done)
+-- ---- requests whose bytes were passed over are no `last`
 
-pub whole_done : (settings : Settings) (s after : State) (request : Request) (course : Course) → ((xs ys : List ℕ) → request_of xs ≡ Is (ask_of request) ys → IsCourse settings s course after xs ys)
-    → (xs ys : List ℕ) → Tells settings.frame_limit (asked.Whole request) xs ys → IsCourse settings s course after xs ys
-whole_done settings s after request course done xs ys (is, fits) = done xs ys is
+pub no_last_long : (limit : ℕ) (said : RequestLine) (bytes : List ℕ) → is_too_long limit said ≡ true → with_body said bytes ≡ Last → ⊥
+no_last_long limit line.Last bytes long e = cc
+no_last_long limit (line.Program size) bytes long e = cc
+no_last_long limit (line.Forget name) bytes long e = cc
+no_last_long limit line.Programs bytes long e = cc
+no_last_long limit (line.Frame size) bytes long e = cc
+no_last_long limit (line.Try size) bytes long e = cc
+no_last_long limit (line.Get key) bytes long e = cc
+no_last_long limit (line.List key count) bytes long e = cc
+no_last_long limit line.Dump bytes long e = cc
+no_last_long limit (line.Begin height digest size) bytes long e = cc
+no_last_long limit line.State bytes long e = cc
+no_last_long limit line.Quit bytes long e = cc
 
-pub long_done : (settings : Settings) (s after : State) (said : RequestLine) (given : Answer)
-    → ((known : Settings) (bytes : List ℕ) → length bytes ≡ body_length said → is_too_long known.frame_limit said ≡ true → IsAnswered (λ _. ⊥) s (turn known s (with_body said bytes)) given after)
-    → (xs ys : List ℕ) → Tells settings.frame_limit (asked.TooLong said) xs ys → IsCourse settings s (Answers given) after xs ys
-long_done settings s after said given done xs ys ((bytes, is, size), long) = (
-  with_body said bytes,
-  comes_first (with_body said bytes) xs ys (no_quit_long settings.frame_limit said bytes long) is,
-  never_fails settings s (with_body said bytes) given after (done settings bytes size long),
-)
+no_bytes : 0 < 0 → ⊥
+no_bytes h = omega (arith, h)
 
-pub unkept_done : (settings : Settings) (s after : State) (said : RequestLine) (given : Answer)
-    → ((known : Settings) (bytes : List ℕ) → length bytes ≡ body_length said → is_too_long known.frame_limit said ≡ false → 0 < body_length said → IsTurn known s (with_body said bytes) given after)
-    → (xs ys : List ℕ) → Tells settings.frame_limit (asked.Unkept said) xs ys → IsCourse settings s (Answers given) after xs ys
-unkept_done settings s after said given done xs ys ((bytes, is, size), fits, some) = (
-  with_body said bytes,
-  comes_first (with_body said bytes) xs ys (no_quit_kept said bytes some) is,
-  done settings bytes size fits some,
-)
+pub no_last_kept : (said : RequestLine) (bytes : List ℕ) → 0 < body_length said → with_body said bytes ≡ Last → ⊥
+no_last_kept line.Last bytes some e = no_bytes some
+no_last_kept (line.Program size) bytes some e = cc
+no_last_kept (line.Forget name) bytes some e = cc
+no_last_kept line.Programs bytes some e = cc
+no_last_kept (line.Frame size) bytes some e = cc
+no_last_kept (line.Try size) bytes some e = cc
+no_last_kept (line.Get key) bytes some e = cc
+no_last_kept (line.List key count) bytes some e = cc
+no_last_kept line.Dump bytes some e = cc
+no_last_kept (line.Begin height digest size) bytes some e = cc
+no_last_kept line.State bytes some e = cc
+no_last_kept line.Quit bytes some e = cc
 
-pub broken_ends : (settings : Settings) (s : State) (fault : RequestFault) (xs ys : List ℕ) → Tells settings.frame_limit (asked.Broken fault) xs ys → IsCourse settings s (Breaks fault) s xs ys
-broken_ends settings s fault xs ys is = (none_comes xs (Some fault) is, refl)
-
-pub input_ends : (settings : Settings) (s : State) (xs ys : List ℕ) → Tells settings.frame_limit asked.End xs ys → IsCourse settings s Ends s xs ys
-input_ends settings s xs ys is = (none_comes xs None is, refl)
+pub last_no_quit : (ask : Ask) → ask ≡ Last → ask ≡ Quit → ⊥
+last_no_quit ask is e = cc

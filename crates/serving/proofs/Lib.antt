@@ -3,5 +3,8 @@ pub mod Comes
 pub mod Courses
 pub mod Failed
 pub mod Folds
+pub mod Seen
 pub mod Serves
+pub mod Stops
+pub mod Storables
 pub mod Writes

@@ -7,10 +7,10 @@ use Rattle.requests.specs.Requests.{Ask, requests_of}
 use Rattle.requests.specs.declared.request.Asked.{Asked}
 use Rattle.requests.specs.declared.request.RequestFault.{RequestFault}
 use Rattle.requests.proofs.Taken.{known_then}
-use Rattle.serving.specs.Asking.{IsNext, IsTold, NothingComes}
-use Rattle.serving.specs.Serving.{Answering, AreAnswered, IsCutOff, IsEndedBy, IsServed, IsUnread, end_text, fault_of, until_quit}
+use Rattle.serving.specs.Asking.{ComesFirst, IsNext, IsTold, NothingComes}
+use Rattle.serving.specs.Serving.{Answering, AreAnswered, IsCutOff, IsEndedBy, IsServed, IsShut, IsUnread, Shutting, end_text, fault_of, until_quit}
 use Rattle.serving.specs.declared.serving.ServeFault.{ServeFault}
-use Rattle.serving.specs.declared.serving.ServeFault.TheVariants.{Broken, Output, Unreadable}
+use Rattle.serving.specs.declared.serving.ServeFault.TheVariants.{Broken, Output, Shut, Unreadable}
 
 -- so many requests were answered, and nothing behind them was read
 pub record IsServing {S : Type 0} (answers : Answering S) (old now : S) (before mid : Option (List ℕ)) (count : ℕ) (xs ys : List ℕ) : Type 0 where
@@ -101,12 +101,13 @@ module _ {S : Type 0} (answers : Answering S) where
     Appends-trans before mid last s.text part s.wrote writes,
   )
 
-  ended : (may_fail : Type 0) (fault : RequestFault) (told : ServeFault) (old now next : S) (before mid last : Option (List ℕ)) (count : ℕ) (xs ys : List ℕ)
-      → IsServing answers old now before mid count xs ys → NothingComes (Some fault) now next ys → IsTold fault told mid last → IsEndedBy may_fail answers told old xs next before last
-  ended may_fail fault (Broken other) old now next before mid last count xs ys s none (is, writes) =
+  ended : {F : Type 0} (may_fail : Type 0) (shuts : Shutting S F) (fault : RequestFault) (told : ServeFault F) (old now next : S) (before mid last : Option (List ℕ)) (count : ℕ) (xs ys : List ℕ)
+      → IsServing answers old now before mid count xs ys → NothingComes (Some fault) now next ys → IsTold fault told mid last → IsEndedBy may_fail answers shuts told old xs next before last
+  ended may_fail shuts fault (Broken other) old now next before mid last count xs ys s none (is, writes) =
       subst (λ (f : RequestFault). IsServed answers (Some f) old xs next before last) (sym is) (served (Some fault) old now next before mid last count xs ys s none writes)
-  ended may_fail fault (Output cause) old now next before mid last count xs ys s none cut = cut_last fault old now next before mid last count xs ys s none cut
-  ended may_fail fault Unreadable old now next before mid last count xs ys s none told = absurd told
+  ended may_fail shuts fault (Output cause) old now next before mid last count xs ys s none cut = cut_last fault old now next before mid last count xs ys s none cut
+  ended may_fail shuts fault Unreadable old now next before mid last count xs ys s none told = absurd told
+  ended may_fail shuts fault (Shut other) old now next before mid last count xs ys s none told = absurd told
 
   -- ---- where they are known
 
@@ -131,13 +132,13 @@ module _ {S : Type 0} (answers : Answering S) where
       (λ xs ys zs s t. served None old now next before mid mid count xs ys s (took ys zs t) (Appends-nil mid)))
 
   -- the end at bytes that are no request
-  pub serve_broken : (may_fail : Type 0) (limit : ℕ) (asked : Asked) (fault : RequestFault) (told : ServeFault) (old now next : S) (before mid last : Option (List ℕ)) (count : ℕ) (a b c : Option (List ℕ))
+  pub serve_broken : {F : Type 0} (may_fail : Type 0) (shuts : Shutting S F) (limit : ℕ) (asked : Asked) (fault : RequestFault) (told : ServeFault F) (old now next : S) (before mid last : Option (List ℕ)) (count : ℕ) (a b c : Option (List ℕ))
       → WhereKnown a b (IsServing answers old now before mid count) → WhereKnown b c (Tells limit asked)
       → ((xs ys : List ℕ) → Tells limit asked xs ys → NothingComes (Some fault) now next xs) → IsTold fault told mid last
-      → IfSome a (λ bytes. IsEndedBy may_fail answers told old bytes next before last)
-  serve_broken may_fail limit asked fault told old now next before mid last count a b c so read took tells =
-      known_some _ a c (known_then _ (Tells limit asked) (λ xs ys. IsEndedBy may_fail answers told old xs next before last) a b c so read
-      (λ xs ys zs s t. ended may_fail fault told old now next before mid last count xs ys s (took ys zs t) tells))
+      → IfSome a (λ bytes. IsEndedBy may_fail answers shuts told old bytes next before last)
+  serve_broken may_fail shuts limit asked fault told old now next before mid last count a b c so read took tells =
+      known_some _ a c (known_then _ (Tells limit asked) (λ xs ys. IsEndedBy may_fail answers shuts told old xs next before last) a b c so read
+      (λ xs ys zs s t. ended may_fail shuts fault told old now next before mid last count xs ys s (took ys zs t) tells))
 
   -- a read failed
   pub serve_unread : (may_fail : Type 0) (old now : S) (before mid : Option (List ℕ)) (count : ℕ) (a b : Option (List ℕ))
@@ -161,3 +162,25 @@ module _ {S : Type 0} (answers : Answering S) where
       → IfSome a (λ bytes. IsCutOff answers old bytes next before last)
   serve_cut limit asked old now next answer before mid last count a b c so read took cut = known_some _ a c (known_then _ (Tells limit asked) (λ xs ys. IsCutOff answers old xs next before last) a b c so read
       (λ xs ys zs s t. cut_off old now next answer before mid last count xs ys zs s (took ys zs t) cut))
+
+  -- the end where a request shut the session
+  shut_off : {F : Type 0} (shuts : Shutting S F) (fault : F) (old now next : S) (before mid : Option (List ℕ)) (count : ℕ) (xs ys zs : List ℕ)
+      → IsServing answers old now before mid count xs ys → (ask : Ask) × ComesFirst ask ys zs × shuts now ask fault next → IsShut answers shuts fault old xs next before mid
+  shut_off shuts fault old now next before mid count xs ys zs s (ask, comes, is) = (
+    s.heard,
+    ask,
+    until_quit (requests_of zs).asks,
+    s.text,
+    now,
+    s.asked ∙ ap (λ (l : List Ask). s.heard ++ l) comes.0,
+    s.done,
+    s.wrote,
+    is,
+  )
+
+  pub serve_shut : {F : Type 0} (shuts : Shutting S F) (limit : ℕ) (asked : Asked) (fault : F) (old now next : S) (before mid : Option (List ℕ)) (count : ℕ) (a b c : Option (List ℕ))
+      → WhereKnown a b (IsServing answers old now before mid count) → WhereKnown b c (Tells limit asked)
+      → ((xs ys : List ℕ) → Tells limit asked xs ys → (ask : Ask) × ComesFirst ask xs ys × shuts now ask fault next)
+      → IfSome a (λ bytes. IsShut answers shuts fault old bytes next before mid)
+  serve_shut shuts limit asked fault old now next before mid count a b c so read took = known_some _ a c (known_then _ (Tells limit asked) (λ xs ys. IsShut answers shuts fault old xs next before mid) a b c so read
+      (λ xs ys zs s t. shut_off shuts fault old now next before mid count xs ys zs s (took ys zs t)))

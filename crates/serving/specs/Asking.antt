@@ -1,14 +1,19 @@
--- Private help of proofs: no public clause cites it, but `IsTold`. How what was read is done.
-use Rattle.std.specs.Prelude.{◌≡◌, ℕ, List, [], ◌∷◌, ◌++◌, Option, Some, None}
+-- Private help of proofs: public clauses cite only `Asks` and `IsStorable`. How what was read is done.
+use Rattle.std.specs.Prelude.{◌≡◌, ◌≢◌, ◌≤◌, ⊤, ℕ, length, List, [], ◌∷◌, ◌++◌, Option, Some, None, Ok}
+use Rattle.std.specs.Arc.{arc_value}
 use Rattle.std.specs.Io.KnownBytes.{Appends}
-use Rattle.requests.specs.Requests.{Ask, requests_of}
+use Rattle.sha2.specs.Sha256.{sha256}
+use Rattle.elf32.specs.Image.{image_of}
+use Rattle.requests.specs.Requests.{Ask, Last, Program, requests_of}
 use Rattle.requests.specs.declared.request.RequestFault.{RequestFault}
-use Rattle.serving.specs.Serving.{Answering, end_text, fault_of, until_quit}
+use Rattle.serving.specs.Serving.{Answering, Leaving, Shutting, end_text, fault_of, until_quit}
 use Rattle.serving.specs.declared.serving.Course.{Course}
-use Rattle.serving.specs.declared.serving.Course.TheVariants.{Answers, Ends, Breaks}
+use Rattle.serving.specs.declared.serving.Course.TheVariants.{Answers, Ends, Breaks, Shuts}
 use Rattle.serving.specs.declared.serving.ServeFault.{ServeFault}
-use Rattle.serving.specs.declared.serving.ServeFault.TheVariants.{Broken, Unreadable, Output}
-use Rattle.turns.specs.Stages.{IsTurn}
+use Rattle.serving.specs.declared.serving.ServeFault.TheVariants.{Broken, Output}
+use Rattle.turns.specs.Pending.{IsDue, IsPending}
+use Rattle.turns.specs.declared.pending.Pending.{Pending}
+use Rattle.turns.specs.declared.pending.Pending.TheVariants as pending
 use Rattle.turns.specs.declared.settings.Settings.{Settings}
 use Rattle.turns.specs.declared.state.State.{State}
 
@@ -28,14 +33,41 @@ IsNext answers s text after xs ys = (ask : Ask) × ComesFirst ask xs ys × answe
 abbrev pub NothingComes : {S : Type 0} → Option RequestFault → S → S → List ℕ → Type 0
 NothingComes fault s after xs = NoneComes fault xs × (after ≡ s)
 
--- what comes first in xs was done
-abbrev pub IsCourse : Settings → State → Course → State → List ℕ → List ℕ → Type 0
-IsCourse settings s (Answers answer) after xs ys = (ask : Ask) × ComesFirst ask xs ys × IsTurn settings s ask answer after
-IsCourse settings s Ends after xs ys = NothingComes None s after xs
-IsCourse settings s (Breaks fault) after xs ys = NothingComes (Some fault) s after xs
+-- a request, but a `last`, comes to what is pending
+pub record Asks (settings : Settings) (s : State) (ask : Ask) (p : Pending) : Type 0 where
+  pub pending : IsPending settings s ask p
+  pub due : IsDue s ask p
+  pub other : ask ≢ Last
 
--- bytes that are no request were answered, in whole or up to where a write failed
-abbrev pub IsTold : RequestFault → ServeFault → Option (List ℕ) → Option (List ℕ) → Type 0
+-- what keeps a session can have what is pending: a program has the bytes that it was loaded from, and is no longer than one may be
+abbrev pub IsStorable : List ℕ → Pending → Type 0
+IsStorable body (pending.Program name image text) = (sha256 body ≡ name) × (image_of body ≡ Ok (arc_value image)) × (length body ≤ 131072)
+IsStorable body other = ⊤
+
+-- the bytes of a program that is handed in
+abbrev pub body_in : Ask → List ℕ
+body_in (Program file) = file
+body_in ask = []
+
+-- a request was answered, or it shut the session
+abbrev pub IsAnsweredBy : {S R F : Type 0} → Answering S → Shutting S F → Leaving S → (S → R → List ℕ) → S → Ask → Course R F → S → Type 0
+IsAnsweredBy answers shuts leaves text_of s ask (Answers reply) after = answers s ask (text_of after reply) after × ((rest : List Ask) → leaves s (ask ∷ rest) after)
+IsAnsweredBy answers shuts leaves text_of s ask (Shuts fault) after = shuts s ask fault after × ((rest : List Ask) → leaves s (ask ∷ rest) after)
+IsAnsweredBy answers shuts leaves text_of s ask other after = ⊥
+
+-- what comes first in xs was done
+abbrev pub IsCourse : {S R F : Type 0} → Answering S → Shutting S F → Leaving S → (S → R → List ℕ) → S → Course R F → S → List ℕ → List ℕ → Type 0
+IsCourse answers shuts leaves text_of s Ends after xs ys = NothingComes None s after xs
+IsCourse answers shuts leaves text_of s (Breaks fault) after xs ys = NothingComes (Some fault) s after xs
+IsCourse answers shuts leaves text_of s course after xs ys = (ask : Ask) × ComesFirst ask xs ys × IsAnsweredBy answers shuts leaves text_of s ask course after
+
+-- a session stays open, unless a request shut it
+abbrev pub StaysOpen : {R F : Type 0} → Type 0 → Course R F → Type 0
+StaysOpen is_open (Shuts fault) = ⊤
+StaysOpen is_open other = is_open
+
+-- bytes that are no request were answered, in whole or in part if a write failed
+abbrev pub IsTold : {F : Type 0} → RequestFault → ServeFault F → Option (List ℕ) → Option (List ℕ) → Type 0
 IsTold fault (Broken told) before after = (told ≡ fault) × Appends before after (end_text (Some fault))
 IsTold fault (Output cause) before after = (part : List ℕ) × (left : List ℕ) × (part ++ left ≡ end_text (Some fault)) × Appends before after part
-IsTold fault Unreadable before after = ⊥
+IsTold fault other before after = ⊥

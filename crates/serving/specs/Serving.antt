@@ -1,5 +1,5 @@
 -- What a session writes for the requests of an input, and why it ends.
-use Rattle.std.specs.Prelude.{◌≡◌, ◌⊎◌, ⊤, ℕ, List, [], ◌∷◌, ◌++◌, codes, length, Bool, true, false, Option, Some, None, if◌then◌else◌}
+use Rattle.std.specs.Prelude.{◌≡◌, ◌≢◌, ◌⊎◌, ⊤, ℕ, List, [], ◌∷◌, ◌++◌, codes, length, Bool, true, false, Option, Some, None, if◌then◌else◌}
 use Rattle.std.specs.Io.KnownBytes.{Appends}
 use Rattle.byte_streams.specs.Refusals.{Parts, line_text, without_line}
 use Rattle.byte_streams.specs.declared.fault.WriteFault.{WriteFault}
@@ -7,7 +7,7 @@ use Rattle.requests.specs.Requests.{AllRequests, Ask, Quit, requests_of}
 use Rattle.requests.specs.declared.request.RequestFault.{RequestFault}
 use Rattle.requests.specs.declared.request.RequestFault.TheVariants.{BadLine, Cut}
 use Rattle.serving.specs.declared.serving.ServeFault.{ServeFault}
-use Rattle.serving.specs.declared.serving.ServeFault.TheVariants.{Broken, Unreadable, Output}
+use Rattle.serving.specs.declared.serving.ServeFault.TheVariants.{Broken, Unreadable, Output, Shut}
 use Rattle.turns.specs.Replies.{answer_text}
 use Rattle.turns.specs.Turn.{turn}
 use Rattle.turns.specs.declared.settings.Settings.{Settings}
@@ -18,6 +18,14 @@ use Rattle.turns.specs.declared.state.State.{State}
 -- what a session is, S, may answer to a request, and to what that leads: `answers s ask text next`
 abbrev pub Answering : Type 0 → Type 1
 Answering S = S → Ask → List ℕ → S → Type 0
+
+-- by what fault a request may shut it, and to what that leads: `shuts s ask fault next`
+abbrev pub Shutting : Type 0 → Type 0 → Type 1
+Shutting S F = S → Ask → F → S → Type 0
+
+-- what a crash of a session may leave: `leaves s rest now`, if it is `now`, and was s before the first of these requests
+abbrev pub Leaving : Type 0 → Type 1
+Leaving S = S → List Ask → S → Type 0
 
 -- requests were answered one after another
 unfoldable pub AreAnswered : {S : Type 0} → Answering S → S → List Ask → List ℕ → S → Type 0
@@ -91,13 +99,40 @@ IsUnread may_fail answers old bytes new before after =
     × (until_quit (requests_of bytes).asks ≡ heard ++ rest) × AreAnswered answers old heard text new
     × Appends before after text × (may_fail ⊎ (length heard ≡ 18446744073709551615))
 
+-- they were, and the next one shut it
+abbrev pub IsShut : {S F : Type 0} → Answering S → Shutting S F → F → S → List ℕ → S → Option (List ℕ) → Option (List ℕ) → Type 0
+IsShut {S = S} answers shuts fault old bytes new before after =
+    (heard : List Ask) × (ask : Ask) × (rest : List Ask) × (text : List ℕ) × (mid : S) × (until_quit (requests_of bytes).asks ≡ heard ++ ask ∷ rest)
+    × AreAnswered answers old heard text mid × Appends before after text × shuts mid ask fault new
+
 -- how a fault ended a session
-abbrev pub IsEndedBy : {S : Type 0} → Type 0 → Answering S → ServeFault → S → List ℕ → S → Option (List ℕ) → Option (List ℕ) → Type 0
-IsEndedBy may_fail answers (Broken fault) old bytes new before after = IsServed answers (Some fault) old bytes new before after
-IsEndedBy may_fail answers Unreadable old bytes new before after = IsUnread may_fail answers old bytes new before after
-IsEndedBy may_fail answers (Output fault) old bytes new before after = IsCutOff answers old bytes new before after
+abbrev pub IsEndedBy : {S F : Type 0} → Type 0 → Answering S → Shutting S F → ServeFault F → S → List ℕ → S → Option (List ℕ) → Option (List ℕ) → Type 0
+IsEndedBy may_fail answers shuts (Broken fault) old bytes new before after = IsServed answers (Some fault) old bytes new before after
+IsEndedBy may_fail answers shuts Unreadable old bytes new before after = IsUnread may_fail answers old bytes new before after
+IsEndedBy may_fail answers shuts (Output fault) old bytes new before after = IsCutOff answers old bytes new before after
+IsEndedBy may_fail answers shuts (Shut fault) old bytes new before after = IsShut answers shuts fault old bytes new before after
 
 -- a write may have been refused so
-abbrev pub MayEnd : (WriteFault → Type 0) → ServeFault → Type 0
+abbrev pub MayEnd : {F : Type 0} → (WriteFault → Type 0) → ServeFault F → Type 0
 MayEnd may_refuse (Output fault) = may_refuse fault
 MayEnd may_refuse other = ⊤
+
+-- ---- what a crash leaves
+
+-- a part of a text that is not all of it
+abbrev pub IsProperPart : List ℕ → List ℕ → Type 0
+IsProperPart part text = (left : List ℕ) × (left ≢ []) × (part ++ left ≡ text)
+
+-- nothing, or a proper part of the answer to the next request: an answer that is whole counts as given; if no request is left, a
+-- part of what is written last, or all of it, which changes nothing
+abbrev pub IsPart : {S : Type 0} → Answering S → Option RequestFault → S → List Ask → List ℕ → Type 0
+IsPart answers fault now [] part = (left : List ℕ) × (part ++ left ≡ end_text fault)
+IsPart {S = S} answers fault now (ask ∷ asks) part = (part ≡ []) ⊎ ((text : List ℕ) × (next : S) × answers now ask text next × IsProperPart part text)
+
+-- Wherever a session stops: the first requests of its input were answered in whole, and of the next answer a proper part at most;
+-- and a crash leaves what it may of the session that they left and of the requests after them.
+abbrev pub IsStopped : {S : Type 0} → Answering S → Leaving S → S → List ℕ → S → Option (List ℕ) → Option (List ℕ) → Type 0
+IsStopped {S = S} answers leaves old bytes new before after =
+    (heard : List Ask) × (rest : List Ask) × (text : List ℕ) × (mid : S) × (part : List ℕ)
+    × (until_quit (requests_of bytes).asks ≡ heard ++ rest) × AreAnswered answers old heard text mid
+    × Appends before after (text ++ part) × IsPart answers (fault_of (requests_of bytes)) mid rest part × leaves mid rest new

@@ -2,7 +2,8 @@ use Rattle.std.proofs.Common.{refl, sym, subst}
 use Rattle.std.proofs.lemmas.Result.{on_err_weaker, on_ok_weaker}
 use Rattle.session_file.proofs.Readings.{quiet_same}
 use Rattle.turns.specs.declared.pending.Pending.{Pending}
-use Rattle.durable_serving.specs.Keeping.{IsStorable, StagesPending}
+use Rattle.serving.specs.Asking.{IsStorable}
+use Rattle.durable_serving.specs.Keeping.{StagesPending}
 use Rattle.durable_serving.proofs.Stagings.{nothing_pending, program_pending, short_program, spared, staged_as, staged_forget}
 use Rattle.durable_serving.proofs.staging.stage.Goals as goal
 
