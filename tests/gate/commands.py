@@ -222,15 +222,17 @@ def test_that_fails(run: Run) -> None:
 
 def test_over_a_result(run: Run) -> None:
     """A list over what three calls left, twice: for a table of gas, and compared with that table, in formats for machines."""
-    written(run.place / "result", rvstm(run, "seq", "counter.block", folder=COUNTER).done())
+    place = run.place / "over a result"
+    place.mkdir()
+    written(place / "result", rvstm(run, "seq", "counter.block", folder=COUNTER).done())
     call = f"call counter 1000 {KEY}\nexpect {KEY} u32:4\n"
-    written(run.place / "one.list", f"storage result\nprogram counter {COUNTER}/counter.elf\n{call}")
-    tool(run, "test", ".", "--gas", "gas.txt", "--write", folder=run.place).done()
-    holds((run.place / "gas.txt").read_text(encoding="utf-8").endswith("  639     0  one.list\n"), "another table", "the gas of the call")
-    done = tool(run, "test", ".", "--gas", "gas.txt", "--json", "--junit", "tests.xml", folder=run.place).done()
+    written(place / "one.list", f"storage result\nprogram counter {COUNTER}/counter.elf\n{call}")
+    tool(run, "test", ".", "--gas", "gas.txt", "--write", folder=place).done()
+    holds((place / "gas.txt").read_text(encoding="utf-8").endswith("  639     0  one.list\n"), "another table", "the gas of the call")
+    done = tool(run, "test", ".", "--gas", "gas.txt", "--json", "--junit", "tests.xml", folder=place).done()
     sums = {"kind": "sums", "tests": 1, "failed": 0, "calls": 1, "expectations": 1, "not_met": 0}
     same(json.loads(done.splitlines()[-1]), sums)
-    holds('tests="2" failures="0"' in (run.place / "tests.xml").read_text(encoding="utf-8"), "another file", "two tests without a failure")
+    holds('tests="2" failures="0"' in (place / "tests.xml").read_text(encoding="utf-8"), "another file", "two tests without a failure")
 
 
 def result(run: Run) -> None:
