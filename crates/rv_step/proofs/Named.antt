@@ -7,7 +7,7 @@ use Rattle.rv_isa.specs.declared.instruction.Condition.{Condition}
 use Rattle.rv_isa.specs.declared.instruction.Condition.TheVariants.{Beq, Bne, Blt, Bge, Bltu, Bgeu}
 use Rattle.rv_isa.specs.declared.instruction.ImmediateOperation.{ImmediateOperation}
 use Rattle.rv_isa.specs.declared.instruction.ImmediateOperation.TheVariants.{Addi, Slti, Sltiu, Xori, Ori, Andi}
-use Rattle.rv_isa.specs.declared.instruction.Instr.TheVariants.{Lui, Auipc, Jal, Jalr, Branch, Load, Store, ComputeImmediate, ShiftImmediate, Compute, Fence}
+use Rattle.rv_isa.specs.declared.instruction.Instr.TheVariants.{Lui, Auipc, Jal, Jalr, Branch, Load, Store, ComputeImmediate, ShiftImmediate, Compute}
 use Rattle.rv_isa.specs.declared.instruction.LoadKind.{LoadKind}
 use Rattle.rv_isa.specs.declared.instruction.LoadKind.TheVariants.{Lb, Lh, Lw, Lbu, Lhu}
 use Rattle.rv_isa.specs.declared.instruction.Operation.{Operation}
@@ -32,10 +32,6 @@ named_jal w h = rw h refl
 pub named_jalr : (w : ℕ) → w % 2 ^ 7 ≡ 0b1100111 → (slots_of w).funct3 ≡ 0b000 → decoded w ≡ Some (Jalr (register_at (slots_of w).rd) (register_at (slots_of w).rs1) (i_immediate (slots_of w)))
 unfolding decoded instr_of
 named_jalr w h e = rw (h, e) refl
-
-pub named_fence : (w : ℕ) → w % 2 ^ 7 ≡ 0b0001111 → (slots_of w).funct3 ≡ 0b000 → decoded w ≡ Some (Fence (register_at (slots_of w).rd) (register_at (slots_of w).rs1) (i_immediate (slots_of w)))
-unfolding decoded instr_of
-named_fence w h e = rw (h, e) refl
 
 pub named_branch : (w : ℕ) (condition : Condition) → w % 2 ^ 7 ≡ 0b1100011 → (slots_of w).funct3 ≡ condition_funct3 condition → decoded w ≡ Some (Branch condition (register_at (slots_of w).rs1) (register_at (slots_of w).rs2) (b_offset (slots_of w)))
 unfolding decoded instr_of

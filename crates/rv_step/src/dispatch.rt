@@ -10,9 +10,9 @@ ghost use Rattle.rv_isa.specs.Decoding.{slots_of};
 ghost use Rattle.rv_step.specs.PageSteps.{MeetsTry, machine_at};
 
 use crate::fields::{
-    ADD, ADDI, AND, BEQ, BGEU, BLT, BLTU, BNE, DIVU, FENCE, JALR, LB, LBU, LH, LHU, LW, MUL,
-    MULHSU, MULHU, OR, ORI, REM, REMU, SB, SH, SLL, SLLI, SLTI, SLTU, SRA, SRLI, SUB, SW, XOR,
-    XORI, opcode_of, placed_funct3, placed_functs,
+    ADD, ADDI, AND, BEQ, BGEU, BLT, BLTU, BNE, DIVU, JALR, LB, LBU, LH, LHU, LW, MUL, MULHSU,
+    MULHU, OR, ORI, REM, REMU, SB, SH, SLL, SLLI, SLTI, SLTU, SRA, SRLI, SUB, SW, XOR, XORI,
+    opcode_of, placed_funct3, placed_functs,
 };
 use crate::machine::Machine;
 use crate::page_loop::Position;
@@ -20,7 +20,7 @@ use rv_isa::{Condition, ImmediateOperation, LoadKind, Operation, Shift, StoreKin
 
 impl Machine {
     /// Makes the step of a word, if it goes on to another instruction. False where it does not, and where the word is one
-    /// that this leaves out: ECALL, EBREAK, an illegal word. Then nothing changes.
+    /// that this leaves out: FENCE, ECALL, EBREAK, an illegal word. Then nothing changes.
     #[inline(always)]
     pub(crate) fn step_word<Loop>(&mut self, word: u32, first: u32, position: &mut Position) -> bool
         ensures { MeetsTry result (decoded word) (machine_at self.old first position.old) (machine_at self.new first position.new) }
@@ -62,9 +62,6 @@ impl Machine {
             }
             if code > opcode::LOAD && code == opcode::AUIPC {
                 return self.auipc_word(word, first, position);
-            }
-            if code < opcode::AUIPC && code == opcode::MISC_MEM && placed_funct3(word) == FENCE {
-                return self.fence_word(word, first, position);
             }
             return false;
         }

@@ -32,9 +32,6 @@ pub(crate) fn placed_functs(word: u32) -> u32
 /// The word of ECALL.
 pub(crate) const ECALL: u32 = 0x0000_0073;
 
-/// funct3 of FENCE, in its place.
-pub(crate) const FENCE: u32 = 0b000 << 12;
-
 /// funct3 of JALR, in its place.
 pub(crate) const JALR: u32 = 0b000 << 12;
 

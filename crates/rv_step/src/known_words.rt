@@ -149,24 +149,6 @@ impl Machine {
         )
     }
 
-    /// FENCE.
-    #[inline(always)]
-    pub(crate) fn fence_word(&mut self, word: u32, first: u32, position: &mut Position) -> bool
-        requires opcode { word % 2 ^ 7 ≡ 0b0001111 }
-        requires funct3 { (slots_of word).funct3 ≡ 0b000 }
-        ensures { MeetsTry result (decoded word) (machine_at self.old first position.old) (machine_at self.new first position.new) }
-    {
-        self.try_plain(
-            &Instr::Fence {
-                rd: rd(word),
-                source: rs1(word),
-                immediate: immediate_of_i(word),
-            },
-            first,
-            position,
-        )
-    }
-
     /// JAL.
     #[inline(always)]
     pub(crate) fn jal_word(&mut self, word: u32, first: u32, position: &mut Position) -> bool
