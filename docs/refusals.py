@@ -57,8 +57,8 @@ ENUMERATIONS = (
     Enumeration("DriveFault", "stm_core/src/driving.rt", "drive"),
     Enumeration("ReplayFault", "debugger/src/fault.rt", "debug"),
     Enumeration("InputFault", "engines/src/fault.rt", "request"),
-    Enumeration("FrameRefusal", "turns/src/refusal.rt", "refused"),
-    Enumeration("Failure", "turns/src/refusal.rt", "failed"),
+    Enumeration("FrameRefusal", "session_turns/src/refusal.rt", "refused"),
+    Enumeration("Failure", "session_turns/src/refusal.rt", "failed"),
     Enumeration("StoreFault", "session_states/src/fault.rt", ""),
 )
 

@@ -14,16 +14,16 @@ use Rattle.clap.specs.Words.{Text}
 use Rattle.cmdline.specs.Line.{Asked, RunOf, SeqOf, ConflictsOf, DriveOf, AsmOf, DisOf, DebugOf, MigrateOf, ChainOf}
 use Rattle.debugger.specs.Replay.{ReplayState}
 use Rattle.debugger.specs.Session.{AppendsBeginning, MayBeCutOff}
-use Rattle.durable_serving.specs.Durable.{FileMoment, IsFileAnswer, IsShutBy}
-use Rattle.requests.specs.Requests.{Ask, requests_of}
-use Rattle.requests.specs.declared.request.RequestFault.{RequestFault}
+use Rattle.session_durability.specs.Durable.{FileMoment, IsFileAnswer, IsShutBy}
+use Rattle.session_requests.specs.Requests.{Ask, requests_of}
+use Rattle.session_requests.specs.declared.request.RequestFault.{RequestFault}
 use Rattle.rv_ledger.specs.declared.job.Job.{Job}
-use Rattle.serving.specs.Serving.{Answering, AreAnswered, IsCutAt, IsEndedBy, IsServed, Shutting, end_text, fault_of, until_quit}
-use Rattle.serving.specs.declared.serving.ServeFault.{ServeFault}
-use Rattle.serving.specs.declared.serving.ServeFault.TheVariants.{Broken, Unreadable, Output, Shut}
-use Rattle.turns.specs.Failures.{IsAnswer}
-use Rattle.turns.specs.Turn.{new_session}
-use Rattle.turns.specs.declared.settings.Settings.{Settings}
+use Rattle.session_serving.specs.Serving.{Answering, AreAnswered, IsAnswerCutAt, IsEndedBy, IsServed, Shutting, end_text, end_fault_of, until_quit}
+use Rattle.session_serving.specs.declared.serving.ServeFault.{ServeFault}
+use Rattle.session_serving.specs.declared.serving.ServeFault.TheVariants.{Broken, Unreadable, Output, Shut}
+use Rattle.session_turns.specs.Failures.{IsAnswer}
+use Rattle.session_turns.specs.Turn.{new_session}
+use Rattle.session_turns.specs.declared.settings.Settings.{Settings}
 use Rattle.engines.proofs.SameFiles.{text_is}
 use Rattle.engines.proofs.Told.{part_begins}
 use Rattle.engines.specs.Chain.{never_shut}
@@ -139,7 +139,7 @@ module _ {S : Type 0} (answers : Answering S) (first : S) (bytes : List ℕ) (ol
     [],
     h.0,
     after,
-    end_text (fault_of (requests_of bytes)),
+    end_text (end_fault_of (requests_of bytes)),
     sym (append-nil _),
     h.1,
     ([], append-nil _),
@@ -150,20 +150,20 @@ module _ {S : Type 0} (answers : Answering S) (first : S) (bytes : List ℕ) (ol
   nothing_next fault s [] = (end_text fault, refl)
   nothing_next fault s (ask ∷ asks) = inl refl
 
-  cut_at : (fault : Option RequestFault) (s after : S) (rest : List Ask) (part : List ℕ) → IsCutAt answers fault s rest part after → IsPartOfNext answers fault s rest part
+  cut_at : (fault : Option RequestFault) (s after : S) (rest : List Ask) (part : List ℕ) → IsAnswerCutAt answers fault s rest part after → IsPartOfNext answers fault s rest part
   cut_at fault s after [] part h = (h.0, h.1)
   cut_at fault s after (ask ∷ asks) part h = inr (h.0, after, h.1)
 
   -- the first ones were answered
   answered : (heard rest : List Ask) (text : List ℕ) (mid : S) → until_quit (requests_of bytes).asks ≡ heard ++ rest → AreAnswered answers first heard text mid → Appends old new text → BeginsSession answers first bytes old new
   answered heard rest text mid is done h =
-      (heard, rest, text, mid, [], is, done, nothing_next (fault_of (requests_of bytes)) mid rest, subst (λ t. Appends old new t) (sym (append-nil text)) h)
+      (heard, rest, text, mid, [], is, done, nothing_next (end_fault_of (requests_of bytes)) mid rest, subst (λ t. Appends old new t) (sym (append-nil text)) h)
 
   ended : {F : Type 0} (may_fail : Type 0) (shuts : Shutting S F) (fault : ServeFault F) (after : S) → IsEndedBy may_fail answers shuts fault first bytes after old new → BeginsSession answers first bytes old new
   ended may_fail shuts (Broken fault) after h = served (Some fault) after h
   ended may_fail shuts Unreadable after h = answered h.0 h.1 h.2 after h.3 h.4 h.5
   ended may_fail shuts (Output fault) after h =
-      (h.0, h.1, h.2, h.3, h.4, h.5, h.6, cut_at (fault_of (requests_of bytes)) h.3 after h.1 h.4 h.7, h.8)
+      (h.0, h.1, h.2, h.3, h.4, h.5, h.6, cut_at (end_fault_of (requests_of bytes)) h.3 after h.1 h.4 h.7, h.8)
   ended may_fail shuts (Shut fault) after h = answered h.0 (h.1 ∷ h.2) h.3 h.4 h.5 h.6 h.7
 
 of_cut : (settings : Settings) (old new : Option (List ℕ)) (bytes : List ℕ) (e : Refusal) → IsCutSession settings old new bytes e → (new ≡ old) ⊎ BeginsSession (IsAnswer settings) (new_session settings) bytes old new

@@ -1,12 +1,12 @@
 -- A session of an input.
 use Rattle.std.proofs.Common.{◌≡◌, ℕ, List, Option, Some, None, IfSome, subst}
 use Rattle.std.specs.declared.convert.Infallible.{Infallible}
-use Rattle.serving.specs.Serving.{IsEndedBy, IsServed}
-use Rattle.serving.specs.declared.serving.ServeFault.{ServeFault}
-use Rattle.turns.specs.Failures.{IsAnswer}
-use Rattle.turns.specs.Turn.{new_session}
-use Rattle.turns.specs.declared.settings.Settings.{Settings}
-use Rattle.turns.specs.declared.state.State.{State}
+use Rattle.session_serving.specs.Serving.{IsEndedBy, IsServed}
+use Rattle.session_serving.specs.declared.serving.ServeFault.{ServeFault}
+use Rattle.session_turns.specs.Failures.{IsAnswer}
+use Rattle.session_turns.specs.Turn.{new_session}
+use Rattle.session_turns.specs.declared.settings.Settings.{Settings}
+use Rattle.session_turns.specs.declared.state.State.{State}
 use Rattle.engines.specs.Chain.{cut_of, never_shut}
 use Rattle.engines.specs.declared.fault.Refusal.{Refusal}
 

@@ -1,14 +1,14 @@
 -- What a session over a file asks of its stores.
 use Rattle.std.proofs.Common.{◌≡◌, ◌∙◌, ℕ, ◌++◌, List, ap, append_assoc, subst, inl, inr}
 use Rattle.std.specs.Prelude.{Option, Some, None, Result, Ok, Err, IfSome, OnErr, OnOk}
-use Rattle.durable_serving.specs.Durable.{FileMoment, IsFileAnswer, IsShutBy}
-use Rattle.durable_serving.specs.Opened as session
-use Rattle.durable_serving.specs.declared.opening.SessionFault.{SessionFault}
-use Rattle.durable_serving.specs.declared.opening.SessionFault.TheVariants as unwanted
-use Rattle.requests.specs.declared.request.RequestFault.TheVariants as request
-use Rattle.serving.specs.Serving.{IsEndedBy}
-use Rattle.serving.specs.declared.serving.ServeFault.{ServeFault}
-use Rattle.serving.specs.declared.serving.ServeFault.TheVariants as serve
+use Rattle.session_durability.specs.Durable.{FileMoment, IsFileAnswer, IsShutBy}
+use Rattle.session_durability.specs.Opened as session
+use Rattle.session_durability.specs.declared.opening.SessionFault.{SessionFault}
+use Rattle.session_durability.specs.declared.opening.SessionFault.TheVariants as unwanted
+use Rattle.session_requests.specs.declared.request.RequestFault.TheVariants as request
+use Rattle.session_serving.specs.Serving.{IsEndedBy}
+use Rattle.session_serving.specs.declared.serving.ServeFault.{ServeFault}
+use Rattle.session_serving.specs.declared.serving.ServeFault.TheVariants as serve
 use Rattle.session_disk.specs.declared.fault.OpenFault.{OpenFault}
 use Rattle.session_disk.specs.declared.fault.OpenFault.TheVariants as disk
 use Rattle.session_states.specs.Faults.{fault_of_store}
@@ -16,7 +16,7 @@ use Rattle.session_states.specs.declared.fault.StoreFault.{StoreFault}
 use Rattle.session_states.specs.declared.fault.StoreFault.TheVariants.{Busy, HotJournal, NotASession, OtherVersion, OtherSettings}
 use Rattle.sqlite_trees.specs.declared.error.StoreError.{StoreError}
 use Rattle.sqlite_trees.specs.declared.error.StoreError.TheVariants as failure
-use Rattle.turns.specs.declared.settings.Settings.{Settings}
+use Rattle.session_turns.specs.declared.settings.Settings.{Settings}
 use Rattle.engines.specs.Chain.{durably_cut, fault_of}
 use Rattle.engines.specs.Opened.{Asks}
 use Rattle.engines.specs.Stores.{AsksAsTold, AsksForNone, AsksForSession, AsksInVain, IsOfSession, StoreOrder}
@@ -64,14 +64,14 @@ vain failure.Full old new path asks = asks
 vain failure.Broken old new path asks = asks
 vain failure.Unstorable old new path asks = asks
 
-at_none : (fault : SessionFault) (old new : Option (List StoreOrder)) (path : List ℕ) → AsksForNone old new path → AsksAsTold old new path (Store (session.fault_of fault))
+at_none : (fault : SessionFault) (old new : Option (List StoreOrder)) (path : List ℕ) → AsksForNone old new path → AsksAsTold old new path (Store (session.store_fault_of fault))
 at_none unwanted.NotASession old new path asks = inr asks
 at_none unwanted.OtherVersion old new path asks = asks
 at_none unwanted.OtherSettings old new path asks = asks
 at_none unwanted.Damaged old new path asks = inr (inl asks)
 at_none (unwanted.Store error) old new path asks = vain error old new path (inr (inl asks))
 
-pub not_wanted : (input : Option (List ℕ)) (fault : SessionFault) (told : StoreFault) (old new : Option (List StoreOrder)) (path : List ℕ) → told ≡ session.fault_of fault → AsksForNone old new path → IfSome input (λ _. AsksAsTold old new path (Store told))
+pub not_wanted : (input : Option (List ℕ)) (fault : SessionFault) (told : StoreFault) (old new : Option (List StoreOrder)) (path : List ℕ) → told ≡ session.store_fault_of fault → AsksForNone old new path → IfSome input (λ _. AsksAsTold old new path (Store told))
 not_wanted input fault told old new path is asks = rw is (if_any input _ (at_none fault old new path asks))
 
 -- and one whose session ended

@@ -4,12 +4,12 @@ use Rattle.session_disk.specs.declared.fault.OpenFault.TheVariants as disk
 use Rattle.session_states.specs.declared.fault.StoreFault.{StoreFault}
 use Rattle.session_states.specs.declared.fault.StoreFault.TheVariants as told
 use Rattle.std.specs.declared.convert.Infallible.{Infallible}
-use Rattle.requests.specs.declared.request.RequestFault.{RequestFault}
-use Rattle.requests.specs.declared.request.RequestFault.TheVariants as request
-use Rattle.serving.specs.Serving.{Shutting}
-use Rattle.serving.specs.declared.serving.ServeFault.{ServeFault}
-use Rattle.serving.specs.declared.serving.ServeFault.TheVariants as serve
-use Rattle.turns.specs.declared.state.State.{State}
+use Rattle.session_requests.specs.declared.request.RequestFault.{RequestFault}
+use Rattle.session_requests.specs.declared.request.RequestFault.TheVariants as request
+use Rattle.session_serving.specs.Serving.{Shutting}
+use Rattle.session_serving.specs.declared.serving.ServeFault.{ServeFault}
+use Rattle.session_serving.specs.declared.serving.ServeFault.TheVariants as serve
+use Rattle.session_turns.specs.declared.state.State.{State}
 use Rattle.engines.specs.declared.fault.InputFault.TheVariants.{BadLine, Cut, Unreadable}
 use Rattle.engines.specs.declared.fault.Refusal.{Refusal}
 use Rattle.engines.specs.declared.fault.Refusal.TheVariants.{Output, Request, Store}

@@ -106,7 +106,7 @@ parts_of (Run fault) = without_line (codes "run") (run.name_of fault) (run.numbe
 parts_of (Drive fault) = without_line (codes "drive") (drive.name_of fault) (drive.number_of fault)
 parts_of (Debug fault) = without_line (codes "debug") (debug.name_of fault) (debug.number_of fault)
 parts_of (Request fault) = without_line (codes "request") (input_name fault) (input_number fault)
-parts_of (Store fault) = store.parts_of fault
+parts_of (Store fault) = store.store_fault_parts fault
 parts_of (Output fault) = without_line (codes "output") (output.name_of fault) (output.number_of fault)
 
 -- the line of a refusal

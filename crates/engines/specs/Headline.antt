@@ -6,14 +6,14 @@ use Rattle.byte_streams.specs.declared.fault.WriteFault.{WriteFault}
 use Rattle.clap.specs.Words.{Text}
 use Rattle.cmdline.specs.Line.{Asked, RunOf, SeqOf, ConflictsOf, DriveOf, AsmOf, DisOf, DebugOf, MigrateOf, ChainOf}
 use Rattle.debugger.specs.Session.{AppendsBeginning}
-use Rattle.durable_serving.specs.Durable.{FileMoment, IsFileAnswer}
+use Rattle.session_durability.specs.Durable.{FileMoment, IsFileAnswer}
 use Rattle.elf32.specs.declared.words.PlacedWord.{PlacedWord}
-use Rattle.requests.specs.Requests.{Ask, requests_of}
-use Rattle.requests.specs.declared.request.RequestFault.{RequestFault}
+use Rattle.session_requests.specs.Requests.{Ask, requests_of}
+use Rattle.session_requests.specs.declared.request.RequestFault.{RequestFault}
 use Rattle.rv_names.specs.Text.{disassembly}
-use Rattle.serving.specs.Serving.{Answering, AreAnswered, end_text, fault_of, until_quit}
-use Rattle.turns.specs.Failures.{IsAnswer}
-use Rattle.turns.specs.Turn.{new_session}
+use Rattle.session_serving.specs.Serving.{Answering, AreAnswered, end_text, end_fault_of, until_quit}
+use Rattle.session_turns.specs.Failures.{IsAnswer}
+use Rattle.session_turns.specs.Turn.{new_session}
 use Rattle.engines.specs.Conflicts.{IsConflictsText}
 use Rattle.engines.specs.Debug.{replayed_text}
 use Rattle.engines.specs.Dis.{listing_line, listing_of_file}
@@ -59,7 +59,7 @@ abbrev pub BeginsSession : {S : Type 0} → Answering S → S → List ℕ → O
 BeginsSession {S} answers first bytes old new =
     (heard rest : List Ask) × (text : List ℕ) × (mid : S) × (part : List ℕ)
     × (until_quit (requests_of bytes).asks ≡ heard ++ rest) × AreAnswered answers first heard text mid
-    × IsPartOfNext answers (fault_of (requests_of bytes)) mid rest part × Appends old new (text ++ part)
+    × IsPartOfNext answers (end_fault_of (requests_of bytes)) mid rest part × Appends old new (text ++ part)
 
 -- what a refused command printed at most
 abbrev pub PrintsAtMost : Contents → Option (List ℕ) → (WriteFault → Type 0) → Option (List ℕ) → Option (List ℕ) → Asked → Type 0

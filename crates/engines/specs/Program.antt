@@ -13,17 +13,17 @@ use Rattle.clap.specs.Words.{IsAmong, Kinds, Text, fault_of}
 use Rattle.clap.specs.declared.error.kind.ErrorKind.TheVariants as kind
 use Rattle.cmdline.specs.Line.{Asked, RunOf, SeqOf, ConflictsOf, DriveOf, AsmOf, DisOf, DebugOf, MigrateOf, ChainOf, requested, rvstm_app}
 use Rattle.debugger.specs.Session.{AppendsBeginning, MayBeCutOff}
-use Rattle.durable_serving.specs.Durable.{FileMoment, IsFileAnswer, IsShutBy}
-use Rattle.serving.specs.Serving.{IsEndedBy, IsServed}
-use Rattle.serving.specs.declared.serving.ServeFault.{ServeFault}
+use Rattle.session_durability.specs.Durable.{FileMoment, IsFileAnswer, IsShutBy}
+use Rattle.session_serving.specs.Serving.{IsEndedBy, IsServed}
+use Rattle.session_serving.specs.declared.serving.ServeFault.{ServeFault}
 use Rattle.session_states.specs.declared.fault.StoreFault.{StoreFault}
 use Rattle.stm_core.specs.declared.driving.DriveFault.TheVariants as drive
 use Rattle.sqlite_trees.specs.View.{View}
 use Rattle.system_files.specs.Entries.{Entries, IsPut, KeepsFile, Stays}
-use Rattle.turns.specs.Failures.{IsAnswer}
-use Rattle.turns.specs.Turn.{new_session}
-use Rattle.turns.specs.declared.settings.Settings.{Settings}
-use Rattle.turns.specs.declared.state.State.{State}
+use Rattle.session_turns.specs.Failures.{IsAnswer}
+use Rattle.session_turns.specs.Turn.{new_session}
+use Rattle.session_turns.specs.declared.settings.Settings.{Settings}
+use Rattle.session_turns.specs.declared.state.State.{State}
 use Rattle.workers.specs.declared.fault.RunFault.TheVariants as run
 use Rattle.engines.specs.Chain.{cut_of, durably_cut, never_shut}
 use Rattle.engines.specs.Conflicts.{AppendsConflicts, IsConflictsFault}

@@ -9,10 +9,10 @@ use crate::batches::{Batches, FIRST_CALLS};
 use overlay::Overlay;
 use rv_ledger::{Call, LentBlock, Receipt, Store};
 use seq_exec::{run_counted, run_over};
+use session_turns::CallRunner;
 use std::alloc::{AllocError, Global};
 use std::sync::Wait;
 use std::thread::Threads;
-use turns::CallRunner;
 use workers::Executor;
 
 /// Runs the first calls of a frame in order, and the others by threads where that pays by what the ones before took: a batch at

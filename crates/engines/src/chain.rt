@@ -2,28 +2,28 @@
 
 ghost use Rattle.std.specs.Prelude.{◌≡◌, false, IfErr, IfSome, None, OnOk};
 ghost use Rattle.std.specs.declared.convert.Infallible.{Infallible};
-ghost use Rattle.durable_serving.specs.Durable.{IsFileAnswer, IsShutBy, IsStopped, moment};
-ghost use Rattle.durable_serving.specs.Keeping.{IsKeptBy};
+ghost use Rattle.session_durability.specs.Durable.{IsFileAnswer, IsShutBy, IsFileSessionStopped, moment};
+ghost use Rattle.session_durability.specs.Keeping.{IsKeptBy};
 ghost use Rattle.engines.specs.Chain.{broken_of, cut_of, durably_cut, never_shut};
-ghost use Rattle.serving.specs.Serving.{IsEndedBy, IsServed, MayEnd};
-ghost use Rattle.serving.specs.declared.serving.ServeFault.{ServeFault};
+ghost use Rattle.session_serving.specs.Serving.{IsEndedBy, IsServed, MayEnd};
+ghost use Rattle.session_serving.specs.declared.serving.ServeFault.{ServeFault};
 ghost use Rattle.session_states.specs.States.{file_state};
 ghost use Rattle.session_states.specs.declared.fault.StoreFault.{StoreFault};
 ghost use Rattle.sqlite_trees.specs.View.{IsClean};
-ghost use Rattle.turns.specs.Failures.{IsAnswer};
-ghost use Rattle.turns.specs.Turn.{new_session};
-ghost use Rattle.turns.specs.declared.state.State.{State};
+ghost use Rattle.session_turns.specs.Failures.{IsAnswer};
+ghost use Rattle.session_turns.specs.Turn.{new_session};
+ghost use Rattle.session_turns.specs.declared.state.State.{State};
 
 use crate::fault::{InputFault, Refusal};
 use byte_streams::{BufferedSource, Destination};
-use durable_serving::FileSession;
-use requests::RequestFault;
-use serving::{ServeFault, serve};
+use session_durability::FileSession;
+use session_requests::RequestFault;
+use session_serving::{ServeFault, serve};
 use session_states::StoreFault;
+use session_turns::{CallRunner, Settings, State};
 use sqlite_trees::store::Store;
 use std::alloc::Global;
 use std::convert::Infallible;
-use turns::{CallRunner, Settings, State};
 
 /// Answers each request of an input in a new session, up to a `q` or the input's end. A runner runs the calls of its frames,
 /// which changes no answer. Each answer is written and flushed before more is read. Refused as BadLine or Cut where the next
@@ -93,7 +93,7 @@ pub fn durable_chain_to<R: BufferedSource, S: Store, C: CallRunner, W: Destinati
         (moment (file_state session.new.state session.new.found) (S.Store.view session.new.file) (S.Store.faults session.new.file)) (W.contents out.old) (W.contents out.new))) }
     ensures err { IfErr result (λ e. (fault : ServeFault StoreFault) × (e ≡ durably_cut fault) × IfSome (R.remaining input.old) (λ bytes. IsEndedBy (R.may_fail input.old) (IsFileAnswer settings) (IsShutBy settings) fault
         (moment (file_state session.old.state session.old.found) (S.Store.view session.old.file) (S.Store.faults session.old.file)) bytes (moment (file_state session.new.state session.new.found) (S.Store.view session.new.file) (S.Store.faults session.new.file)) (W.contents out.old) (W.contents out.new))) }
-    ensures stopped { IsClean (S.Store.view session.new.file) → IfSome (R.remaining input.old) (λ bytes. IsStopped settings (moment (file_state session.old.state session.old.found) (S.Store.view session.old.file) (S.Store.faults session.old.file)) bytes
+    ensures stopped { IsClean (S.Store.view session.new.file) → IfSome (R.remaining input.old) (λ bytes. IsFileSessionStopped settings (moment (file_state session.old.state session.old.found) (S.Store.view session.old.file) (S.Store.faults session.old.file)) bytes
         (W.contents out.old) (W.contents out.new) (S.Store.recovers session.new.file)) }
     ensures kept { IsKeptBy settings (S.Store.view session.new.file) (file_state session.new.state session.new.found) }
     ensures refused { IfErr result (λ e. (fault : ServeFault StoreFault) × (e ≡ durably_cut fault) × MayEnd (W.may_refuse out.old) fault) }

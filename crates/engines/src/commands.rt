@@ -27,11 +27,11 @@ use crate::sessions::chain;
 use crate::stores::SessionStores;
 use byte_streams::{Destination, Source};
 use cmdline::Request;
+use session_turns::{InOrder, Settings};
 use std::alloc::Global;
 use std::sync::Wait;
 use std::thread::Threads;
 use system_files::{OutputDisk, ReplaceFault, replace};
-use turns::{InOrder, Settings};
 
 /// Does a request, and returns what the workers did, where that is to be printed.
 pub(crate) fn answer<

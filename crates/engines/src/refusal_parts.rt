@@ -42,7 +42,7 @@ impl Refusal {
 }
 
 /// The parts of a fault of a text, in its area. Running out of memory has no line.
-#[tactic(auto, using(turns::proofs::ShortNames::short_cause))]
+#[tactic(auto, using(session_turns::proofs::ShortNames::short_cause))]
 fn block_parts(area: &'static str, fault: BlockFault) -> LineParts
     requires { length area.now ≤ 8 }
     ensures { parts_in result ≡ block_parts area.now fault }
@@ -66,7 +66,7 @@ fn block_line(fault: BlockFault) -> Option<usize>
 }
 
 /// The parts of a fault of a program.
-#[tactic(auto, using(turns::proofs::ShortNames::short_elf))]
+#[tactic(auto, using(session_turns::proofs::ShortNames::short_elf))]
 fn elf_parts(fault: ElfError) -> LineParts
     ensures { parts_in result ≡ elf_parts fault }
 {

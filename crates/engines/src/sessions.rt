@@ -1,7 +1,7 @@
 //! The command `chain`: one session, in memory or over a file.
 
 ghost use Rattle.std.specs.Prelude.{◌≡◌, [], ◌∷◌, false, true, option_map, IfErr, IfSome, None, OnErr, OnOk};
-ghost use Rattle.durable_serving.specs.Keeping.{IsKeptBy};
+ghost use Rattle.session_durability.specs.Keeping.{IsKeptBy};
 ghost use Rattle.engines.specs.Opened.{Asks};
 ghost use Rattle.engines.specs.Program.{IsCutKept, IsRefusedSession, PrintsKept, PrintsSession};
 ghost use Rattle.engines.specs.Stores.{AreClosed, AsksAsTold, AsksForSession, AsksInVain, Close, IsOfSession};
@@ -13,11 +13,11 @@ use crate::chain::{chain_to, durable_chain_to};
 use crate::fault::{Refusal, SeqFault};
 use crate::stores::{SessionStores, fault_of};
 use byte_streams::{BufferedSource, Destination, FallibleBuffer};
-use durable_serving::{FileSession, open_durably};
+use session_durability::{FileSession, open_durably};
 use session_states::StoreFault;
+use session_turns::{CallRunner, Settings};
 use std::alloc::Global;
 use std::io::{BufReader, Read};
-use turns::{CallRunner, Settings};
 
 /// Answers the requests of the input in one session, whose calls are run by `runner`, in memory or over the file that is given.
 pub(crate) fn chain<K: SessionStores, C: CallRunner, I: Read, W: Destination>(

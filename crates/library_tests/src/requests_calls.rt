@@ -1,6 +1,6 @@
 //! The requests of an input, each told in a word with what it has.
 
-use requests::{Asked, Request, RequestFault, RequestLine, next_request};
+use session_requests::{Asked, Request, RequestFault, RequestLine, next_request};
 use std::alloc::{AllocError, Global};
 use std::process::Abort;
 use std::test::Fail;

@@ -6,15 +6,15 @@ ghost use Rattle.session_file.specs.Opening.{IsFresh};
 ghost use Rattle.sqlite_store.specs.FileStore.{view};
 ghost use Rattle.sqlite_trees.specs.View.{IsClean};
 
-use durable_serving::open_durably;
 use engines::{SessionStores, durable_chain_to};
 use session_disk::{OpenFault, close_files, open_files};
+use session_durability::open_durably;
+use session_turns::{InOrder, Settings};
 use sqlite_disk::{Crash, Disk, Files, Memory};
 use sqlite_store::FileStore;
 use sqlite_trees::error::StoreError;
 use std::alloc::{AllocError, Global};
 use std::io;
-use turns::{InOrder, Settings};
 
 /// A file of these bytes, all of them synced.
 fn file_of(alloc: Global, bytes: &[u8]) -> io::Result<Memory> {

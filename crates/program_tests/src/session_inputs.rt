@@ -1,10 +1,10 @@
 //! The bytes of sessions, and what they print.
 
 use engines::chain_to;
+use session_turns::{CallRunner, Settings};
 use sha2::{Digest, Sha256};
 use std::alloc::{AllocError, Global};
 use std::test::Fail;
-use turns::{CallRunner, Settings};
 
 /// Appends a request with bytes behind its line.
 fn push_request(

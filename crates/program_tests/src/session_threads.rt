@@ -3,12 +3,12 @@
 
 use crate::session_inputs::{printed_by, session_over};
 use engines::{ByThreads, file_of_source};
+use session_turns::{InOrder, Settings};
 use std::alloc::Global;
 use std::process::Abort;
 use std::sync::Wait;
 use std::test::Fail;
 use std::thread::Threads;
-use turns::{InOrder, Settings};
 
 /// Works as many rounds as the word behind the key of its input says, and then counts the key up.
 const WORK: &str = "addi s0,a0,0\nlw t0,32(a0)\nround: addi t0,t0,-1\nbne t0,x0,round\n\

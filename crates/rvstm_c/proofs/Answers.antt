@@ -1,14 +1,14 @@
 -- What a session that was asked answers.
 use Rattle.std.proofs.Common.{◌≡◌, ℕ, List, Bool, false, cond, length, nat_lt, Option, Some, None, refl, sym, ap, subst}
-use Rattle.requests.specs.Requests.{Ask, Begin, Dump, ◌>>=◌, digest_of}
-use Rattle.turns.specs.Failures.{MayFail}
-use Rattle.turns.specs.Replies.{Done}
-use Rattle.turns.specs.Stages.{IsTurn}
-use Rattle.turns.specs.declared.answer.Answer.{Answer}
-use Rattle.turns.specs.declared.answer.Answer.TheVariants as answer
-use Rattle.turns.specs.declared.dump.EmptyBuffer.{EmptyBuffer}
-use Rattle.turns.specs.declared.settings.Settings.{Settings}
-use Rattle.turns.specs.declared.state.State.{State}
+use Rattle.session_requests.specs.Requests.{Ask, Begin, Dump, ◌>>=◌, digest_of}
+use Rattle.session_turns.specs.Failures.{MayTurnFail}
+use Rattle.session_turns.specs.Replies.{Done}
+use Rattle.session_turns.specs.Stages.{IsTurn}
+use Rattle.session_turns.specs.declared.answer.Answer.{Answer}
+use Rattle.session_turns.specs.declared.answer.Answer.TheVariants as answer
+use Rattle.session_turns.specs.declared.dump.EmptyBuffer.{EmptyBuffer}
+use Rattle.session_turns.specs.declared.settings.Settings.{Settings}
+use Rattle.session_turns.specs.declared.state.State.{State}
 use Rattle.rvstm_c.specs.Asked.{begin_asked, with_bytes}
 use Rattle.rvstm_c.specs.Embedding.{IsCalled, TakesTurn}
 use Rattle.rvstm_c.specs.Given.{IsMadeWhole}
@@ -17,7 +17,7 @@ use Rattle.rvstm_c.specs.declared.session.EmbeddedSession.{EmbeddedSession}
 -- the text of the storage, in memory, is as good as its answer
 whole_dump : (settings : Settings) (s : State) (buffer : EmptyBuffer) (whole : Answer) → IsMadeWhole s (answer.Storage buffer) whole → IsTurn settings s Dump whole s
 whole_dump settings s buffer (answer.Done bytes) made = (ap Done made, refl)
-whole_dump settings s buffer (answer.Failed failure) made = (subst (MayFail settings s Dump) (sym made) tt, refl)
+whole_dump settings s buffer (answer.Failed failure) made = (subst (MayTurnFail settings s Dump) (sym made) tt, refl)
 whole_dump settings s buffer answer.Last made = absurd made
 whole_dump settings s buffer (answer.Refused refusal) made = absurd made
 whole_dump settings s buffer (answer.Storage other) made = absurd made

@@ -1,6 +1,6 @@
 -- What a call asks for; None where no line has such a form.
 use Rattle.std.specs.Prelude.{ℕ, nat_le, nat_lt, ◌&&◌, List, length, Option, Some, None, if◌then◌else◌}
-use Rattle.requests.specs.Requests.{Ask, Begin, ListEntries, ◌>>=◌, digest_of, name_of}
+use Rattle.session_requests.specs.Requests.{Ask, Begin, ListEntries, ◌>>=◌, digest_of, hex_name_of}
 
 -- a request with bytes, of which a line can say how many they are: at most 9,999,999,999
 abbrev pub with_bytes : List ℕ → Ask → Option Ask
@@ -8,11 +8,11 @@ with_bytes bytes ask = if nat_lt 9999999999 (length bytes) then None else Some a
 
 -- a request that names a program or a key, by 64 digits
 abbrev pub with_name : (List ℕ → Ask) → List ℕ → Option Ask
-with_name ask text = name_of text >>= (λ name. Some (ask name))
+with_name ask text = hex_name_of text >>= (λ name. Some (ask name))
 
 -- a count is 1 to 1,024
 abbrev pub list_asked : List ℕ → ℕ → Option Ask
-list_asked text count = name_of text >>= (λ from. if nat_le 1 count && nat_le count 1024 then Some (ListEntries from count) else None)
+list_asked text count = hex_name_of text >>= (λ from. if nat_le 1 count && nat_le count 1024 then Some (ListEntries from count) else None)
 
 -- a height is at most 9,999,999,999
 abbrev pub begin_asked : ℕ → List ℕ → List ℕ → Option Ask

@@ -1,10 +1,10 @@
 -- What the calls on a handle answer, and what they make of its session.
 use Rattle.std.specs.Prelude.{◌≡◌, ◌⊎◌, ℕ, Bool, true, false, List, [], ◌++◌, drop, length, nat_lt, Option, Some, None}
-use Rattle.requests.specs.Requests.{Ask}
-use Rattle.turns.specs.Stages.{IsTurn, reply_in}
-use Rattle.turns.specs.Turn.{new_session}
-use Rattle.turns.specs.declared.answer.Answer.{Answer}
-use Rattle.turns.specs.declared.settings.Settings.{Settings}
+use Rattle.session_requests.specs.Requests.{Ask}
+use Rattle.session_turns.specs.Stages.{IsTurn, reply_in}
+use Rattle.session_turns.specs.Turn.{new_session}
+use Rattle.session_turns.specs.declared.answer.Answer.{Answer}
+use Rattle.session_turns.specs.declared.settings.Settings.{Settings}
 use Rattle.rvstm_c.specs.Given.{bytes_given, status_given}
 use Rattle.rvstm_c.specs.Statuses.{already_open, bad_settings, closed, done, no_memory, refused, short_buffer, status_of}
 use Rattle.rvstm_c.specs.declared.given.Given.TheVariants.{Answered, BadLine}

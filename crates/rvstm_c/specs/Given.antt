@@ -1,12 +1,12 @@
 -- What the last request of a session was answered.
 use Rattle.std.specs.Prelude.{◌≡◌, ℕ, Bool, true, false, List, []}
-use Rattle.turns.specs.Replies.{answer_bytes}
-use Rattle.turns.specs.Stages.{reply_in}
-use Rattle.turns.specs.Telling.{dump_text}
-use Rattle.turns.specs.declared.answer.Answer.{Answer}
-use Rattle.turns.specs.declared.answer.Answer.TheVariants as answer
-use Rattle.turns.specs.declared.refusal.Failure.TheVariants as want
-use Rattle.turns.specs.declared.state.State.{State}
+use Rattle.session_turns.specs.Replies.{answer_bytes}
+use Rattle.session_turns.specs.Stages.{reply_in}
+use Rattle.session_turns.specs.Telling.{dump_text}
+use Rattle.session_turns.specs.declared.answer.Answer.{Answer}
+use Rattle.session_turns.specs.declared.answer.Answer.TheVariants as answer
+use Rattle.session_turns.specs.declared.refusal.Failure.TheVariants as want
+use Rattle.session_turns.specs.declared.state.State.{State}
 use Rattle.rvstm_c.specs.Statuses.{refused, status_of}
 use Rattle.rvstm_c.specs.declared.given.Given.{Given}
 use Rattle.rvstm_c.specs.declared.given.Given.TheVariants.{Answered, BadLine}

@@ -1,9 +1,9 @@
 -- The parts of a refusal or a failure, as C is handed them.
 use Rattle.std.specs.Prelude.{◌≡◌, ℕ, List, ◌++◌, ◌-◌, codes, length, replicate, Option, Some, None}
 use Rattle.byte_streams.specs.Refusals.{Parts, without_line}
-use Rattle.turns.specs.Replies.{Reply, Done, Refused, Failed, parts_of, parts_of_failure}
-use Rattle.turns.specs.Stages.{reply_in}
-use Rattle.turns.specs.declared.state.State.{State}
+use Rattle.session_turns.specs.Replies.{TurnReply, Done, Refused, Failed, frame_refusal_parts, parts_of_failure}
+use Rattle.session_turns.specs.Stages.{reply_in}
+use Rattle.session_turns.specs.declared.state.State.{State}
 use Rattle.rvstm_c.specs.Given.{status_given}
 use Rattle.rvstm_c.specs.Statuses.{closed}
 use Rattle.rvstm_c.specs.declared.given.Given.{Given}
@@ -34,9 +34,9 @@ abbrev pub no_parts : RefusalParts
 no_parts = record { line = 0; number = 0; area = replicate 8 0; name = replicate 24 0 }
 
 -- the parts of a reply
-abbrev pub parts_of_reply : Reply → RefusalParts
+abbrev pub parts_of_reply : TurnReply → RefusalParts
 parts_of_reply (Done bytes) = no_parts
-parts_of_reply (Refused refusal) = handed_out (parts_of refusal)
+parts_of_reply (Refused refusal) = handed_out (frame_refusal_parts refusal)
 parts_of_reply (Failed failure) = handed_out (parts_of_failure failure)
 
 -- the parts of what the last request was answered

@@ -1,8 +1,8 @@
 -- The settings that C hands over.
 use Rattle.std.specs.Prelude.{ℕ, nat_le, ◌==◌, false, Option, Some, None, if◌then◌else◌}
 use Rattle.std.specs.Option.{option_map}
-use Rattle.requests.specs.Requests.{◌>>=◌}
-use Rattle.turns.specs.declared.settings.Settings.{Settings}
+use Rattle.session_requests.specs.Requests.{◌>>=◌}
+use Rattle.session_turns.specs.declared.settings.Settings.{Settings}
 use Rattle.rvstm_c.specs.declared.settings.SettingsForC.{SettingsForC}
 
 -- those where none is given

@@ -1,6 +1,6 @@
 -- What a call answers.
 use Rattle.std.specs.Prelude.{ℕ}
-use Rattle.turns.specs.Replies.{Reply, Done, Refused, Failed}
+use Rattle.session_turns.specs.Replies.{TurnReply, Done, Refused, Failed}
 
 -- it was done
 abbrev pub done : ℕ
@@ -35,7 +35,7 @@ abbrev pub bad_settings : ℕ
 bad_settings = 7
 
 -- what a call answers whose request is answered so
-abbrev pub status_of : Reply → ℕ
+abbrev pub status_of : TurnReply → ℕ
 status_of (Done bytes) = done
 status_of (Refused refusal) = refused
 status_of (Failed failure) = failed

@@ -1,9 +1,9 @@
 //! The requests of a session that a handle has.
 
 ghost use Rattle.std.specs.Prelude.{◌≡◌, None};
-ghost use Rattle.requests.specs.Reading.{ask_of};
-ghost use Rattle.requests.specs.Requests.{Ask, Begin, Dump, Forget, Frame, Get, Last, Program, Programs, State as AskState, Try};
-ghost use Rattle.turns.specs.Stages.{IsTurn};
+ghost use Rattle.session_requests.specs.Reading.{ask_of};
+ghost use Rattle.session_requests.specs.Requests.{Ask, Begin, Dump, Forget, Frame, Get, Last, Program, Programs, State as AskState, Try};
+ghost use Rattle.session_turns.specs.Stages.{IsTurn};
 ghost use Rattle.rvstm_c.specs.Asked.{begin_asked, list_asked, with_bytes, with_name};
 ghost use Rattle.rvstm_c.specs.Embedding.{IsCalled, IsNew, TakesTurn};
 ghost use Rattle.rvstm_c.specs.declared.session.EmbeddedSession.{EmbeddedSession};
@@ -13,11 +13,11 @@ use crate::given::{Given, status_of};
 use crate::session::EmbeddedSession;
 use crate::status::REFUSED;
 use crate::whole::made_whole;
-use requests::Request;
-use std::alloc::Global;
-use turns::{
+use session_requests::Request;
+use session_turns::{
     Answer, InOrder, Settings, State, take_begin, take_frame, take_program, take_try, take_turn,
 };
+use std::alloc::Global;
 
 impl EmbeddedSession {
     /// A session before its first request.

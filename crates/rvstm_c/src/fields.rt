@@ -1,7 +1,7 @@
 //! What a call is given, as the fields of a line.
 
 ghost use Rattle.std.specs.Prelude.{◌≡◌, ◌&&◌, length, nat_le, nat_lt};
-ghost use Rattle.requests.specs.Requests.{digest_of, name_of};
+ghost use Rattle.session_requests.specs.Requests.{digest_of, hex_name_of};
 
 use block_file::fields::key;
 
@@ -10,7 +10,7 @@ pub(crate) const MOST: u64 = 9_999_999_999;
 
 /// The 32 bytes that 64 lower-case hex digits give. None for any other text.
 pub(crate) fn name_of(text: &[u8]) -> Option<[u8; 32]>
-    ensures { result ≡ name_of text.now }
+    ensures { result ≡ hex_name_of text.now }
 {
     Some(*key(text).ok()?.bytes())
 }

@@ -1,14 +1,14 @@
 //! What the last request of a session was answered.
 
 ghost use Rattle.std.specs.Prelude.{◌≡◌};
-ghost use Rattle.turns.specs.Replies.{answer_bytes};
-ghost use Rattle.turns.specs.Turn.{last_reply};
+ghost use Rattle.session_turns.specs.Replies.{answer_bytes};
+ghost use Rattle.session_turns.specs.Turn.{last_reply};
 ghost use Rattle.rvstm_c.specs.Given.{bytes_given, status_given};
 ghost use Rattle.rvstm_c.specs.Statuses.{status_of};
 
 use crate::session::EmbeddedSession;
 use crate::status::{DONE, FAILED, REFUSED};
-use turns::{Answer, KeptAnswer, State, bytes_of_kept};
+use session_turns::{Answer, KeptAnswer, State, bytes_of_kept};
 
 /// What the last request of a session was answered.
 #[derive(Drop)]

@@ -16,7 +16,7 @@ mod tests;
 mod whole;
 
 ghost use Rattle.std.specs.Prelude.{◌≡◌, length, None, Some};
-ghost use Rattle.requests.specs.Requests.{Dump, Forget, Frame, Get, Last, Program, Programs, State, Try};
+ghost use Rattle.session_requests.specs.Requests.{Dump, Forget, Frame, Get, Last, Program, Programs, State, Try};
 ghost use Rattle.rvstm_c.specs.Asked.{begin_asked, list_asked, with_bytes, with_name};
 ghost use Rattle.rvstm_c.specs.Embedding.{IsAnswerCopied, IsCalled, IsClosed, IsOpened, OnSession, bytes_in};
 ghost use Rattle.rvstm_c.specs.Refusals.{ArePartsOf};
@@ -30,13 +30,13 @@ use handle::{put_session, take_session};
 pub use refusal::RefusalParts;
 use refusal::{NO_PARTS, parts_of};
 pub use session::EmbeddedSession;
+use session_turns::Settings;
 pub use settings::SettingsForC;
 use settings::settings_of;
 pub use status::{
     ALREADY_OPEN, BAD_SETTINGS, CLOSED, DONE, FAILED, NO_MEMORY, REFUSED, SHORT_BUFFER,
 };
 use std::alloc::{AllocFailed, Global};
-use turns::Settings;
 
 /// The version: major * 1,000,000 + minor * 1,000 + patch.
 const VERSION: u32 = 2_000;

@@ -2,12 +2,12 @@
 
 ghost use Rattle.std.specs.Prelude.{◌≡◌, ◌≤◌, length};
 ghost use Rattle.byte_streams.specs.Refusals.{parts_in};
-ghost use Rattle.turns.specs.Turn.{last_reply};
+ghost use Rattle.session_turns.specs.Turn.{last_reply};
 ghost use Rattle.rvstm_c.specs.Refusals.{handed_out, padded, parts_given, parts_of_reply};
 
 use crate::given::Given;
 use byte_streams::LineParts;
-use turns::{Answer, FrameRefusal, KeptAnswer, State};
+use session_turns::{Answer, FrameRefusal, KeptAnswer, State};
 
 /// The room for an area, in bytes: no area has more than 7.
 const AREA_ROOM: usize = 8;

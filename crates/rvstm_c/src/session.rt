@@ -4,7 +4,7 @@ ghost use Rattle.std.specs.Prelude.{◌≡◌, true};
 ghost use Rattle.rvstm_c.specs.Given.{is_in_memory};
 
 use crate::given::Given;
-use turns::{Settings, State};
+use session_turns::{Settings, State};
 
 /// A session that a handle has.
 #[derive(Drop)]

@@ -4,7 +4,7 @@ ghost use Rattle.std.specs.Prelude.{◌≡◌, Some};
 ghost use Rattle.rvstm_c.specs.Settings.{gas_of, number_of, settings_of};
 
 use crate::fields::MOST;
-use turns::Settings;
+use session_turns::Settings;
 
 /// What stands for a bound that is none.
 const NO_LIMIT: u64 = u64::MAX;

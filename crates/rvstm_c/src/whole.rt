@@ -1,14 +1,14 @@
 //! Answers whose bytes are in memory.
 
 ghost use Rattle.std.specs.Prelude.{◌≡◌, IfOk, true};
-ghost use Rattle.turns.specs.Telling.{dump_text};
+ghost use Rattle.session_turns.specs.Telling.{dump_text};
 ghost use Rattle.rvstm_c.specs.Given.{IsMadeWhole, is_in_memory};
 ghost use Rattle.rvstm_c.specs.declared.given.Given.TheVariants.{Answered};
 
 use byte_streams::WriteFault;
 use rv_ledger::{Rules, Store};
+use session_turns::{Answer, EmptyBuffer, Failure, State, dump_length, write_dump};
 use std::alloc::{AllocError, Global};
-use turns::{Answer, EmptyBuffer, Failure, State, dump_length, write_dump};
 
 /// An answer with its bytes in memory: that of a storage is made a text. It fails where memory for that runs out.
 pub(crate) fn made_whole(alloc: Global, state: &State, answer: Answer) -> Answer

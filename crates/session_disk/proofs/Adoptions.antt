@@ -15,7 +15,7 @@ use Rattle.sqlite_store.specs.Listing.{IsOurs}
 use Rattle.sqlite_store.specs.Opening.{IsEmptyFile}
 use Rattle.sqlite_store.specs.Unopened.{HasFileAs, HasSomeFile, IsCatalogOf, IsUnstarted, Opens, image, state_of, wanted_by}
 use Rattle.session_disk.specs.Tables.{session_schema}
-use Rattle.session_disk.specs.Sessions.{page_size, AreFoundIn, BeginsWell, IsSession}
+use Rattle.session_disk.specs.Sessions.{database_page_size, AreFoundIn, BeginsWell, IsSession}
 use Rattle.session_disk.proofs.Images.{begun_again, found_before, ours_again, some_file}
 
 pub if_ok : {T E : Type 0} {P Q : T → Type 0} (r : Result T E) → ((x : T) → P x → Q x) → IfOk r P → IfOk r Q
@@ -42,29 +42,29 @@ pub some_rows : (rows : List Row) (b : Bool) → b ≡ (length rows == 0) → b 
 some_rows [] b is off none = let never = sym is ∙ off in cc
 some_rows (r ∷ rows) b is off none = cc
 
-module _ {D : Type 0} {g : Ghosts D} (old : Unopened D g) (size : (state_of old).page_size ≡ page_size) where
-  pub has_some : ¬ IsBlankFile page_size (image old) → IsSession (image old) → HasSomeFile old
+module _ {D : Type 0} {g : Ghosts D} (old : Unopened D g) (size : (state_of old).page_size ≡ database_page_size) where
+  pub has_some : ¬ IsBlankFile database_page_size (image old) → IsSession (image old) → HasSomeFile old
   has_some some session = subst (λ n. (pages : PageMap) × Recovers n (image old) pages × ((schema : _) × IsFile n schema pages)) (sym size) (some_file (image old) session some)
 
   module _ (mid : Unopened D g) (first : Opens old (state_of mid)) (rows : List Row) (catalog : IsCatalogOf old mid rows) where
-    pub mid_size : (state_of mid).page_size ≡ page_size
+    pub mid_size : (state_of mid).page_size ≡ database_page_size
     mid_size = first.size ∙ size
 
-    pub before : Recovers page_size (image old) catalog.pages
+    pub before : Recovers database_page_size (image old) catalog.pages
     before = subst (λ n. Recovers n (image old) catalog.pages) size catalog.found
 
-    pub again : Recovers page_size (image mid) catalog.pages
+    pub again : Recovers database_page_size (image mid) catalog.pages
     again = subst (λ n. Recovers n (image mid) catalog.pages) size catalog.again
 
-    listed : rows ≡ rows_at page_size (in_use page_size catalog.pages) Table 1
+    listed : rows ≡ rows_at database_page_size (in_use database_page_size catalog.pages) Table 1
     listed = catalog.lists ∙ ap (λ n. rows_at n (in_use n catalog.pages) Table 1) size
 
-    pub unstarted : ¬ IsBlankFile page_size (image old) → rows ≡ [] → IsSession (image old) → IsUnstarted mid
+    pub unstarted : ¬ IsBlankFile database_page_size (image old) → rows ≡ [] → IsSession (image old) → IsUnstarted mid
     unstarted some none session =
         subst (λ n. IsBlankFile n (image mid) ⊎ ((pages : PageMap) × Recovers n (image mid) pages × IsEmptyFile n pages)) (sym mid_size)
         (begun_again (image old) (image mid) catalog.pages session some before again (sym listed ∙ none))
 
-    pub has_file : ¬ IsBlankFile page_size (image old) → wanted_by mid ≡ session_schema → ¬ (rows ≡ []) → IsSession (image old) → HasFileAs mid true
+    pub has_file : ¬ IsBlankFile database_page_size (image old) → wanted_by mid ≡ session_schema → ¬ (rows ≡ []) → IsSession (image old) → HasFileAs mid true
     has_file some schema full session =
         subst₂ (λ n s. (pages : PageMap) × Recovers n (image mid) pages × IsOurs n true s pages) (sym mid_size) (sym schema)
         (ours_again (image old) (image mid) catalog.pages session some before again (λ none. full (listed ∙ none)))
@@ -72,6 +72,6 @@ module _ {D : Type 0} {g : Ghosts D} (old : Unopened D g) (size : (state_of old)
     pub found_in : BeginsWell (image old) → (db : Trees) → AreFoundIn (image mid) db → AreFoundIn (image old) db
     found_in begins db = found_before (image old) (image mid) catalog.pages before again begins db
 
-    pub found_old : (committed : PageMap) → Recovers (state_of mid).page_size (image mid) committed → Recovers page_size (image old) committed
+    pub found_old : (committed : PageMap) → Recovers (state_of mid).page_size (image mid) committed → Recovers database_page_size (image old) committed
     found_old committed found =
-        subst (Recovers page_size (image old)) (recovers_once page_size (image mid) catalog.pages committed again (subst (λ n. Recovers n (image mid) committed) mid_size found)) before
+        subst (Recovers database_page_size (image old)) (recovers_once database_page_size (image mid) catalog.pages committed again (subst (λ n. Recovers n (image mid) committed) mid_size found)) before

@@ -11,17 +11,17 @@ use Rattle.sqlite_store.specs.declared.error.OpenError.{OpenError}
 use Rattle.sqlite_store.specs.declared.error.OpenError.TheVariants as opening
 use Rattle.sqlite_store.specs.Opening.{FailsToOpen}
 use Rattle.session_disk.specs.Faults.{probe_fault, store_fault}
-use Rattle.session_disk.specs.Opening.{MayFail}
+use Rattle.session_disk.specs.Opening.{MayOpenFail}
 use Rattle.session_disk.specs.declared.fault.OpenFault.{OpenFault}
 use Rattle.session_disk.specs.declared.fault.OpenFault.TheVariants.{Busy, HotJournal, Unreadable, NotASession, Full, Memory}
 
-pub from_store : (a b c : ℕ) (L L' P Q : Type 0) (e : OpenError) → a ≤ b → (L → L') → (Q → P) → FailsToOpen b c L P e → MayFail a c L' Q (store_fault e)
+pub from_store : (a b c : ℕ) (L L' P Q : Type 0) (e : OpenError) → a ≤ b → (L → L') → (Q → P) → FailsToOpen b c L P e → MayOpenFail a c L' Q (store_fault e)
 from_store a b c L L' P Q opening.OutOfMemory up limit so h = tt
 from_store a b c L L' P Q opening.Io up limit so h = omega (arith, h)
 from_store a b c L L' P Q opening.Full up limit so h = limit h
 from_store a b c L L' P Q opening.Refused up limit so h = λ w. h (so w)
 
-pub wider : (a b c : ℕ) (L L' P Q : Type 0) (e : OpenFault) → a ≤ b → (L → L') → (Q → P) → MayFail b c L P e → MayFail a c L' Q e
+pub wider : (a b c : ℕ) (L L' P Q : Type 0) (e : OpenFault) → a ≤ b → (L → L') → (Q → P) → MayOpenFail b c L P e → MayOpenFail a c L' Q e
 wider a b c L L' P Q Memory up limit so h = tt
 wider a b c L L' P Q Unreadable up limit so h = omega (arith, h)
 wider a b c L L' P Q Full up limit so h = limit h
@@ -30,7 +30,7 @@ wider a b c L L' P Q Busy up limit so h = h
 wider a b c L L' P Q HotJournal up limit so h = h
 
 -- of the probe for no database
-pub blank_cause : (a b size : ℕ) (image : Image) (Wanted : Type 0) (e : log.Error) → HasCause a b (OnlyIf wal.Full (IsLogFor size image.log × IsHuge size image)) e → MayFail a b (IsHuge size image) Wanted (probe_fault e)
+pub blank_cause : (a b size : ℕ) (image : Image) (Wanted : Type 0) (e : log.Error) → HasCause a b (OnlyIf wal.Full (IsLogFor size image.log × IsHuge size image)) e → MayOpenFail a b (IsHuge size image) Wanted (probe_fault e)
 blank_cause a b size image Wanted (wal.Io x) cause = cause
 blank_cause a b size image Wanted wal.OutOfMemory cause = tt
 blank_cause a b size image Wanted wal.Full cause = cause.1.1
@@ -41,7 +41,7 @@ blank_cause a b size image Wanted wal.Exists cause = let e = cause.0 in absurd (
 
 -- of the probe for a first page
 pub log_cause : (a b size : ℕ) (image : Image) (Wanted : Type 0) (e : log.Error) → HasCause a b (RefusesLog size image.log) e → (Wanted → (k : ℕ) × raw.Replays size image.log k)
-    → MayFail a b (IsHuge size image) Wanted (probe_fault e)
+    → MayOpenFail a b (IsHuge size image) Wanted (probe_fault e)
 log_cause a b size image Wanted (wal.Io x) cause reads = cause
 log_cause a b size image Wanted wal.OutOfMemory cause reads = tt
 log_cause a b size image Wanted wal.Full cause reads = elim cause [ inl bad ↦ let e = bad.0 in absurd (cc) | inr huge ↦ inl huge.1 ]

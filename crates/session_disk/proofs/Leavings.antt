@@ -11,7 +11,7 @@ use Rattle.sqlite_store.specs.declared.store.open.Unopened.{Unopened}
 use Rattle.sqlite_store.specs.Opening.{IsEmptyFile, IsFresh}
 use Rattle.sqlite_store.specs.Unopened.{Creates, IsAsBefore, IsOnTheWay, IsUnstarted, Opens, image, state_of, wanted_by}
 use Rattle.session_disk.specs.Tables.{session_schema}
-use Rattle.session_disk.specs.Sessions.{page_size, BeginsWell, IsBereft, IsCutShort, IsSession}
+use Rattle.session_disk.specs.Sessions.{database_page_size, BeginsWell, IsBereft, IsFileCutShort, IsSession}
 use Rattle.session_disk.specs.Opening.{LeavesAs}
 use Rattle.session_disk.proofs.Images.{not_blank, on_the_way, same_session}
 
@@ -28,45 +28,45 @@ from_earlier seen now old mid new same fewer leaves =
       other = λ s left may. elim (l.other s left may) [ inl was ↦ inl (fewer left was) | inr alike ↦ inr alike ];
     }
 
-module _ {D : Type 0} {g : Ghosts D} (old : Unopened D g) (size : (state_of old).page_size ≡ page_size) where
-  sized : (now : Image) → IsAsBefore old now → (state_of old).may_leave now ⊎ RecoversAs page_size (image old) now
+module _ {D : Type 0} {g : Ghosts D} (old : Unopened D g) (size : (state_of old).page_size ≡ database_page_size) where
+  sized : (now : Image) → IsAsBefore old now → (state_of old).may_leave now ⊎ RecoversAs database_page_size (image old) now
   sized now before = elim before.same [ inl was ↦ inl was | inr alike ↦ inr (subst (λ n. RecoversAs n (image old) now) size alike) ]
 
-  a_session : ¬ IsBlankFile page_size (image old) → IsSession (image old) → (now : Image) → (state_of old).may_leave now ⊎ RecoversAs page_size (image old) now
-      → (state_of old).may_leave now ⊎ ∥ IsCutShort now ∥₁
+  a_session : ¬ IsBlankFile database_page_size (image old) → IsSession (image old) → (now : Image) → (state_of old).may_leave now ⊎ RecoversAs database_page_size (image old) now
+      → (state_of old).may_leave now ⊎ ∥ IsFileCutShort now ∥₁
   a_session some session now (inl was) = inl was
   a_session some session now (inr alike) = inr ∣ inl (same_session (image old) now session some alike) ∣₁
 
   -- a database is not opened
-  pub not_opened : (new : State) → ¬ IsBlankFile page_size (image old) → Opens old new → LeavesAs (image old) (state_of old).may_leave new.may_leave
+  pub not_opened : (new : State) → ¬ IsBlankFile database_page_size (image old) → Opens old new → LeavesAs (image old) (state_of old).may_leave new.may_leave
   not_opened new some kept = record {
     session = λ session now may. a_session some session now (sized now (kept.crash now may));
     other = λ _ now may. sized now (kept.crash now may);
   }
 
-  way : wanted_by old ≡ session_schema → (now : Image) → IsOnTheWay old now → ∥ IsCutShort now ∥₁
+  way : wanted_by old ≡ session_schema → (now : Image) → IsOnTheWay old now → ∥ IsFileCutShort now ∥₁
   way schema now made =
       on_the_way now (subst₂ (λ n s. IsBlankFile n now ⊎ ((pages : PageMap) × Recovers n now pages × (IsNew n pages ⊎ ∥ IsFresh n s pages ∥₁))) size schema made)
 
   -- where there was no database, none is made
-  pub not_made : (new : State) → wanted_by old ≡ session_schema → IsBlankFile page_size (image old) → ¬ IsBereft (image old) → Creates old new → LeavesAs (image old) (state_of old).may_leave new.may_leave
+  pub not_made : (new : State) → wanted_by old ≡ session_schema → IsBlankFile database_page_size (image old) → ¬ IsBereft (image old) → Creates old new → LeavesAs (image old) (state_of old).may_leave new.may_leave
   not_made new schema blank whole kept = record {
     session = λ _ now may. elim (kept.blank (subst (λ n. IsBlankFile n (image old)) (sym size) blank) now may) [ inl was ↦ inl was | inr made ↦ inr (way schema now made) ];
     other = λ foreign now may. absurd (foreign (inr (inl (blank, whole))));
   }
 
   -- the files are recovered first
-  module _ (mid : Unopened D g) (first : Opens old (state_of mid)) (some : ¬ IsBlankFile page_size (image old)) (pages : PageMap) (found : Recovers page_size (image old) pages)
-      (again : Recovers page_size (image mid) pages) where
-    mid_size : (state_of mid).page_size ≡ page_size
+  module _ (mid : Unopened D g) (first : Opens old (state_of mid)) (some : ¬ IsBlankFile database_page_size (image old)) (pages : PageMap) (found : Recovers database_page_size (image old) pages)
+      (again : Recovers database_page_size (image mid) pages) where
+    mid_size : (state_of mid).page_size ≡ database_page_size
     mid_size = first.size ∙ size
 
-    second : (now : Image) → IsAsBefore mid now → (state_of old).may_leave now ⊎ RecoversAs page_size (image old) now
+    second : (now : Image) → IsAsBefore mid now → (state_of old).may_leave now ⊎ RecoversAs database_page_size (image old) now
     second now before = elim before.same [
       | inl was ↦ sized now (first.crash now was)
       | inr alike ↦
           let same = subst (λ n. RecoversAs n (image mid) now) mid_size alike in
-          inr (RecoversAs-from page_size (image old) now pages found (carried page_size (image mid) now same pages again))
+          inr (RecoversAs-from database_page_size (image old) now pages found (carried database_page_size (image mid) now same pages again))
     ]
 
     pub not_opened_then : (new : State) → Opens mid new → LeavesAs (image old) (state_of old).may_leave new.may_leave
@@ -79,7 +79,7 @@ module _ {D : Type 0} {g : Ghosts D} (old : Unopened D g) (size : (state_of old)
     unstarted begins foreign (inl blank) =
         not_blank (image old) pages found begins (image mid) again (subst (λ n. IsBlankFile n (image mid)) mid_size blank)
     unstarted begins foreign (inr empty) =
-        let same = recovers_once page_size (image mid) empty.0 pages (subst (λ n. Recovers n (image mid) empty.0) mid_size empty.1) again in
+        let same = recovers_once database_page_size (image mid) empty.0 pages (subst (λ n. Recovers n (image mid) empty.0) mid_size empty.1) again in
         foreign (inr (inr (pages, found, subst₂ IsEmptyFile mid_size same empty.2)))
 
     pub not_made_then : (new : State) → wanted_by mid ≡ session_schema → BeginsWell (image old) → Creates mid new → LeavesAs (image old) (state_of old).may_leave new.may_leave

@@ -8,8 +8,8 @@ use Rattle.sqlite_wal.specs.Recovery.{Image}
 use Rattle.sqlite_wal.proofs.CleanLemmas.{both_clean}
 use Rattle.sqlite_store.specs.declared.store.open.Unopened.{Unopened}
 use Rattle.sqlite_store.specs.Unopened.{files_of, image, state_of}
-use Rattle.session_disk.specs.Sessions.{page_size, IsSession}
-use Rattle.session_disk.specs.Opening.{FailsToOpen, LeavesFiles, MayFail, faults_of, image_of}
+use Rattle.session_disk.specs.Sessions.{database_page_size, IsSession}
+use Rattle.session_disk.specs.Opening.{FailsToOpen, LeavesFiles, MayOpenFail, faults_of, files_image}
 use Rattle.session_disk.specs.declared.fault.OpenFault.{OpenFault}
 use Rattle.session_disk.specs.declared.leftover.Leftover.{Leftover}
 use Rattle.session_disk.specs.declared.leftover.Leftover.TheVariants as left
@@ -18,7 +18,7 @@ use Rattle.session_disk.proofs.Leavings.{from_earlier, only_reads}
 use Rattle.session_disk.proofs.Stores.{pool_files}
 
 module _ {D : Type 0} (g : Ghosts D) (old new : Files D) (log : OnlyReads g old.log new.log) (db : OnlyReads g old.db new.db) where
-  pub same_image : image_of g new ≡ image_of g old
+  pub same_image : files_image g new ≡ files_image g old
   same_image = ap₂ (λ a b. let i : Image = record { log = a; db = b } in i) log.seen db.seen
 
   pub was_clean : AreClean g new.log new.db → AreClean g old.log old.db
@@ -28,8 +28,8 @@ module _ {D : Type 0} (g : Ghosts D) (old new : Files D) (log : OnlyReads g old.
   fewer now may = (log.crash now.log may.0, db.crash now.db may.1)
 
   -- a call that only reads refuses them
-  pub fails_by_reading : (fault : OpenFault) → MayFail (faults_of g old) (faults_of g new) (IsHuge page_size (image_of g old)) (IsSession (image_of g old)) fault → FailsToOpen {g = g} old (left.Files new) fault
-  fails_by_reading fault cause = wider _ _ _ _ _ _ _ fault (le_refl _) (subst (IsHuge page_size) (sym same_image)) (λ session. session) cause
+  pub fails_by_reading : (fault : OpenFault) → MayOpenFail (faults_of g old) (faults_of g new) (IsHuge database_page_size (files_image g old)) (IsSession (files_image g old)) fault → FailsToOpen {g = g} old (left.Files new) fault
+  fails_by_reading fault cause = wider _ _ _ _ _ _ _ fault (le_refl _) (subst (IsHuge database_page_size) (sym same_image)) (λ session. session) cause
 
   pub leaves_by_reading : LeavesFiles {g = g} old (left.Files new)
   leaves_by_reading = only_reads _ _ _ fewer
@@ -48,7 +48,7 @@ module _ {D : Type 0} (g : Ghosts D) (files rest : Files D) (log : rest.log ≡ 
 
 -- and what they are once they are to be opened
 module _ {D : Type 0} {g : Ghosts D} (fresh : Unopened D g) (files : Files D) (made : files_of fresh ≡ (files.log, files.db)) where
-  pub seen_files : image fresh ≡ image_of g files
+  pub seen_files : image fresh ≡ files_image g files
   seen_files = ap (λ f. seen_image g f.0 f.1) made
 
   clean_same : (state_of fresh).is_clean ≡ are_clean g files.log files.db

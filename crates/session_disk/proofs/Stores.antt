@@ -23,7 +23,7 @@ use Rattle.sqlite_store.proofs.FileLemmas.{one_schema}
 use Rattle.session_file.specs.Opening.{IsFresh}
 use Rattle.session_file.specs.Staging.{HasTrees}
 use Rattle.session_disk.specs.Tables.{session_schema}
-use Rattle.session_disk.specs.Sessions.{page_size, HoldsRows, IsSessionFile}
+use Rattle.session_disk.specs.Sessions.{database_page_size, HoldsRows, IsSessionFile}
 use Rattle.session_disk.specs.Closing.{AreFolded, HoldsTrees}
 use Rattle.session_disk.specs.Opening.{IsSessionStore}
 
@@ -53,12 +53,12 @@ module _ {D : Type 0} {g : Ghosts D} (it : FileStore D g) where
       }))
 
   -- what is committed is in the rows that are shown
-  pub rows_are : IsSessionStore it → IsTrue (view it).is_clean → (view it).committed ≡ file_trees page_size session_schema (state it).committed
+  pub rows_are : IsSessionStore it → IsTrue (view it).is_clean → (view it).committed ≡ file_trees database_page_size session_schema (state it).committed
   rows_are tables clean =
       cond-true _ (file_trees (state it).page_size (kept_schema it.saved it.schema.items) (state it).committed) no_trees clean
       ∙ ap₂ (λ n s. file_trees n s (state it).committed) tables.size (ap (λ o. kept_schema o it.schema.items) tables.unaltered ∙ tables.schema)
 
-  pub holds_rows : IsSessionStore it → IsTrue (view it).is_clean → IsTrue (view it).is_open → (image : Image) → Recovers page_size image (state it).committed → ∥ HoldsRows image (view it).committed ∥₁
+  pub holds_rows : IsSessionStore it → IsTrue (view it).is_clean → IsTrue (view it).is_open → (image : Image) → Recovers database_page_size image (state it).committed → ∥ HoldsRows image (view it).committed ∥₁
   holds_rows tables clean on image found = ∥∥₁_map (it.stored on) (λ stored. record {
     file = record {
       pages = (state it).committed;

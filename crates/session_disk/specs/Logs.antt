@@ -38,9 +38,9 @@ paths_of None = []
 paths_of (Some path) = string_bytes path ∷ []
 
 -- the log beside the file that a path leads to, if nothing is there yet; otherwise none
-abbrev pub IsBeside : Option FolderView → List ℕ → NewLog → Type 0
-IsBeside None path log = ⊤
-IsBeside (Some known) path log = ((known.is_free (log_name known path) ≡ true) × (paths_of log.path ≡ log_name known path ∷ []))
+abbrev pub IsLogBeside : Option FolderView → List ℕ → NewLog → Type 0
+IsLogBeside None path log = ⊤
+IsLogBeside (Some known) path log = ((known.is_free (log_name known path) ≡ true) × (paths_of log.path ≡ log_name known path ∷ []))
     ⊎ ((known.is_free (log_name known path) ≡ false) × (log.path ≡ None))
 
 -- A log with fewer bytes than this holds nothing, if its files are refused for that fault. If they are no session's it is one that

@@ -15,39 +15,39 @@ use Rattle.sqlite_store.specs.Unopened.{IsFullFile, StopsCreating, AreUsable, fi
 use Rattle.session_file.specs.Opening.{IsFresh}
 use Rattle.session_file.specs.Staging.{HasTrees}
 use Rattle.session_disk.specs.Tables.{session_schema}
-use Rattle.session_disk.specs.Sessions.{page_size, AreFoundIn, IsCutShort, IsSession}
+use Rattle.session_disk.specs.Sessions.{database_page_size, AreFoundIn, IsFileCutShort, IsSession}
 use Rattle.session_disk.specs.declared.fault.OpenFault.{OpenFault}
 use Rattle.session_disk.specs.declared.fault.OpenFault.TheVariants.{Busy, HotJournal, Unreadable, NotASession, Full, Memory}
 use Rattle.session_disk.specs.declared.leftover.Leftover.{Leftover}
 use Rattle.session_disk.specs.declared.leftover.Leftover.TheVariants as left
 
 -- An open fails for memory, a fault of the disk or a limit of the format, or it refuses files that are not what is wanted.
-abbrev pub MayFail : ℕ → ℕ → Type 0 → Type 0 → OpenFault → Type 0
-MayFail old new AtLimit Wanted Memory = ⊤
-MayFail old new AtLimit Wanted Unreadable = MoreFaults old new
-MayFail old new AtLimit Wanted Full = AtLimit
-MayFail old new AtLimit Wanted NotASession = ¬ Wanted
-MayFail old new AtLimit Wanted Busy = ⊥
-MayFail old new AtLimit Wanted HotJournal = ⊥
+abbrev pub MayOpenFail : ℕ → ℕ → Type 0 → Type 0 → OpenFault → Type 0
+MayOpenFail old new AtLimit Wanted Memory = ⊤
+MayOpenFail old new AtLimit Wanted Unreadable = MoreFaults old new
+MayOpenFail old new AtLimit Wanted Full = AtLimit
+MayOpenFail old new AtLimit Wanted NotASession = ¬ Wanted
+MayOpenFail old new AtLimit Wanted Busy = ⊥
+MayOpenFail old new AtLimit Wanted HotJournal = ⊥
 
 -- If the files held this, a crash leaves of a session what it left before, a session, or one that is cut while it is made. Of
 -- others it leaves what it left before, or files with the same content.
 pub record LeavesAs (image : Image) (old new : Image → Type 0) : Type 0 where
-  pub session : IsSession image → (now : Image) → new now → old now ⊎ ∥ IsCutShort now ∥₁
-  pub other : ¬ IsSession image → (now : Image) → new now → old now ⊎ RecoversAs page_size image now
+  pub session : IsSession image → (now : Image) → new now → old now ⊎ ∥ IsFileCutShort now ∥₁
+  pub other : ¬ IsSession image → (now : Image) → new now → old now ⊎ RecoversAs database_page_size image now
 
 -- what reads of the two files return
-abbrev pub image_of : {D : Type 0} → Ghosts D → Files D → Image
-image_of g files = seen_image g files.log files.db
+abbrev pub files_image : {D : Type 0} → Ghosts D → Files D → Image
+files_image g files = seen_image g files.log files.db
 
 abbrev pub faults_of : {D : Type 0} → Ghosts D → Files D → ℕ
 faults_of g files = g.faults files.log + g.faults files.db
 
 module _ {D : Type 0} {g : Ghosts D} where
   -- the files were not opened yet, and are to have the tables of a session
-  pub record IsUnopened (it : Unopened D g) : Type 0 where
+  pub record AreFilesUnopened (it : Unopened D g) : Type 0 where
     pub usable : AreUsable it
-    pub size : IsTrue (state_of it).is_clean → (state_of it).page_size ≡ page_size
+    pub size : IsTrue (state_of it).is_clean → (state_of it).page_size ≡ database_page_size
     pub schema : wanted_by it ≡ session_schema
 
   -- the limit of an open that finds a database, or that makes one
@@ -68,7 +68,7 @@ module _ {D : Type 0} {g : Ghosts D} where
   IsCleanLeft (left.Unopened files) = IsTrue (state_of files).is_clean
 
   abbrev pub IsFullLeft : Leftover D g → Type 0
-  IsFullLeft (left.Files files) = log_files.IsHuge page_size (image_of g files)
+  IsFullLeft (left.Files files) = log_files.IsHuge database_page_size (files_image g files)
   IsFullLeft (left.Unopened files) = IsFullNow files
 
   -- what a crash leaves then
@@ -78,21 +78,21 @@ module _ {D : Type 0} {g : Ghosts D} where
 
   -- why files are refused: NotASession tells that no session left them
   abbrev pub FailsToOpen : Files D → Leftover D g → OpenFault → Type 0
-  FailsToOpen files rest = MayFail (faults_of g files) (faults_left rest) (IsFullLeft rest) (IsSession (image_of g files))
+  FailsToOpen files rest = MayOpenFail (faults_of g files) (faults_left rest) (IsFullLeft rest) (IsSession (files_image g files))
 
   -- what a refused open leaves
   abbrev pub LeavesFiles : Files D → Leftover D g → Type 0
-  LeavesFiles files rest = LeavesAs (image_of g files) (outcomes g files.log files.db) (outcomes_left rest)
+  LeavesFiles files rest = LeavesAs (files_image g files) (outcomes g files.log files.db) (outcomes_left rest)
 
   -- the store has the tables of a session and no other, and its transaction made none
   pub record IsSessionStore (it : FileStore D g) : Type 0 where
-    pub size : (state it).page_size ≡ page_size
+    pub size : (state it).page_size ≡ database_page_size
     pub schema : schema_of it ≡ session_schema
     pub unaltered : IsUnaltered it
     pub numbered : IsTrue (view it).is_numbered
 
   -- it was opened over files that held this
-  pub record IsOpened (image : Image) (it : FileStore D g) : Type 0 where
+  pub record AreFilesOpened (image : Image) (it : FileStore D g) : Type 0 where
     pub tables : IsSessionStore it
     pub fresh : IsFresh (view it)
     pub is_open : IsTrue (view it).is_open

@@ -11,27 +11,27 @@ use Rattle.sqlite_store.specs.Opening.{IsEmptyFile}
 use Rattle.session_disk.specs.Tables.{session_schema}
 
 -- the number of bytes in a page
-abbrev pub page_size : ℕ
-page_size = 4096
+abbrev pub database_page_size : ℕ
+database_page_size = 4096
 
 -- a first page that is whole begins with the S of SQLite
 abbrev pub BeginsWell : Image → Type 0
 BeginsWell image =
-    (pages : PageMap) (first : List ℕ) → raw.Recovers page_size image pages → pages 1 ≡ Some first → length first ≡ page_size → slice_index first 0 ≡ 83
+    (pages : PageMap) (first : List ℕ) → raw.Recovers database_page_size image pages → pages 1 ≡ Some first → length first ≡ database_page_size → slice_index first 0 ≡ 83
 
 -- the files hold a database with the tables of a session and no other
 pub record IsSessionFile (image : Image) : Type 0 where
   pub pages : PageMap
-  pub found : Recovers page_size image pages
-  pub ours : IsOurs page_size true session_schema pages
+  pub found : Recovers database_page_size image pages
+  pub ours : IsOurs database_page_size true session_schema pages
 
 -- an empty database file beside a log with a commit: it is not the file that the log was written for
 abbrev pub IsBereft : Image → Type 0
-IsBereft image = (length image.db ≡ 0) × ((frames : ℕ) × (0 < frames) × raw.Replays page_size image.log frames)
+IsBereft image = (length image.db ≡ 0) × ((frames : ℕ) × (0 < frames) × raw.Replays database_page_size image.log frames)
 
 -- there is no database yet, or a sound one with no table
 abbrev pub IsBegun : Image → Type 0
-IsBegun image = (IsBlankFile page_size image × ¬ IsBereft image) ⊎ ((pages : PageMap) × Recovers page_size image pages × IsEmptyFile page_size pages)
+IsBegun image = (IsBlankFile database_page_size image × ¬ IsBereft image) ⊎ ((pages : PageMap) × Recovers database_page_size image pages × IsEmptyFile database_page_size pages)
 
 -- a session left them, at whatever moment it was cut
 abbrev pub IsSession : Image → Type 0
@@ -39,13 +39,13 @@ IsSession image = IsSessionFile image ⊎ IsBegun image
 
 -- what a session or the making of its database leaves if it is cut. The kit says of such a making that there may be no database
 -- yet, and not what is in the log then
-abbrev pub IsCutShort : Image → Type 0
-IsCutShort image = IsSession image ⊎ IsBlankFile page_size image
+abbrev pub IsFileCutShort : Image → Type 0
+IsFileCutShort image = IsSession image ⊎ IsBlankFile database_page_size image
 
 -- the tables of a session hold these rows
 pub record HoldsRows (image : Image) (db : Trees) : Type 0 where
   pub file : IsSessionFile image
-  pub rows : db ≡ file_trees page_size session_schema file.pages
+  pub rows : db ≡ file_trees database_page_size session_schema file.pages
 
 -- these rows are what the files hold, or they hold no table and there are no rows
 abbrev pub AreFoundIn : Image → Trees → Type 0

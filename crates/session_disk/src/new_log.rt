@@ -2,7 +2,7 @@
 
 ghost use Rattle.std.specs.Prelude.{◌≡◌, ◌++◌, codes, IfOk};
 ghost use Rattle.std.specs.String.{string_bytes};
-ghost use Rattle.session_disk.specs.Logs.{IsBeside, Removes, paths_of};
+ghost use Rattle.session_disk.specs.Logs.{IsLogBeside, Removes, paths_of};
 
 use crate::log_folder::LogFolder;
 use std::alloc::{AllocError, Global};
@@ -18,7 +18,7 @@ impl NewLog {
     /// The log beside the file that a path leads to, before that is opened. If nothing is there, the open makes it. Refused if the
     /// path can't be followed, or memory ran out.
     pub(crate) fn beside<F: LogFolder>(alloc: Global, folder: &F, path: &str) -> io::Result<NewLog>
-        ensures { IfOk result (λ log. IsBeside (F.view folder.now) path.now log) }
+        ensures { IfOk result (λ log. IsLogBeside (F.view folder.now) path.now log) }
     {
         let real = folder.real_path(alloc, path)?;
         let log = log_path(alloc, real.as_str())?;

@@ -10,9 +10,9 @@ ghost use Rattle.sqlite_pool.specs.Opening.{IsBlankFile};
 ghost use Rattle.sqlite_trees.specs.View.{IsClean};
 ghost use Rattle.sqlite_store.specs.FileStore.{is_shielded, state, view};
 ghost use Rattle.sqlite_store.specs.Unopened.{Creates, IsUnstarted, StopsCreating, files_of, image, state_of};
-ghost use Rattle.session_disk.specs.Sessions.{page_size, BeginsWell, IsBereft, IsSession, IsSessionFile};
+ghost use Rattle.session_disk.specs.Sessions.{database_page_size, BeginsWell, IsBereft, IsSession, IsSessionFile};
 ghost use Rattle.session_file.specs.Opening.{IsFresh};
-ghost use Rattle.session_disk.specs.Opening.{FailsToOpen, IsCleanLeft, IsFullNow, IsOpened, IsUnopened, LeavesAs, LeavesFiles, MayFail, faults_of, image_of};
+ghost use Rattle.session_disk.specs.Opening.{FailsToOpen, IsCleanLeft, IsFullNow, AreFilesOpened, AreFilesUnopened, LeavesAs, LeavesFiles, MayOpenFail, faults_of, files_image};
 
 use crate::fault::{OpenFault, probe_fault, store_fault};
 use crate::leftover::Leftover;
@@ -34,7 +34,7 @@ const CACHE_PAGES: usize = 250;
 
 /// The size of a page.
 fn session_page_size() -> PageSize
-    ensures { bytes_of result ≡ page_size }
+    ensures { bytes_of result ≡ database_page_size }
 {
     PageSize::new(PAGE_SIZE).unwrap()
 }
@@ -43,8 +43,8 @@ fn session_page_size() -> PageSize
 fn is_blank<D: Disk>(alloc: Global, files: &mut Files<D>) -> Result<bool, OpenFault>
     requires log { IsTrue (D.Disk.is_usable files.old.log) }
     requires db { IsTrue (D.Disk.is_usable files.old.db) }
-    ensures ok { IfOk result (λ b. AreClean D.Disk files.new.log files.new.db → (IsTrue b ↔ IsBlankFile page_size (image_of D.Disk files.old))) }
-    ensures cause { IfErr result (λ e. AreClean D.Disk files.new.log files.new.db → MayFail (faults_of D.Disk files.old) (faults_of D.Disk files.new) (IsHuge page_size (image_of D.Disk files.old)) (IsSession (image_of D.Disk files.old)) e) }
+    ensures ok { IfOk result (λ b. AreClean D.Disk files.new.log files.new.db → (IsTrue b ↔ IsBlankFile database_page_size (files_image D.Disk files.old))) }
+    ensures cause { IfErr result (λ e. AreClean D.Disk files.new.log files.new.db → MayOpenFail (faults_of D.Disk files.old) (faults_of D.Disk files.new) (IsHuge database_page_size (files_image D.Disk files.old)) (IsSession (files_image D.Disk files.old)) e) }
     ensures counts { faults_of D.Disk files.old ≤ faults_of D.Disk files.new }
     ensures log { OnlyReads D.Disk files.old.log files.new.log }
     ensures db { OnlyReads D.Disk files.old.db files.new.db }
@@ -59,9 +59,9 @@ fn is_blank<D: Disk>(alloc: Global, files: &mut Files<D>) -> Result<bool, OpenFa
 fn check_first_byte<D: Disk>(alloc: Global, files: &mut Files<D>) -> Result<(), OpenFault>
     requires log { IsTrue (D.Disk.is_usable files.old.log) }
     requires db { IsTrue (D.Disk.is_usable files.old.db) }
-    requires some { AreClean D.Disk files.old.log files.old.db → ¬ IsBlankFile page_size (image_of D.Disk files.old) }
-    ensures begins { OnOk result (AreClean D.Disk files.new.log files.new.db → BeginsWell (image_of D.Disk files.old)) }
-    ensures cause { IfErr result (λ e. AreClean D.Disk files.new.log files.new.db → MayFail (faults_of D.Disk files.old) (faults_of D.Disk files.new) (IsHuge page_size (image_of D.Disk files.old)) (IsSession (image_of D.Disk files.old)) e) }
+    requires some { AreClean D.Disk files.old.log files.old.db → ¬ IsBlankFile database_page_size (files_image D.Disk files.old) }
+    ensures begins { OnOk result (AreClean D.Disk files.new.log files.new.db → BeginsWell (files_image D.Disk files.old)) }
+    ensures cause { IfErr result (λ e. AreClean D.Disk files.new.log files.new.db → MayOpenFail (faults_of D.Disk files.old) (faults_of D.Disk files.new) (IsHuge database_page_size (files_image D.Disk files.old)) (IsSession (files_image D.Disk files.old)) e) }
     ensures counts { faults_of D.Disk files.old ≤ faults_of D.Disk files.new }
     ensures log { OnlyReads D.Disk files.old.log files.new.log }
     ensures db { OnlyReads D.Disk files.old.db files.new.db }
@@ -80,8 +80,8 @@ fn check_first_byte<D: Disk>(alloc: Global, files: &mut Files<D>) -> Result<(), 
 fn check_log<D: Disk>(alloc: Global, files: &mut Files<D>) -> Result<(), OpenFault>
     requires log { IsTrue (D.Disk.is_usable files.old.log) }
     requires db { IsTrue (D.Disk.is_usable files.old.db) }
-    ensures whole { OnOk result (AreClean D.Disk files.new.log files.new.db → ¬ IsBereft (image_of D.Disk files.old)) }
-    ensures cause { IfErr result (λ e. AreClean D.Disk files.new.log files.new.db → MayFail (faults_of D.Disk files.old) (faults_of D.Disk files.new) (IsHuge page_size (image_of D.Disk files.old)) (IsSession (image_of D.Disk files.old)) e) }
+    ensures whole { OnOk result (AreClean D.Disk files.new.log files.new.db → ¬ IsBereft (files_image D.Disk files.old)) }
+    ensures cause { IfErr result (λ e. AreClean D.Disk files.new.log files.new.db → MayOpenFail (faults_of D.Disk files.old) (faults_of D.Disk files.new) (IsHuge database_page_size (files_image D.Disk files.old)) (IsSession (files_image D.Disk files.old)) e) }
     ensures counts { faults_of D.Disk files.old ≤ faults_of D.Disk files.new }
     ensures log { OnlyReads D.Disk files.old.log files.new.log }
     ensures db { OnlyReads D.Disk files.old.db files.new.db }
@@ -115,7 +115,7 @@ fn unopened<D: Disk>(alloc: Global, files: Files<D>, seed: u64) -> Result<Unopen
     requires db { IsTrue (D.Disk.is_usable files.db) }
     ensures back { IfErr result (λ rest. (rest.log ≡ files.log) × (rest.db ≡ files.db)) }
     ensures files { IfOk result (λ it. files_of it ≡ (files.log, files.db)) }
-    ensures unopened { IfOk result IsUnopened }
+    ensures unopened { IfOk result AreFilesUnopened }
 {
     let options = Options {
         cache_pages: CACHE_PAGES,
@@ -133,12 +133,12 @@ fn unopened<D: Disk>(alloc: Global, files: Files<D>, seed: u64) -> Result<Unopen
 
 /// Makes the tables of files without a database, or with one that has no table.
 fn make<D: Disk>(files: Unopened<D>) -> Result<FileStore<D>, (OpenFault, Unopened<D>)>
-    requires unopened { IsUnopened files }
+    requires unopened { AreFilesUnopened files }
     requires whole { IsTrue (state_of files).is_clean → ¬ IsBereft (image files) }
-    ensures ok { IfOk result (λ store. IsTrue (view store).is_clean → IsOpened (image files) store) }
+    ensures ok { IfOk result (λ store. IsTrue (view store).is_clean → AreFilesOpened (image files) store) }
     ensures honest { IfOk result (λ store. IsTrue (view store).is_clean → IsTrue (state_of files).is_clean) }
     ensures guarded { IfOk result (λ store. IsTrue (view store).is_clean → is_shielded store) }
-    ensures cause { IfErr result (λ e. IsTrue (state_of e.1).is_clean → MayFail (state_of files).faults (state_of e.1).faults (StopsCreating e.1) (IsUnstarted files) e.0) }
+    ensures cause { IfErr result (λ e. IsTrue (state_of e.1).is_clean → MayOpenFail (state_of files).faults (state_of e.1).faults (StopsCreating e.1) (IsUnstarted files) e.0) }
     ensures unharmed { IfErr result (λ e. IsTrue (state_of e.1).is_clean → Creates files (state_of e.1)) }
     ensures falls { IfErr result (λ e. IsTrue (state_of e.1).is_clean → IsTrue (state_of files).is_clean) }
 {
@@ -150,13 +150,13 @@ fn make<D: Disk>(files: Unopened<D>) -> Result<FileStore<D>, (OpenFault, Unopene
 
 /// Opens a database. If it has no table yet, such as after a first open that was cut, the tables are made.
 fn adopt<D: Disk>(mut files: Unopened<D>) -> Result<FileStore<D>, (OpenFault, Unopened<D>)>
-    requires unopened { IsUnopened files }
-    requires some { IsTrue (state_of files).is_clean → ¬ IsBlankFile page_size (image files) }
+    requires unopened { AreFilesUnopened files }
+    requires some { IsTrue (state_of files).is_clean → ¬ IsBlankFile database_page_size (image files) }
     requires begins { IsTrue (state_of files).is_clean → BeginsWell (image files) }
-    ensures ok { IfOk result (λ store. IsTrue (view store).is_clean → IsOpened (image files) store) }
+    ensures ok { IfOk result (λ store. IsTrue (view store).is_clean → AreFilesOpened (image files) store) }
     ensures honest { IfOk result (λ store. IsTrue (view store).is_clean → IsTrue (state_of files).is_clean) }
     ensures guarded { IfOk result (λ store. IsTrue (view store).is_clean → is_shielded store) }
-    ensures cause { IfErr result (λ e. IsTrue (state_of e.1).is_clean → MayFail (state_of files).faults (state_of e.1).faults (IsFullNow e.1) (IsSession (image files)) e.0) }
+    ensures cause { IfErr result (λ e. IsTrue (state_of e.1).is_clean → MayOpenFail (state_of files).faults (state_of e.1).faults (IsFullNow e.1) (IsSession (image files)) e.0) }
     ensures unharmed { IfErr result (λ e. IsTrue (state_of e.1).is_clean → LeavesAs (image files) (state_of files).may_leave (state_of e.1).may_leave) }
     ensures falls { IfErr result (λ e. IsTrue (state_of e.1).is_clean → IsTrue (state_of files).is_clean) }
 {
@@ -178,8 +178,8 @@ fn make_files<D: Disk>(
 ) -> Result<FileStore<D>, (OpenFault, Leftover<D>)>
     requires log { IsTrue (D.Disk.is_usable files.log) }
     requires db { IsTrue (D.Disk.is_usable files.db) }
-    requires blank { AreClean D.Disk files.log files.db → IsBlankFile page_size (image_of D.Disk files) }
-    ensures ok { IfOk result (λ store. IsTrue (view store).is_clean → IsOpened (image_of D.Disk files) store) }
+    requires blank { AreClean D.Disk files.log files.db → IsBlankFile database_page_size (files_image D.Disk files) }
+    ensures ok { IfOk result (λ store. IsTrue (view store).is_clean → AreFilesOpened (files_image D.Disk files) store) }
     ensures honest { IfOk result (λ store. IsTrue (view store).is_clean → AreClean D.Disk files.log files.db) }
     ensures guarded { IfOk result (λ store. IsTrue (view store).is_clean → is_shielded store) }
     ensures cause { IfErr result (λ e. IsCleanLeft e.1 → FailsToOpen files e.1 e.0) }
@@ -206,8 +206,8 @@ fn adopt_files<D: Disk>(
 ) -> Result<FileStore<D>, (OpenFault, Leftover<D>)>
     requires log { IsTrue (D.Disk.is_usable files.log) }
     requires db { IsTrue (D.Disk.is_usable files.db) }
-    requires some { AreClean D.Disk files.log files.db → ¬ IsBlankFile page_size (image_of D.Disk files) }
-    ensures ok { IfOk result (λ store. IsTrue (view store).is_clean → IsOpened (image_of D.Disk files) store) }
+    requires some { AreClean D.Disk files.log files.db → ¬ IsBlankFile database_page_size (files_image D.Disk files) }
+    ensures ok { IfOk result (λ store. IsTrue (view store).is_clean → AreFilesOpened (files_image D.Disk files) store) }
     ensures honest { IfOk result (λ store. IsTrue (view store).is_clean → AreClean D.Disk files.log files.db) }
     ensures guarded { IfOk result (λ store. IsTrue (view store).is_clean → is_shielded store) }
     ensures cause { IfErr result (λ e. IsCleanLeft e.1 → FailsToOpen files e.1 e.0) }
@@ -237,7 +237,7 @@ pub fn open_files<D: Disk>(
 ) -> Result<FileStore<D>, (OpenFault, Leftover<D>)>
     requires log { IsTrue (D.Disk.is_usable files.log) }
     requires db { IsTrue (D.Disk.is_usable files.db) }
-    ensures ok { IfOk result (λ store. IsTrue (view store).is_clean → IsOpened (image_of D.Disk files) store) }
+    ensures ok { IfOk result (λ store. IsTrue (view store).is_clean → AreFilesOpened (files_image D.Disk files) store) }
     ensures fresh { IfOk result (λ store. IsClean (view store) → IsFresh (view store)) }
     ensures left { IfOk result (λ store. IsTrue (view store).is_clean → (now : Image) → (state store).may_leave now → ∥ IsSessionFile now ∥₁) }
     ensures honest { IfOk result (λ store. IsTrue (view store).is_clean → AreClean D.Disk files.log files.db) }

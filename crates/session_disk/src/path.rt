@@ -10,8 +10,8 @@ ghost use Rattle.sqlite_store.specs.FileStore.{is_shielded, state, view};
 ghost use Rattle.session_disk.specs.Faults.{path_fault, system_fault, reported_fault};
 ghost use Rattle.session_file.specs.Opening.{IsFresh};
 ghost use Rattle.session_disk.specs.Named.{IsNamedBy};
-ghost use Rattle.session_disk.specs.Logs.{idle_bound, IsBeside, IsFoundIdle, IsGivenUp, Removes, RemovesOwn};
-ghost use Rattle.session_disk.specs.Opening.{files_left, image_of, FailsToOpen, IsCleanLeft, IsOpened};
+ghost use Rattle.session_disk.specs.Logs.{idle_bound, IsLogBeside, IsFoundIdle, IsGivenUp, Removes, RemovesOwn};
+ghost use Rattle.session_disk.specs.Opening.{files_left, files_image, FailsToOpen, IsCleanLeft, AreFilesOpened};
 ghost use Rattle.session_disk.specs.declared.leftover.Leftover.{Leftover};
 ghost use Rattle.session_disk.specs.Sessions.{IsSessionFile};
 
@@ -61,11 +61,11 @@ pub fn open_path<S: Start, F: LogFolder + Copy>(
     path: &str,
     start: S,
 ) -> Result<(FileStore<NamedDisk<FileFrom<S>, F>>, NewLog), OpenFault>
-    ensures ok { IfOk result (λ opened. IsTrue (view opened.0).is_clean → IsOpened (image_at S.Start) opened.0) }
+    ensures ok { IfOk result (λ opened. IsTrue (view opened.0).is_clean → AreFilesOpened (image_at S.Start) opened.0) }
     ensures fresh { IfOk result (λ opened. IsClean (view opened.0) → IsFresh (view opened.0)) }
     ensures left { IfOk result (λ opened. IsTrue (view opened.0).is_clean → (now : Image) → (state opened.0).may_leave now → ∥ IsSessionFile now ∥₁) }
     ensures guarded { IfOk result (λ opened. IsTrue (view opened.0).is_clean → is_shielded opened.0) }
-    ensures log { IfOk result (λ opened. IsBeside (F.view folder.old) path.now opened.1) }
+    ensures log { IfOk result (λ opened. IsLogBeside (F.view folder.old) path.now opened.1) }
     ensures keeps { OnOk result (Removes (F.view folder.old) (F.view folder.new) []) }
     ensures own { OnErr result (RemovesOwn (F.view folder.old) (F.view folder.new) path.now) }
 {
@@ -133,7 +133,7 @@ fn open_beside<D: Disk, F: LogFolder>(
 ) -> Result<(FileStore<D>, NewLog), (OpenFault, Files<D>)>
     requires log { IsTrue (D.Disk.is_usable files.log) }
     requires db { IsTrue (D.Disk.is_usable files.db) }
-    ensures ok { IfOk result (λ opened. IsTrue (view opened.0).is_clean → IsOpened (image_of D.Disk files) opened.0) }
+    ensures ok { IfOk result (λ opened. IsTrue (view opened.0).is_clean → AreFilesOpened (files_image D.Disk files) opened.0) }
     ensures fresh { IfOk result (λ opened. IsClean (view opened.0) → IsFresh (view opened.0)) }
     ensures left { IfOk result (λ opened. IsTrue (view opened.0).is_clean → (now : Image) → (state opened.0).may_leave now → ∥ IsSessionFile now ∥₁) }
     ensures guarded { IfOk result (λ opened. IsTrue (view opened.0).is_clean → is_shielded opened.0) }

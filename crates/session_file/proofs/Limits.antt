@@ -8,8 +8,8 @@ use Rattle.std.specs.FinMap.{entries, entries-insert, insert, put, remove}
 use Rattle.std.specs.FinMap.Entries.{by_order, where_key}
 use Rattle.rv_ledger.specs.Change.{Content}
 use Rattle.rv_ledger.specs.Key.{Storage, key_cmp}
-use Rattle.entry_tree.specs.Entries.{ByteMap, IsTooLong}
-use Rattle.entry_tree.proofs.Rows.{entries-remove}
+use Rattle.session_tree.specs.Entries.{ByteMap, IsTooLong}
+use Rattle.session_tree.proofs.Rows.{entries-remove}
 use Rattle.rv_ledger.specs.Applied.{set_content}
 use Rattle.session_file.specs.Kept.{AreEntries, AreNamed}
 

@@ -4,23 +4,23 @@ use Rattle.std.specs.FinMap.{entries, same_entries_map}
 use Rattle.sqlite_trees.specs.Tree.{Trees}
 use Rattle.rv_ledger.specs.declared.rules.Rules.{Rules}
 use Rattle.rv_ledger.specs.declared.rules.Rules.TheVariants as rules
-use Rattle.entry_tree.specs.Entries.{ByteMap, row_of, rows_of}
-use Rattle.session_file.specs.Kept.{HoldsIn, Kept, answer_row, flag, number_or_null, rows_if_any, rules_number, session_row}
+use Rattle.session_tree.specs.Entries.{ByteMap, entry_row, rows_of}
+use Rattle.session_file.specs.Kept.{HoldsIn, Kept, answer_row, flag_number, number_or_null, rows_if_any, rules_number, session_row}
 use Rattle.session_file.specs.declared.rows.SessionRow.{SessionRow}
 
-one_of : (e f : List ℕ × List ℕ) → row_of e ≡ row_of f → e ≡ f
+one_of : (e f : List ℕ × List ℕ) → entry_row e ≡ entry_row f → e ≡ f
 one_of e f is =
     let keys : e.0 ≡ f.0 = cc in
     let values : e.1 ≡ f.1 = cc in
     λ i. (keys i, values i)
 
-pairs_once : (es fs : List (List ℕ × List ℕ)) → map row_of es ≡ map row_of fs → es ≡ fs
+pairs_once : (es fs : List (List ℕ × List ℕ)) → map entry_row es ≡ map entry_row fs → es ≡ fs
 pairs_once [] [] is = refl
 pairs_once [] (f ∷ fs) is = cc
 pairs_once (e ∷ es) [] is = cc
 pairs_once (e ∷ es) (f ∷ fs) is =
-    let heads : row_of e ≡ row_of f = cc in
-    let tails : map row_of es ≡ map row_of fs = cc in
+    let heads : entry_row e ≡ entry_row f = cc in
+    let tails : map entry_row es ≡ map entry_row fs = cc in
     let first = one_of e f heads in
     let rest = pairs_once es fs tails in cc
 
@@ -39,7 +39,7 @@ rules_once rules.Three rules.One is = absurd (omega arith)
 rules_once rules.Three rules.Two is = absurd (omega arith)
 rules_once rules.Three rules.Three is = refl
 
-flag_once : (b c : Bool) → flag b ≡ flag c → b ≡ c
+flag_once : (b c : Bool) → flag_number b ≡ flag_number c → b ≡ c
 flag_once true true is = refl
 flag_once true false is = absurd (omega arith)
 flag_once false true is = absurd (omega arith)
@@ -55,7 +55,7 @@ row_once : (s t : SessionRow) → session_row s ≡ session_row t → s ≡ t
 row_once s t is =
     let limit : s.frame_limit ≡ t.frame_limit = cc in
     let gas : number_or_null s.frame_gas ≡ number_or_null t.frame_gas = cc in
-    let brief : flag s.is_brief ≡ flag t.is_brief = cc in
+    let brief : flag_number s.is_brief ≡ flag_number t.is_brief = cc in
     let rules : rules_number s.rules ≡ rules_number t.rules = cc in
     let height : s.height ≡ t.height = cc in
     let digest : s.digest ≡ t.digest = cc in

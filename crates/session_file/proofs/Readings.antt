@@ -4,10 +4,10 @@ use Rattle.sqlite_disk.specs.Disk.{MoreFaults}
 use Rattle.sqlite_trees.specs.View.{View, HasCause, IsClean, Tells}
 use Rattle.sqlite_trees.specs.declared.error.StoreError.{StoreError}
 use Rattle.sqlite_trees.specs.declared.store.Store.{Ghosts}
-use Rattle.entry_tree.proofs.Causes.{later_cause}
-use Rattle.entry_tree.proofs.Tries.{Quiet, quiet_on}
+use Rattle.session_tree.proofs.Causes.{later_cause}
+use Rattle.session_tree.proofs.Tries.{Quiet, quiet_on}
 use Rattle.session_file.specs.Kept.{HoldsIn, Kept, session_tree}
-use Rattle.session_file.specs.Opening.{IsOfOtherVersion, IsRefused, ReadsIn}
+use Rattle.session_file.specs.Opening.{IsOfOtherVersion, IsOpenRefused, ReadsIn}
 use Rattle.session_file.specs.Rows.{IsReadFault}
 use Rattle.session_file.specs.declared.fault.OpenFault.{OpenFault}
 use Rattle.session_file.specs.declared.fault.OpenFault.TheVariants.{Damaged, Store}
@@ -59,7 +59,7 @@ module _ {S : Type 0} (g : Ghosts S) where
   -- a part was refused after others that were read
   pub refused_then : {A B C : Type 0} (why : View → Type 0 → OpenFault → Type 0) (none : View → Type 0) (old mid new : S) (fault : OpenFault) {x : A} → ReadsIn g why old mid (Ok x)
       → (IsClean (g.view mid) → none (g.view mid) → ¬ IsOfOtherVersion ((g.view mid).trees session_tree) × ((k : Kept) → ¬ HoldsIn (g.view mid).trees k))
-      → ReadsIn {A = B} g (IsReadFault none) mid new (Err fault) → ReadsIn {A = C} g IsRefused old new (Err fault)
+      → ReadsIn {A = B} g (IsReadFault none) mid new (Err fault) → ReadsIn {A = C} g IsOpenRefused old new (Err fault)
   refused_then why none old mid new fault a gone b = record {
     err = λ clean. refused_part (g.view old) (g.view mid) _ _ _ none fault (a.same (omega (arith, b.quiet.clean, clean))) a.quiet.counts (gone (omega (arith, b.quiet.clean, clean))) (b.err clean);
     told = b.told;

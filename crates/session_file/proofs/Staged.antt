@@ -8,9 +8,9 @@ use Rattle.sqlite_trees.proofs.Doubt.{no_doubt}
 use Rattle.sqlite_trees.specs.Tree.{Trees, put_row, without_rowid}
 use Rattle.sqlite_trees.specs.View.{View, Commits, IsClean, IsRolledBack, KeepsCommitted, OnlyWrites, SetsTree, doubt}
 use Rattle.rv_ledger.specs.Key.{Storage}
-use Rattle.entry_tree.specs.Entries.{ByteMap, EditsTree, rows_of}
+use Rattle.session_tree.specs.Entries.{ByteMap, EditsTree, rows_of}
 use Rattle.session_file.specs.Kept.{AreEntries, AreNamed, HoldsIn, IsSessionInLimits, Kept, answer_row, answer_tree, program_tree, rows_if_any, session_row, session_tree, storage_tree}
-use Rattle.session_file.specs.Staging.{CommitsStaged, GivesUp, IsStaged, Stages, StagesWhere}
+use Rattle.session_file.specs.Staging.{CommitsStaged, GivesUp, IsStaged, StagesKept, StagesWhere}
 use Rattle.session_file.specs.declared.rows.SessionRow.{SessionRow}
 
 -- a store that is open is clean
@@ -189,7 +189,7 @@ storage_ok (Err e) old new shut before after edits writes limits = tt
 -- a write of a program that was not refused
 pub program_ok : {X E : Type 0} (r : Result X E) (old new : View) → (new.is_clean ≡ false → new.is_open ≡ false) → (change : ByteMap → ByteMap)
     → OnOk r (IsClean new → (m : ByteMap) → old.trees program_tree ≡ rows_of m → EditsTree old new program_tree (λ _. rows_of (change m))) → OnOk r (IsClean new → OnlyWrites old new)
-    → ((m : ByteMap) → AreNamed m → AreNamed (change m)) → OnOk r (Stages (λ next. record next { programs = change next.programs }) old new)
+    → ((m : ByteMap) → AreNamed m → AreNamed (change m)) → OnOk r (StagesKept (λ next. record next { programs = change next.programs }) old new)
 program_ok (Ok x) old new shut change edits writes named = λ kept next was. program_staged old new shut kept next was (change next.programs) writes (λ clean is. edits clean next.programs is) (named next.programs)
 program_ok (Err e) old new shut change edits writes named = tt
 

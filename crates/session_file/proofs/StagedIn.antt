@@ -3,9 +3,9 @@ use Rattle.std.proofs.Common.{◌≡◌, Result, Ok, Err, OnErr, OnOk, false, sy
 use Rattle.sqlite_trees.specs.View.{View, IsClean, IsRolledBack, Tells}
 use Rattle.sqlite_trees.specs.declared.error.StoreError.{StoreError}
 use Rattle.sqlite_trees.specs.declared.store.Store.{Ghosts}
-use Rattle.entry_tree.proofs.Causes.{earlier_cause, other_limit}
-use Rattle.entry_tree.proofs.Tries.{Quiet, quiet_on}
-use Rattle.entry_tree.specs.Tries.{Tries}
+use Rattle.session_tree.proofs.Causes.{earlier_cause, other_limit}
+use Rattle.session_tree.proofs.Tries.{Quiet, quiet_on}
+use Rattle.session_tree.specs.Tries.{Tries}
 use Rattle.session_file.specs.Staging.{GivesUp, StagesIn}
 use Rattle.session_file.proofs.Staged.{refused}
 

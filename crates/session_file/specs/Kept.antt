@@ -9,7 +9,7 @@ use Rattle.sqlite_trees.specs.Tree.{Trees}
 use Rattle.rv_ledger.specs.Key.{Storage}
 use Rattle.rv_ledger.specs.declared.rules.Rules.{Rules}
 use Rattle.rv_ledger.specs.declared.rules.Rules.TheVariants.{One, Two, Three}
-use Rattle.entry_tree.specs.Entries.{ByteMap, rows_of}
+use Rattle.session_tree.specs.Entries.{ByteMap, rows_of}
 use Rattle.session_file.specs.declared.rows.SessionRow.{SessionRow}
 
 -- the storage; the files of the programs by their names; the session's row, or None of a new session; and what the last frame
@@ -42,9 +42,9 @@ rules_number One = 1
 rules_number Two = 2
 rules_number Three = 3
 
-abbrev pub flag : Bool → ℕ
-flag false = 0
-flag true = 1
+abbrev pub flag_number : Bool → ℕ
+flag_number false = 0
+flag_number true = 1
 
 abbrev pub number_or_null : Option ℕ → Value
 number_or_null None = Null
@@ -53,7 +53,7 @@ number_or_null (Some n) = Int (pos n)
 -- the row of a session: its rowid, which is kept as a NULL, the version, and its fields in order
 abbrev pub session_row : SessionRow → Row
 session_row s =
-    Int (pos 1) ∷ Null ∷ Int (pos format_version) ∷ Int (pos s.frame_limit) ∷ number_or_null s.frame_gas ∷ Int (pos (flag s.is_brief))
+    Int (pos 1) ∷ Null ∷ Int (pos format_version) ∷ Int (pos s.frame_limit) ∷ number_or_null s.frame_gas ∷ Int (pos (flag_number s.is_brief))
     ∷ Int (pos (rules_number s.rules)) ∷ Int (pos s.height) ∷ Blob s.digest ∷ []
 
 -- the row of an answer: its rowid, its line and its bytes
@@ -79,7 +79,7 @@ pub record IsSessionInLimits (s : SessionRow) : Type 0 where
   pub height : s.height ≤ 9999999999
 
 -- so it is of each part
-pub record IsInLimits (k : Kept) : Type 0 where
+pub record IsKeptInLimits (k : Kept) : Type 0 where
   pub storage : AreEntries k.storage
   pub programs : AreNamed k.programs
   pub session : IfSome k.session IsSessionInLimits
@@ -90,4 +90,4 @@ pub record HoldsIn (db : Trees) (k : Kept) : Type 0 where
   pub programs : db program_tree ≡ rows_of k.programs
   pub session : db session_tree ≡ rows_if_any session_row k.session
   pub answer : db answer_tree ≡ rows_if_any answer_row k.answer
-  pub limits : IsInLimits k
+  pub limits : IsKeptInLimits k

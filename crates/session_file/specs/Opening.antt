@@ -9,7 +9,7 @@ use Rattle.sqlite_exec.specs.Calls.{OnlyReads}
 use Rattle.sqlite_trees.specs.View.{View, HasCause, IsClean, IsQuiet, Tells}
 use Rattle.sqlite_trees.specs.declared.error.StoreError.{StoreError}
 use Rattle.sqlite_trees.specs.declared.store.Store.{Ghosts}
-use Rattle.entry_tree.specs.Entries.{ByteMap}
+use Rattle.session_tree.specs.Entries.{ByteMap}
 use Rattle.session_file.specs.Kept.{Kept, HoldsIn, format_version, session_tree}
 use Rattle.session_file.specs.Staging.{HasTrees}
 use Rattle.session_file.specs.declared.rows.AnswerRow.{AnswerRow}
@@ -49,11 +49,11 @@ IsOfOtherVersion (row ∷ more) = IsOtherVersion (column row 2)
 
 -- when a refusal comes, if `disk` says that the disk failed meanwhile: a damaged file has no other version, and its trees hold no
 -- session
-abbrev pub IsRefused : View → Type 0 → OpenFault → Type 0
-IsRefused v disk NotASession = ¬ HasTrees v
-IsRefused v disk OtherVersion = IsOfOtherVersion (v.trees session_tree)
-IsRefused v disk Damaged = ¬ IsOfOtherVersion (v.trees session_tree) × ((k : Kept) → ¬ HoldsIn v.trees k)
-IsRefused v disk (Store error) = HasCause v disk ⊥ error
+abbrev pub IsOpenRefused : View → Type 0 → OpenFault → Type 0
+IsOpenRefused v disk NotASession = ¬ HasTrees v
+IsOpenRefused v disk OtherVersion = IsOfOtherVersion (v.trees session_tree)
+IsOpenRefused v disk Damaged = ¬ IsOfOtherVersion (v.trees session_tree) × ((k : Kept) → ¬ HoldsIn v.trees k)
+IsOpenRefused v disk (Store error) = HasCause v disk ⊥ error
 
 -- A call read a store, and wrote nothing. If it was refused, `why` says when that comes, of what the store held and of whether the
 -- disk failed meanwhile; a failure of the store is reported as its kind. No failure is forgotten, and a crash has no new outcome.

@@ -6,7 +6,7 @@ use Rattle.std.specs.declared.cmp.Ordering.TheVariants.{Less}
 use Rattle.sqlite_trees.specs.View.{View, HasCause}
 use Rattle.sqlite_value.specs.Order.{Row}
 use Rattle.rv_ledger.specs.Key.{Storage, key_cmp}
-use Rattle.entry_tree.specs.Entries.{ByteMap, rows_of}
+use Rattle.session_tree.specs.Entries.{ByteMap, rows_of}
 use Rattle.session_file.specs.Kept.{AreEntries, IsSessionInLimits, answer_row, answer_tree, rows_if_any, session_row, session_tree, storage_tree}
 use Rattle.session_file.specs.Opening.{IsOfOtherVersion}
 use Rattle.session_file.specs.declared.rows.SessionRow.{SessionRow}

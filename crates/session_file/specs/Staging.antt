@@ -24,14 +24,14 @@ pub record IsShaped (v : View) : Type 0 where
   pub committed_reals : v.committed_reals ≡ v.reals
 
 -- the last commit holds the one, and the open transaction the other
-pub record Holds (v : View) (kept next : Kept) : Type 0 where
+pub record HoldsKept (v : View) (kept next : Kept) : Type 0 where
   pub sound : v.is_broken ≡ false
   pub committed : HoldsIn v.committed kept
   pub written : HoldsIn v.trees next
 
 -- so it is while the file is open
 abbrev pub IsStaged : View → Kept → Kept → Type 0
-IsStaged v kept next = IsTrue v.is_open → Holds v kept next
+IsStaged v kept next = IsTrue v.is_open → HoldsKept v kept next
 
 -- while the file is open, the last commit holds this, and nothing was changed since
 abbrev pub IsKeeping : View → Kept → Type 0
@@ -42,8 +42,8 @@ abbrev pub StagesWhere : (Kept → Type 0) → (Kept → Kept) → View → View
 StagesWhere known change old new = (kept next : Kept) → known next → IsStaged old kept next → IsStaged new kept (change next)
 
 -- the same, whatever it held
-abbrev pub Stages : (Kept → Kept) → View → View → Type 0
-Stages change old new = (kept next : Kept) → IsStaged old kept next → IsStaged new kept (change next)
+abbrev pub StagesKept : (Kept → Kept) → View → View → Type 0
+StagesKept change old new = (kept next : Kept) → IsStaged old kept next → IsStaged new kept (change next)
 
 -- the transaction is given up, and nothing is staged
 abbrev pub GivesUp : View → View → Type 0

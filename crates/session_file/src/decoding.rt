@@ -6,8 +6,8 @@ ghost use Rattle.sqlite_value.specs.Order.{bytes, column};
 ghost use Rattle.sqlite_value.specs.Value.{owned};
 ghost use Rattle.sqlite_value.specs.declared.value.Value.TheVariants.{Blob, Int};
 ghost use Rattle.rv_ledger.specs.declared.rules.Rules.{Rules as RulesValue};
-ghost use Rattle.entry_tree.specs.Entries.{row_of};
-ghost use Rattle.session_file.specs.Kept.{IsSessionInLimits, answer_row, flag, number_or_null, rules_number, session_row};
+ghost use Rattle.session_tree.specs.Entries.{entry_row};
+ghost use Rattle.session_file.specs.Kept.{IsSessionInLimits, answer_row, flag_number, number_or_null, rules_number, session_row};
 ghost use Rattle.session_file.specs.Opening.{IsOtherVersion, answer_parts};
 ghost use Rattle.session_file.specs.declared.rows.SessionRow.{SessionRow as SessionValue};
 
@@ -34,9 +34,9 @@ fn key_of(bytes: &[u8]) -> Option<Key>
 
 /// The key of an entry's row, or None if the row is not one of an entry.
 pub(crate) fn key_in(row: &Row) -> Option<Key>
-    ensures some { IfSome result (λ key. row.now ≡ row_of (key, bytes (column row.now 1))) }
+    ensures some { IfSome result (λ key. row.now ≡ entry_row (key, bytes (column row.now 1))) }
     ensures count { IfSome result (λ key. length key ≡ 32) }
-    ensures none { result ≡ None → (k v : List ℕ) → length k ≡ 32 → row.now ≢ row_of (k, v) }
+    ensures none { result ≡ None → (k v : List ℕ) → length k ≡ 32 → row.now ≢ entry_row (k, v) }
 {
     if row.len() != 2 {
         return None;
@@ -107,7 +107,7 @@ fn rules_in(value: ValueRef<'_>) -> Rules
 
 /// Whether a value is the number 1.
 fn flag_in(value: ValueRef<'_>) -> bool
-    ensures { (b : Bool) → owned value.entry ≡ Int (pos (flag b)) → result ≡ b }
+    ensures { (b : Bool) → owned value.entry ≡ Int (pos (flag_number b)) → result ≡ b }
 {
     matches!(value, ValueRef::Int(1))
 }

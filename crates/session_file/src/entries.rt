@@ -4,7 +4,7 @@ ghost use Rattle.std.specs.Prelude.{◌≡◌, ◌≤◌, ℕ, List, length, fal
 ghost use Rattle.std.specs.FinMap.{entries, insert};
 ghost use Rattle.std.specs.List.{AllByRecursion};
 ghost use Rattle.std.specs.declared.cmp.Ordering.TheVariants.{Less};
-ghost use Rattle.entry_tree.specs.Entries.{ByteMap};
+ghost use Rattle.session_tree.specs.Entries.{ByteMap};
 ghost use Rattle.rv_ledger.specs.Key.{key_cmp};
 
 use rv_ledger::{Key, StoreBuilder, Value};

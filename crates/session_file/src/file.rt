@@ -2,9 +2,9 @@
 
 use crate::rows::SessionRow;
 use crate::writing::{self, PROGRAM_TREE};
-use entry_tree::{remove_key, set_key};
 use overlay::Overlay;
 use rv_ledger::Key;
+use session_tree::{remove_key, set_key};
 use sqlite_trees::error::StoreError;
 use sqlite_trees::store::Store;
 use sqlite_value::row::Row;
@@ -39,11 +39,11 @@ impl<S: Store> SessionFile<S> {
     ghost use Rattle.std.specs.FinMap as fin;
     ghost use Rattle.sqlite_trees.specs.Tree.{Trees};
     ghost use Rattle.sqlite_trees.specs.View.{IsClean, IsQuiet};
-    ghost use Rattle.entry_tree.specs.Entries.{IsTooLong};
+    ghost use Rattle.session_tree.specs.Entries.{IsTooLong};
     ghost use Rattle.overlay.specs.Overlay.{with_changes};
     ghost use Rattle.session_file.specs.Kept.{Kept, HoldsIn};
     ghost use Rattle.session_file.specs.Limits.{HasSmallNumbers, IsLongAnswer};
-    ghost use Rattle.session_file.specs.Staging.{CommitsStaged, FailsFor, GivesUp, IsShaped, IsStaged, Lasts, Stages, StagesIn, StagesWhere};
+    ghost use Rattle.session_file.specs.Staging.{CommitsStaged, FailsFor, GivesUp, IsShaped, IsStaged, Lasts, StagesKept, StagesIn, StagesWhere};
 
     /// The file over a store that has the trees of a session.
     pub(crate) fn over(alloc: Global, store: S) -> SessionFile<S>
@@ -92,7 +92,7 @@ impl<S: Store> SessionFile<S> {
     /// Stages a program under its name, in the place of one of that name. Refused as Unstorable if its row has over a billion
     /// bytes.
     pub fn stage_program(&mut self, name: &Key, file: &[u8]) -> Result<(), StoreError>
-        ensures { StagesIn S.Store (Stages (λ next. record next { programs = fin.insert next.programs name.now file.now })) GivesUp (IsTooLong name.now (Some file.now)) self.old self.new result }
+        ensures { StagesIn S.Store (StagesKept (λ next. record next { programs = fin.insert next.programs name.now file.now })) GivesUp (IsTooLong name.now (Some file.now)) self.old self.new result }
     {
         let result = set_key(
             &mut self.store,
@@ -106,7 +106,7 @@ impl<S: Store> SessionFile<S> {
 
     /// Stages that no program has a name.
     pub fn stage_no_program(&mut self, name: &Key) -> Result<(), StoreError>
-        ensures { StagesIn S.Store (Stages (λ next. record next { programs = fin.remove next.programs name.now })) GivesUp ⊥ self.old self.new result }
+        ensures { StagesIn S.Store (StagesKept (λ next. record next { programs = fin.remove next.programs name.now })) GivesUp ⊥ self.old self.new result }
     {
         let result = remove_key(&mut self.store, PROGRAM_TREE, &mut self.row, name.bytes());
         writing::settled(&mut self.store, result)
@@ -115,7 +115,7 @@ impl<S: Store> SessionFile<S> {
     /// Stages the row of the session. Refused as Unstorable if the height is above 9,999,999,999, or another number is 2^63 or
     /// above.
     pub fn stage_session(&mut self, session: SessionRow) -> Result<(), StoreError>
-        ensures { StagesIn S.Store (Stages (λ next. record next { session = Some session })) GivesUp (¬ HasSmallNumbers session) self.old self.new result }
+        ensures { StagesIn S.Store (StagesKept (λ next. record next { session = Some session })) GivesUp (¬ HasSmallNumbers session) self.old self.new result }
     {
         let result = writing::put_session(&mut self.store, &mut self.row, session);
         writing::settled(&mut self.store, result)
@@ -124,7 +124,7 @@ impl<S: Store> SessionFile<S> {
     /// Stages what the last frame was answered: its line and its bytes. Refused as Unstorable if the row has over a billion
     /// bytes.
     pub fn stage_answer(&mut self, line: &[u8], bytes: &[u8]) -> Result<(), StoreError>
-        ensures { StagesIn S.Store (Stages (λ next. record next { answer = Some (line.now, bytes.now) })) GivesUp (IsLongAnswer (line.now, bytes.now)) self.old self.new result }
+        ensures { StagesIn S.Store (StagesKept (λ next. record next { answer = Some (line.now, bytes.now) })) GivesUp (IsLongAnswer (line.now, bytes.now)) self.old self.new result }
     {
         let result = writing::put_answer(&mut self.store, &mut self.row, line, bytes);
         writing::settled(&mut self.store, result)
@@ -132,7 +132,7 @@ impl<S: Store> SessionFile<S> {
 
     /// Stages that there is no last answer.
     pub fn stage_no_answer(&mut self) -> Result<(), StoreError>
-        ensures { StagesIn S.Store (Stages (λ next. record next { answer = None })) GivesUp ⊥ self.old self.new result }
+        ensures { StagesIn S.Store (StagesKept (λ next. record next { answer = None })) GivesUp ⊥ self.old self.new result }
     {
         let result = writing::clear_answer(&mut self.store);
         writing::settled(&mut self.store, result)

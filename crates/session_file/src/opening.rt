@@ -4,9 +4,9 @@ ghost use Rattle.std.specs.Prelude.{◌≡◌, ℕ, List, false, IfErr, IfOk, Is
 ghost use Rattle.std.specs.FinMap.{empty};
 ghost use Rattle.sqlite_trees.specs.View.{IsClean};
 ghost use Rattle.sqlite_value.specs.Keys.{plain};
-ghost use Rattle.entry_tree.specs.Entries.{ByteMap, rows_of};
+ghost use Rattle.session_tree.specs.Entries.{ByteMap, rows_of};
 ghost use Rattle.session_file.specs.Kept.{AreEntries, HoldsIn, storage_tree};
-ghost use Rattle.session_file.specs.Opening.{IsFresh, IsRefused, ReadsIn, RefusesIn, kept_of};
+ghost use Rattle.session_file.specs.Opening.{IsFresh, IsOpenRefused, ReadsIn, RefusesIn, kept_of};
 ghost use Rattle.session_file.specs.Rows.{HasNoStorage, IsReadFault};
 ghost use Rattle.session_file.specs.Staging.{HasTrees, IsKeeping, IsShaped};
 
@@ -47,7 +47,7 @@ fn load<S: Store, P: Entries + Drop>(
     ensures ok { IfOk result (λ found. (files : ByteMap) × P.Entries.is_made_of found.programs files
         × (IsClean (S.Store.view store.new) → HoldsIn (S.Store.view store.new).trees (kept_of files found))) }
     ensures trees { OnOk result (HasTrees (S.Store.view store.old)) }
-    ensures reads { ReadsIn S.Store IsRefused store.old store.new result }
+    ensures reads { ReadsIn S.Store IsOpenRefused store.old store.new result }
 {
     if !has_trees(store) {
         return Err(OpenFault::NotASession);
@@ -94,8 +94,8 @@ pub fn open_session<S: Store, P: Entries + Drop>(
     requires empty { P.Entries.is_made_of programs empty }
     requires takes { (file : List ℕ) → P.Entries.fits file }
     ensures ok { IfOk result (λ r. (files : ByteMap) × P.Entries.is_made_of r.1.programs files × IsKeeping (S.Store.view r.0) (kept_of files r.1)) }
-    ensures read { IfOk result (λ r. ReadsIn S.Store IsRefused store r.0 (Ok r.1)) }
-    ensures refused { IfErr result (λ e. RefusesIn P S.Store IsRefused store e.1 e.0) }
+    ensures read { IfOk result (λ r. ReadsIn S.Store IsOpenRefused store r.0 (Ok r.1)) }
+    ensures refused { IfErr result (λ e. RefusesIn P S.Store IsOpenRefused store e.1 e.0) }
 {
     let mut store = store;
     match load(alloc, &mut store, programs) {

@@ -6,10 +6,10 @@ use Rattle.elf32.specs.Image.{image_of}
 use Rattle.elf32.specs.Layout.{Layout}
 use Rattle.rv_ledger.specs.declared.rules.Rules.TheVariants.{One}
 use Rattle.session_file.specs.Kept.{Kept}
-use Rattle.turns.specs.Turn.{first_digest}
-use Rattle.turns.specs.declared.settings.Settings.{Settings}
-use Rattle.turns.specs.declared.state.State.{State}
-use Rattle.session_states.specs.States.{FileState, KeepsState, new_state, nothing_kept, row_of}
+use Rattle.session_turns.specs.Turn.{first_digest}
+use Rattle.session_turns.specs.declared.settings.Settings.{Settings}
+use Rattle.session_turns.specs.declared.state.State.{State}
+use Rattle.session_states.specs.States.{FileState, KeepsState, new_state, nothing_kept, session_row_of}
 use Rattle.session_states.proofs.Programs.{none_loaded, one_forgotten, one_loaded}
 
 -- a program is put in, with the file that it was loaded from
@@ -37,7 +37,7 @@ program_forgotten settings f k name h = record {
 -- a frame that counts leaves a state of the same programs and a last answer, which are staged with its row
 pub frame_counted : (settings : Settings) (f : FileState) (k : Kept) (s : State) (digest : List ℕ) (last : Option (List ℕ × List ℕ)) → KeepsState settings f k
     → s.programs ≡ f.state.programs → s.digest ≡ Some digest → s.last ≡ None
-    → KeepsState settings (record { state = s; last = last }) (record k { storage = s.store; session = Some (row_of settings s.rules s.height digest); answer = last })
+    → KeepsState settings (record { state = s; last = last }) (record k { storage = s.store; session = Some (session_row_of settings s.rules s.height digest); answer = last })
 frame_counted settings f k s digest last h programs is no_other = record {
   storage = refl;
   programs = rw programs h.programs;
@@ -48,12 +48,12 @@ frame_counted settings f k s digest last h programs is no_other = record {
 
 -- a session that begins at a text leaves a state of the same programs, and no answer
 pub session_begun : (settings : Settings) (f : FileState) (k : Kept) (s : State) (digest : List ℕ) → KeepsState settings f k → s.programs ≡ f.state.programs → s.digest ≡ Some digest → s.last ≡ None
-    → KeepsState settings (record { state = s; last = None }) (record k { storage = s.store; session = Some (row_of settings s.rules s.height digest); answer = None })
+    → KeepsState settings (record { state = s; last = None }) (record k { storage = s.store; session = Some (session_row_of settings s.rules s.height digest); answer = None })
 session_begun settings f k s digest = frame_counted settings f k s digest None
 
 -- a new session, of which a file keeps its row alone
 pub session_made : (settings : Settings) → settings.keeps_digest ≡ true
-    → KeepsState settings (new_state settings) (record nothing_kept { session = Some (row_of settings One 0 (replicate 32 0)) })
+    → KeepsState settings (new_state settings) (record nothing_kept { session = Some (session_row_of settings One 0 (replicate 32 0)) })
 session_made settings keeps = record {
   storage = refl;
   programs = none_loaded;

@@ -2,15 +2,15 @@
 use Rattle.std.proofs.Common.{◌≡◌, Some, sym, ap, ◌∙◌}
 use Rattle.session_file.specs.Kept.{Kept}
 use Rattle.session_file.specs.declared.rows.SessionRow.{SessionRow}
-use Rattle.turns.specs.declared.settings.Settings.{Settings}
-use Rattle.session_states.specs.States.{FileState, KeepsState, row_of}
+use Rattle.session_turns.specs.declared.settings.Settings.{Settings}
+use Rattle.session_states.specs.States.{FileState, KeepsState, session_row_of}
 use Rattle.session_states.proofs.Programs.{loaded_once}
 
 pub kept_once : (settings : Settings) (f g : FileState) (k : Kept) → KeepsState settings f k → KeepsState settings g k → f ≡ g
 kept_once settings f g k a b =
     let left = a.session.2 in
     let right = b.session.2 in
-    let row : row_of settings f.state.rules f.state.height a.session.0 ≡ row_of settings g.state.rules g.state.height b.session.0 = cc in
+    let row : session_row_of settings f.state.rules f.state.height a.session.0 ≡ session_row_of settings g.state.rules g.state.height b.session.0 = cc in
     let store = sym a.storage ∙ b.storage in
     let rules = ap (λ (r : SessionRow). r.rules) row in
     let height = ap (λ (r : SessionRow). r.height) row in

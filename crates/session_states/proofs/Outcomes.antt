@@ -3,17 +3,17 @@ use Rattle.std.proofs.Common.{◌≡◌, ◌≢◌, Bool, true, false, not, List
 use Rattle.std.specs.FinMap.{empty, entries, same_entries_map}
 use Rattle.std.specs.Map.Iter.{TakesFirst}
 use Rattle.std.specs.Option.{option_map}
-use Rattle.entry_tree.specs.Entries.{ByteMap}
+use Rattle.session_tree.specs.Entries.{ByteMap}
 use Rattle.rv_ledger.specs.Key.{Storage}
 use Rattle.session_file.specs.Kept.{Kept}
 use Rattle.session_file.specs.Opening.{answer_parts}
 use Rattle.session_file.specs.declared.rows.AnswerRow.{AnswerRow}
 use Rattle.session_file.specs.declared.rows.SessionRow.{SessionRow}
 use Rattle.session_file.proofs.Lists.{no_entries}
-use Rattle.turns.specs.Programs.{ProgramsByName}
-use Rattle.turns.specs.Turn.{new_session}
-use Rattle.turns.specs.declared.settings.Settings.{Settings}
-use Rattle.turns.specs.declared.state.State.{State}
+use Rattle.session_turns.specs.Programs.{ProgramsByName}
+use Rattle.session_turns.specs.Turn.{new_session}
+use Rattle.session_turns.specs.declared.settings.Settings.{Settings}
+use Rattle.session_turns.specs.declared.state.State.{State}
 use Rattle.session_states.specs.Loads.{HasNoRows, kept_rows}
 use Rattle.session_states.specs.States.{AreLoadedAs, FileState, IsUnloadable, KeepsState, Loads, file_state, nothing_kept}
 use Rattle.session_states.specs.declared.loading.LoadFault.TheVariants.{Damaged}

@@ -8,8 +8,8 @@ use Rattle.std.specs.FinMap.{empty, entries, find, get, get-empty, get-entries, 
 use Rattle.elf32.specs.Layout.{Layout}
 use Rattle.rv_ledger.specs.Key.{key_cmp}
 use Rattle.rv_ledger.proofs.Entries.{key_cmp-IsAntisymmetric}
-use Rattle.entry_tree.specs.Entries.{ByteMap}
-use Rattle.turns.specs.Programs.{ProgramsByName}
+use Rattle.session_tree.specs.Entries.{ByteMap}
+use Rattle.session_turns.specs.Programs.{ProgramsByName}
 use Rattle.session_states.specs.States.{AreLoadedFrom, IsLoadedFrom}
 
 -- no files, and no programs

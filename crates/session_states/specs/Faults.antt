@@ -6,16 +6,16 @@ use Rattle.sqlite_trees.specs.declared.error.StoreError.TheVariants as store
 use Rattle.session_states.specs.declared.fault.StoreFault.{StoreFault}
 use Rattle.session_states.specs.declared.fault.StoreFault.TheVariants.{Busy, HotJournal, Unreadable, NotASession, OtherVersion, OtherSettings, Damaged, Full, Memory}
 
-abbrev pub parts_of : StoreFault → Parts
-parts_of Busy = without_line (codes "store") (codes "Busy") 1
-parts_of HotJournal = without_line (codes "store") (codes "HotJournal") 2
-parts_of Unreadable = without_line (codes "store") (codes "Unreadable") 3
-parts_of NotASession = without_line (codes "store") (codes "NotASession") 4
-parts_of OtherVersion = without_line (codes "store") (codes "OtherVersion") 5
-parts_of OtherSettings = without_line (codes "store") (codes "OtherSettings") 6
-parts_of Damaged = without_line (codes "store") (codes "Damaged") 7
-parts_of Full = without_line (codes "store") (codes "Full") 8
-parts_of Memory = without_line (codes "store") (codes "Memory") 9
+abbrev pub store_fault_parts : StoreFault → Parts
+store_fault_parts Busy = without_line (codes "store") (codes "Busy") 1
+store_fault_parts HotJournal = without_line (codes "store") (codes "HotJournal") 2
+store_fault_parts Unreadable = without_line (codes "store") (codes "Unreadable") 3
+store_fault_parts NotASession = without_line (codes "store") (codes "NotASession") 4
+store_fault_parts OtherVersion = without_line (codes "store") (codes "OtherVersion") 5
+store_fault_parts OtherSettings = without_line (codes "store") (codes "OtherSettings") 6
+store_fault_parts Damaged = without_line (codes "store") (codes "Damaged") 7
+store_fault_parts Full = without_line (codes "store") (codes "Full") 8
+store_fault_parts Memory = without_line (codes "store") (codes "Memory") 9
 
 -- the fault of a store's error; a row that is too long for the format, or a number of 2^63 or above, has no room
 abbrev pub fault_of_store : StoreError → StoreFault

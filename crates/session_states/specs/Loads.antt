@@ -2,13 +2,13 @@
 use Rattle.std.specs.Prelude.{◌≡◌, false, is_some, Option, Some}
 use Rattle.std.specs.FinMap.{empty}
 use Rattle.std.specs.Option.{option_map}
-use Rattle.entry_tree.specs.Entries.{ByteMap}
+use Rattle.session_tree.specs.Entries.{ByteMap}
 use Rattle.rv_ledger.specs.Key.{Storage}
 use Rattle.session_file.specs.Kept.{Kept}
 use Rattle.session_file.specs.Opening.{answer_parts}
 use Rattle.session_file.specs.declared.rows.AnswerRow.{AnswerRow}
 use Rattle.session_file.specs.declared.rows.SessionRow.{SessionRow}
-use Rattle.turns.specs.Programs.{ProgramsByName}
+use Rattle.session_turns.specs.Programs.{ProgramsByName}
 
 -- what these rows keep
 abbrev pub kept_rows : ByteMap → Storage → Option SessionRow → Option AnswerRow → Kept

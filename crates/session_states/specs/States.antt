@@ -5,18 +5,18 @@ use Rattle.std.specs.Option.{option_map}
 use Rattle.sha2.specs.Sha256.{sha256}
 use Rattle.elf32.specs.Image.{image_of}
 use Rattle.elf32.specs.Layout.{Layout}
-use Rattle.entry_tree.specs.Entries.{ByteMap}
+use Rattle.session_tree.specs.Entries.{ByteMap}
 use Rattle.rv_ledger.specs.declared.rules.Rules.{Rules}
 use Rattle.session_file.specs.Kept.{Kept}
 use Rattle.session_file.specs.Opening.{answer_parts}
 use Rattle.session_file.specs.declared.rows.AnswerRow.{AnswerRow}
 use Rattle.session_file.specs.declared.rows.SessionRow.{SessionRow}
-use Rattle.turns.specs.Programs.{ProgramsByName}
-use Rattle.turns.specs.Replies.{answer_bytes, answer_line, kept_reply}
-use Rattle.turns.specs.Turn.{new_session}
-use Rattle.turns.specs.declared.kept.KeptAnswer.{KeptAnswer}
-use Rattle.turns.specs.declared.settings.Settings.{Settings}
-use Rattle.turns.specs.declared.state.State.{State}
+use Rattle.session_turns.specs.Programs.{ProgramsByName}
+use Rattle.session_turns.specs.Replies.{answer_bytes, answer_line, kept_reply}
+use Rattle.session_turns.specs.Turn.{new_session}
+use Rattle.session_turns.specs.declared.kept.KeptAnswer.{KeptAnswer}
+use Rattle.session_turns.specs.declared.settings.Settings.{Settings}
+use Rattle.session_turns.specs.declared.state.State.{State}
 use Rattle.session_states.specs.declared.loading.LoadFault.{LoadFault}
 use Rattle.session_states.specs.declared.loading.Loaded.{Loaded}
 use Rattle.session_states.specs.declared.loading.LoadFault.TheVariants.{OtherSettings, Damaged}
@@ -27,13 +27,13 @@ pub record FileState : Type 0 where
   pub last : Option (List ℕ × List ℕ)
 
 -- an answer as the file has it
-abbrev pub text_of : KeptAnswer → List ℕ × List ℕ
-text_of kept = (answer_line (kept_reply kept), answer_bytes (kept_reply kept))
+abbrev pub kept_text : KeptAnswer → List ℕ × List ℕ
+kept_text kept = (answer_line (kept_reply kept), answer_bytes (kept_reply kept))
 
 -- the last answer: that of this run, else the one that was found in the file
 abbrev pub last_of : Option KeptAnswer → Option (List ℕ × List ℕ) → Option (List ℕ × List ℕ)
 last_of None found = found
-last_of (Some kept) found = Some (text_of kept)
+last_of (Some kept) found = Some (kept_text kept)
 
 -- a state in memory, and the answer that was found in the file, as a session over a file
 abbrev pub file_state : State → Option AnswerRow → FileState
@@ -59,8 +59,8 @@ AreLoadedAs files (Some programs) = AreLoadedFrom files programs
 AreLoadedAs files None = (programs : ProgramsByName) → ¬ AreLoadedFrom files programs
 
 -- the row of a session of these settings, under these rules, at this height, with this digest
-abbrev pub row_of : Settings → Rules → ℕ → List ℕ → SessionRow
-row_of settings rules height digest = record {
+abbrev pub session_row_of : Settings → Rules → ℕ → List ℕ → SessionRow
+session_row_of settings rules height digest = record {
   frame_limit = settings.frame_limit;
   frame_gas = settings.frame_gas;
   is_brief = settings.is_brief;
@@ -73,7 +73,7 @@ row_of settings rules height digest = record {
 pub record KeepsState (settings : Settings) (f : FileState) (k : Kept) : Type 0 where
   pub storage : k.storage ≡ f.state.store
   pub programs : AreLoadedFrom k.programs f.state.programs
-  pub session : (digest : List ℕ) × (f.state.digest ≡ Some digest) × (k.session ≡ Some (row_of settings f.state.rules f.state.height digest))
+  pub session : (digest : List ℕ) × (f.state.digest ≡ Some digest) × (k.session ≡ Some (session_row_of settings f.state.rules f.state.height digest))
   pub answer : k.answer ≡ f.last
   pub no_other : f.state.last ≡ None
 

@@ -2,7 +2,7 @@
 
 ghost use Rattle.std.specs.Prelude.{◌≡◌};
 ghost use Rattle.byte_streams.specs.Refusals.{parts_in};
-ghost use Rattle.session_states.specs.Faults.{fault_of_store, parts_of};
+ghost use Rattle.session_states.specs.Faults.{fault_of_store, store_fault_parts};
 
 use byte_streams::LineParts;
 use sqlite_trees::error::StoreError;
@@ -41,7 +41,7 @@ pub enum StoreFault {
 impl StoreFault {
     /// The parts of what it prints.
     pub fn parts(self) -> LineParts
-        ensures { parts_in result ≡ parts_of self }
+        ensures { parts_in result ≡ store_fault_parts self }
     {
         match self {
             StoreFault::Busy => LineParts::without_line("store", "Busy", 1),

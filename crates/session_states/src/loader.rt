@@ -8,11 +8,11 @@ ghost use Rattle.session_states.specs.States.{AreLoadedAs, IsLoadedFrom};
 use elf32::{ElfError, Image, load};
 use rv_ledger::Key;
 use session_file::Entries;
+use session_turns::ProgramTable;
 use sha2::{Digest, Sha256};
 use std::alloc::{AllocError, AllocFailed, Global};
 use std::marker::Model;
 use std::sync::Arc;
-use turns::ProgramTable;
 
 /// Programs that were loaded from their files, which it does not keep. Contracts see the programs, or None after a file with a
 /// fault or with another SHA-256 than its name.
@@ -25,8 +25,8 @@ pub struct ProgramLoader {
 impl Model for ProgramLoader {
     ghost use Rattle.std.specs.Prelude.{Option};
     ghost use Rattle.std.specs.Coded.{coded_option};
-    ghost use Rattle.turns.specs.Programs.{ProgramsByName};
-    ghost use Rattle.turns.specs.contracts.program_table.ProgramTable as table;
+    ghost use Rattle.session_turns.specs.Programs.{ProgramsByName};
+    ghost use Rattle.session_turns.specs.contracts.program_table.ProgramTable as table;
 
     ghost Value = { Option ProgramsByName };
 

@@ -2,7 +2,7 @@
 
 ghost use Rattle.std.specs.Prelude.{◌≡◌, ◌≢◌, false, IfErr, IfOk, IsTrue, None, Some};
 ghost use Rattle.std.specs.FinMap.{empty};
-ghost use Rattle.entry_tree.specs.Entries.{ByteMap};
+ghost use Rattle.session_tree.specs.Entries.{ByteMap};
 ghost use Rattle.session_file.specs.Opening.{kept_of};
 ghost use Rattle.session_states.specs.Loads.{HasNoRows, kept_rows};
 ghost use Rattle.session_states.specs.States.{AreLoadedAs, IsUnloadable, Loads};
@@ -11,8 +11,8 @@ use crate::loader::ProgramLoader;
 use crate::rows::has_settings;
 use rv_ledger::Store;
 use session_file::{AnswerRow, Found, SessionRow};
+use session_turns::{Settings, State};
 use std::alloc::Global;
-use turns::{Settings, State};
 
 /// Why the rows of a file are no state of a session.
 #[derive(Clone, Copy, Debug, PartialEq, Eq)]

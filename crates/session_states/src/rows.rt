@@ -1,15 +1,15 @@
 //! The row of a session.
 
 ghost use Rattle.std.specs.Prelude.{◌≡◌, IsTrue, false};
-ghost use Rattle.session_states.specs.States.{HasSettings, row_of};
+ghost use Rattle.session_states.specs.States.{HasSettings, session_row_of};
 
 use rv_ledger::Rules;
 use session_file::SessionRow;
-use turns::Settings;
+use session_turns::Settings;
 
 /// The row of a session of these settings, under these rules, at this height, with this digest.
 pub fn row_of(settings: Settings, rules: Rules, height: u64, digest: [u8; 32]) -> SessionRow
-    ensures { result ≡ row_of settings rules height digest }
+    ensures { result ≡ session_row_of settings rules height digest }
 {
     SessionRow {
         frame_limit: settings.frame_limit,

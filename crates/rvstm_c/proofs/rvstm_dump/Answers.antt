@@ -1,5 +1,5 @@
 use Rattle.std.proofs.Common.{◌≡◌, Some, rules}
-use Rattle.requests.specs.Requests.{Dump}
+use Rattle.session_requests.specs.Requests.{Dump}
 use Rattle.rvstm_c.specs.Embedding.{IsCalled}
 use Rattle.rvstm_c.proofs.Calls.{on_session}
 use Rattle.rvstm_c.proofs.rvstm_dump.Goals as goal

@@ -1,5 +1,5 @@
 use Rattle.std.proofs.Common.{◌≡◌, Some, rules}
-use Rattle.requests.specs.Requests.{Get}
+use Rattle.session_requests.specs.Requests.{Get}
 use Rattle.rvstm_c.specs.Asked.{with_name}
 use Rattle.rvstm_c.specs.Embedding.{IsCalled}
 use Rattle.rvstm_c.proofs.Calls.{on_session}

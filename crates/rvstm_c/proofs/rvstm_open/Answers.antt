@@ -1,5 +1,5 @@
 use Rattle.std.proofs.Common.{Option, Some, None, subst}
-use Rattle.turns.specs.declared.settings.Settings.{Settings}
+use Rattle.session_turns.specs.declared.settings.Settings.{Settings}
 use Rattle.rvstm_c.specs.Embedding.{IsOpened}
 use Rattle.rvstm_c.specs.Settings.{usual_settings}
 use Rattle.rvstm_c.specs.declared.session.EmbeddedSession.{EmbeddedSession}

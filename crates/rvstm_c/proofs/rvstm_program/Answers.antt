@@ -1,5 +1,5 @@
 use Rattle.std.proofs.Common.{◌≡◌, Some, rules}
-use Rattle.requests.specs.Requests.{Program}
+use Rattle.session_requests.specs.Requests.{Program}
 use Rattle.rvstm_c.specs.Asked.{with_bytes}
 use Rattle.rvstm_c.specs.Embedding.{IsCalled}
 use Rattle.rvstm_c.proofs.Calls.{on_session}

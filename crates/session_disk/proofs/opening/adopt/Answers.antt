@@ -4,7 +4,7 @@ use Rattle.sqlite_store.specs.FileStore.{state}
 use Rattle.session_disk.specs.Opening.{IsSessionStore}
 use Rattle.session_disk.proofs.Adoptions.{before, again, found_in, found_old, has_file, has_some, if_both_err, if_both_ok, if_err, if_ok, no_rows, some_rows, unstarted}
 use Rattle.session_disk.proofs.Causes.{from_store, wider}
-use Rattle.session_disk.specs.Sessions.{page_size}
+use Rattle.session_disk.specs.Sessions.{database_page_size}
 use Rattle.session_disk.proofs.Images.{not_bereft}
 use Rattle.session_disk.proofs.Leavings.{not_made_then, not_opened, not_opened_then}
 use Rattle.session_disk.proofs.Stores.{fresh, has_trees, holds_rows}
@@ -13,7 +13,7 @@ use Rattle.session_disk.proofs.opening.adopt.Goals as goal
 pub make-requires-clause-whole : goal.make-requires-clause-whole
 make-requires-clause-whole g c clean =
     let was = c.read_catalog.ensures.honest clean in
-    not_bereft page_size _ (c.in-Ok.ensures.ok clean).pages (again c.args.files (c.requires.unopened.size was) c.read_catalog.new.self (c.read_catalog.ensures.kept clean) c.in-Ok.rows.items (c.in-Ok.ensures.ok clean))
+    not_bereft database_page_size _ (c.in-Ok.ensures.ok clean).pages (again c.args.files (c.requires.unopened.size was) c.read_catalog.new.self (c.read_catalog.ensures.kept clean) c.in-Ok.rows.items (c.in-Ok.ensures.ok clean))
 
 pub make-requires-clause-unopened : goal.make-requires-clause-unopened
 make-requires-clause-unopened g c = record {

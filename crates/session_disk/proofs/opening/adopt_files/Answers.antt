@@ -1,7 +1,7 @@
 use Rattle.std.proofs.Common.{sym, subst, ◌∙◌}
 use Rattle.sqlite_pool.specs.Opening.{IsBlankFile}
-use Rattle.session_disk.specs.Sessions.{page_size, BeginsWell, IsSession}
-use Rattle.session_disk.specs.Opening.{IsOpened}
+use Rattle.session_disk.specs.Sessions.{database_page_size, BeginsWell, IsSession}
+use Rattle.session_disk.specs.Opening.{AreFilesOpened}
 use Rattle.session_disk.specs.declared.leftover.Leftover.TheVariants as left
 use Rattle.session_disk.proofs.Causes.{wider}
 use Rattle.session_disk.proofs.Leavings.{from_earlier}
@@ -30,7 +30,7 @@ adopt-requires-clause-some g c clean =
     let made = c.in-Ok.ensures.files in
     let seen = seen_files c.in-Ok.fresh read made ∙ same_image g.D.Disk c.args.files read c.check_first_byte.ensures.log c.check_first_byte.ensures.db in
     let was = was_clean g.D.Disk c.args.files read c.check_first_byte.ensures.log c.check_first_byte.ensures.db (clean_files c.in-Ok.fresh read made clean) in
-    subst (λ i. ¬ IsBlankFile page_size i) (sym seen) (c.requires.some was)
+    subst (λ i. ¬ IsBlankFile database_page_size i) (sym seen) (c.requires.some was)
 
 pub adopt-requires-clause-begins : goal.adopt-requires-clause-begins
 adopt-requires-clause-begins g c clean =
@@ -43,7 +43,7 @@ pub returns-in-Ok-adopt-clause-ok : goal.returns-in-Ok-adopt-clause-ok
 returns-in-Ok-adopt-clause-ok g c clean =
     let read = c.check_first_byte.new.files in
     let seen = seen_files c.in-Ok.fresh read c.in-Ok.ensures.files ∙ same_image g.D.Disk c.args.files read c.check_first_byte.ensures.log c.check_first_byte.ensures.db in
-    subst (λ i. IsOpened i c.in-Ok-adopt.store) seen (c.in-Ok-adopt.ensures.ok clean)
+    subst (λ i. AreFilesOpened i c.in-Ok-adopt.store) seen (c.in-Ok-adopt.ensures.ok clean)
 
 pub returns-in-Ok-adopt-clause-honest : goal.returns-in-Ok-adopt-clause-honest
 returns-in-Ok-adopt-clause-honest g c clean =

@@ -1,7 +1,7 @@
 use Rattle.std.proofs.Common.{sym, subst, subst₂, ◌∙◌, inl, inr}
 use Rattle.sqlite_pool.specs.Opening.{IsBlankFile}
-use Rattle.session_disk.specs.Sessions.{page_size, IsBereft}
-use Rattle.session_disk.specs.Opening.{IsOpened}
+use Rattle.session_disk.specs.Sessions.{database_page_size, IsBereft}
+use Rattle.session_disk.specs.Opening.{AreFilesOpened}
 use Rattle.session_disk.specs.declared.leftover.Leftover.TheVariants as left
 use Rattle.session_disk.proofs.Causes.{wider}
 use Rattle.session_disk.proofs.Leavings.{from_earlier, not_made}
@@ -35,7 +35,7 @@ pub returns-in-Ok-make-clause-ok : goal.returns-in-Ok-make-clause-ok
 returns-in-Ok-make-clause-ok g c clean =
     let read = c.check_log.new.files in
     let seen = seen_files c.in-Ok.fresh read c.in-Ok.ensures.files ∙ same_image g.D.Disk c.args.files read c.check_log.ensures.log c.check_log.ensures.db in
-    subst (λ i. IsOpened i c.in-Ok-make.store) seen (c.in-Ok-make.ensures.ok clean)
+    subst (λ i. AreFilesOpened i c.in-Ok-make.store) seen (c.in-Ok-make.ensures.ok clean)
 
 pub returns-in-Ok-make-clause-honest : goal.returns-in-Ok-make-clause-honest
 returns-in-Ok-make-clause-honest g c clean =
@@ -61,7 +61,7 @@ returns-in-Err-make-clause-unharmed g c clean =
     let made = c.in-Ok.ensures.files in
     let was = c.in-Err-make.ensures.falls clean in
     let seen = seen_files fresh read made ∙ same_image g.D.Disk c.args.files read c.check_log.ensures.log c.check_log.ensures.db in
-    let blank = subst (IsBlankFile page_size) (sym seen) (c.requires.blank (was_clean g.D.Disk c.args.files read c.check_log.ensures.log c.check_log.ensures.db (clean_files fresh read made was))) in
+    let blank = subst (IsBlankFile database_page_size) (sym seen) (c.requires.blank (was_clean g.D.Disk c.args.files read c.check_log.ensures.log c.check_log.ensures.db (clean_files fresh read made was))) in
     let whole = subst (λ i. ¬ IsBereft i) (sym seen) (c.in_default.ensures.whole (clean_files fresh read made was)) in
     leaves_later g.D.Disk c.args.files read c.check_log.ensures.log c.check_log.ensures.db (left.Unopened c.in-Err-make.rest)
     (from_earlier _ _ _ _ _ (seen_files fresh read made) (left_files fresh read made)

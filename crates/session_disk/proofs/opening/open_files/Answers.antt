@@ -2,8 +2,8 @@ use Rattle.std.proofs.Common.{sym, subst}
 use Rattle.sqlite_pool.specs.Opening.{IsBlankFile}
 use Rattle.sqlite_store.specs.FileStore.{view}
 use Rattle.sqlite_trees.proofs.Doubt.{clean_of}
-use Rattle.session_disk.specs.Sessions.{page_size}
-use Rattle.session_disk.specs.Opening.{IsOpened}
+use Rattle.session_disk.specs.Sessions.{database_page_size}
+use Rattle.session_disk.specs.Opening.{AreFilesOpened}
 use Rattle.session_disk.proofs.Adoptions.{if_err, if_ok}
 use Rattle.session_disk.proofs.Readings.{fails_by_reading, fails_later, leaves_by_reading, leaves_later, same_image, was_clean}
 use Rattle.session_disk.proofs.Stores.{leaves_session}
@@ -17,17 +17,17 @@ returns-in-Err-clause-unharmed g c clean = leaves_by_reading g.D.Disk c.args.fil
 
 pub make_files-requires-clause-blank : goal.make_files-requires-clause-blank
 make_files-requires-clause-blank g c clean =
-    subst (IsBlankFile page_size) (sym (same_image g.D.Disk c.args.files c.is_blank.new.files c.is_blank.ensures.log c.is_blank.ensures.db)) ((c.in-Ok.ensures.ok clean).0 c.if-is_new.true)
+    subst (IsBlankFile database_page_size) (sym (same_image g.D.Disk c.args.files c.is_blank.new.files c.is_blank.ensures.log c.is_blank.ensures.db)) ((c.in-Ok.ensures.ok clean).0 c.if-is_new.true)
 
 pub adopt_files-requires-clause-some : goal.adopt_files-requires-clause-some
 adopt_files-requires-clause-some g c clean blank =
-    let yes = (c.in-Ok.ensures.ok clean).1 (subst (IsBlankFile page_size) (same_image g.D.Disk c.args.files c.is_blank.new.files c.is_blank.ensures.log c.is_blank.ensures.db) blank) in
+    let yes = (c.in-Ok.ensures.ok clean).1 (subst (IsBlankFile database_page_size) (same_image g.D.Disk c.args.files c.is_blank.new.files c.is_blank.ensures.log c.is_blank.ensures.db) blank) in
     let no = c.if-is_new.false in
     cc
 
 pub returns-then-is_new-clause-ok : goal.returns-then-is_new-clause-ok
 returns-then-is_new-clause-ok g c = if_ok c.make_files.result (λ store opened clean.
-    subst (λ i. IsOpened i store) (same_image g.D.Disk c.args.files c.is_blank.new.files c.is_blank.ensures.log c.is_blank.ensures.db) (opened clean)) c.make_files.ensures.ok
+    subst (λ i. AreFilesOpened i store) (same_image g.D.Disk c.args.files c.is_blank.new.files c.is_blank.ensures.log c.is_blank.ensures.db) (opened clean)) c.make_files.ensures.ok
 
 pub returns-then-is_new-clause-left : goal.returns-then-is_new-clause-left
 returns-then-is_new-clause-left g c = if_ok c.make_files.result (λ store opened clean. leaves_session store (opened clean).tables) c.make_files.ensures.ok
@@ -46,7 +46,7 @@ returns-then-is_new-clause-unharmed g c = if_err c.make_files.result (λ e leave
 
 pub returns-else-is_new-clause-ok : goal.returns-else-is_new-clause-ok
 returns-else-is_new-clause-ok g c = if_ok c.adopt_files.result (λ store opened clean.
-    subst (λ i. IsOpened i store) (same_image g.D.Disk c.args.files c.is_blank.new.files c.is_blank.ensures.log c.is_blank.ensures.db) (opened clean)) c.adopt_files.ensures.ok
+    subst (λ i. AreFilesOpened i store) (same_image g.D.Disk c.args.files c.is_blank.new.files c.is_blank.ensures.log c.is_blank.ensures.db) (opened clean)) c.adopt_files.ensures.ok
 
 pub returns-else-is_new-clause-left : goal.returns-else-is_new-clause-left
 returns-else-is_new-clause-left g c = if_ok c.adopt_files.result (λ store opened clean. leaves_session store (opened clean).tables) c.adopt_files.ensures.ok

@@ -1,7 +1,7 @@
 use Rattle.std.proofs.Common.{ℕ, Bool, cond, List, ap, ap₂, subst, ◌∙◌}
 use Rattle.sqlite_disk.specs.Events.{Event, replay}
 use Rattle.sqlite_wal.specs.Recovery.{Image}
-use Rattle.session_disk.specs.Opening.{IsOpened}
+use Rattle.session_disk.specs.Opening.{AreFilesOpened}
 use Rattle.session_disk.proofs.Removals.{removes_own}
 use Rattle.session_disk.proofs.path.open_path.Goals as goal
 
@@ -18,7 +18,7 @@ returns-in-Ok-open_beside-clause-ok g c clean =
     let same = ap₂ image
     (ap (λ f. seen g.S.Start.log g.S.Start.db f.is_log f.calls.log.events) named.log.inner ∙ ap₂ (seen g.S.Start.log g.S.Start.db) log.0 log.1)
     (ap (λ f. seen g.S.Start.log g.S.Start.db f.is_log f.calls.log.events) named.db.inner ∙ ap₂ (seen g.S.Start.log g.S.Start.db) db.0 db.1) in
-    subst (λ i. IsOpened i c.in-Ok-open_beside.opened.0) same (c.in-Ok-open_beside.ensures.ok clean)
+    subst (λ i. AreFilesOpened i c.in-Ok-open_beside.opened.0) same (c.in-Ok-open_beside.ensures.ok clean)
 
 pub returns-clause-own : goal.returns-clause-own
 returns-clause-own g c =

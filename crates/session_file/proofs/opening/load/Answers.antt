@@ -3,7 +3,7 @@ use Rattle.std.specs.FinMap.{entries}
 use Rattle.std.proofs.lemmas.Result.{err_from_is_err_and}
 use Rattle.sqlite_trees.specs.View.{IsClean}
 use Rattle.session_file.specs.Kept.{program_tree}
-use Rattle.session_file.specs.Opening.{IsRefused}
+use Rattle.session_file.specs.Opening.{IsOpenRefused}
 use Rattle.session_file.specs.Rows.{HasNoAnswer, HasNoEntries, HasNoSession, HasNoStorage}
 use Rattle.session_file.proofs.Lists.{all_named, programs_fit}
 use Rattle.session_file.proofs.Opens.{loaded, this_version}
@@ -13,7 +13,7 @@ use Rattle.session_file.proofs.opening.load.Goals as goal
 pub returns-in_err-session-clause-reads : goal.returns-in_err-session-clause-reads
 returns-in_err-session-clause-reads g c =
     let p = err_from_is_err_and c.from_residual.result c.from_residual.ensures.1 in
-    rw (p.1, p.2) (refused_then g.S.Store IsRefused HasNoSession c.args.store.now c.args.store.now c.read_session.new.store _ (read_nothing g.S.Store IsRefused c.args.store.now (tt {0}))
+    rw (p.1, p.2) (refused_then g.S.Store IsOpenRefused HasNoSession c.args.store.now c.args.store.now c.read_session.new.store _ (read_nothing g.S.Store IsOpenRefused c.args.store.now (tt {0}))
     (λ clean none. (none.0, λ k h. none.1 k.session h.limits.session h.session)) c.in_err-session.ensures.reads)
 
 pub returns-in_err-answer-clause-reads : goal.returns-in_err-answer-clause-reads
@@ -27,8 +27,8 @@ pub returns-in_err-read_entries-clause-reads : goal.returns-in_err-read_entries-
 returns-in_err-read_entries-clause-reads g c =
     let v = g.S.Store.view in
     let p = err_from_is_err_and c.from_residual-in_err-read_entries.result c.from_residual-in_err-read_entries.ensures.1 in
-    let both = read_then g.S.Store _ _ IsRefused c.args.store.now c.read_session.new.store c.read_answer.new.store {z = tt {0}} c.in_ok-session.ensures.reads c.in_ok-answer.ensures.reads in
-    rw (p.1, p.2) (refused_then g.S.Store IsRefused (HasNoEntries g.P.Entries.fits program_tree) c.args.store.now c.read_answer.new.store c.read_entries.new.store _ both
+    let both = read_then g.S.Store _ _ IsOpenRefused c.args.store.now c.read_session.new.store c.read_answer.new.store {z = tt {0}} c.in_ok-session.ensures.reads c.in_ok-answer.ensures.reads in
+    rw (p.1, p.2) (refused_then g.S.Store IsOpenRefused (HasNoEntries g.P.Entries.fits program_tree) c.args.store.now c.read_answer.new.store c.read_entries.new.store _ both
     (λ clean none.
     let at1 : IsClean (v c.read_session.new.store) = omega (arith, c.in_ok-answer.ensures.reads.quiet.clean, clean) in
     (this_version (v c.args.store.now) (v c.read_answer.new.store) _ (both.same clean) (c.in_ok-session.ensures.ok at1), λ k h. none k.programs (programs_fit _ (entries k.programs) c.requires.takes h.limits.programs) h.programs)) c.in_err-read_entries.ensures.reads)
@@ -37,18 +37,18 @@ pub returns-in_err-storage-clause-reads : goal.returns-in_err-storage-clause-rea
 returns-in_err-storage-clause-reads g c =
     let v = g.S.Store.view in
     let p = err_from_is_err_and c.from_residual-in_err-storage.result c.from_residual-in_err-storage.ensures.1 in
-    let both = read_then g.S.Store _ _ IsRefused c.args.store.now c.read_session.new.store c.read_answer.new.store {z = tt {0}} c.in_ok-session.ensures.reads c.in_ok-answer.ensures.reads in
-    let three = read_then g.S.Store IsRefused _ IsRefused c.args.store.now c.read_answer.new.store c.read_entries.new.store {z = tt {0}} both c.in_ok-read_entries.ensures.reads in
-    rw (p.1, p.2) (refused_then g.S.Store IsRefused HasNoStorage c.args.store.now c.read_entries.new.store c.load_storage.new.store _ three
+    let both = read_then g.S.Store _ _ IsOpenRefused c.args.store.now c.read_session.new.store c.read_answer.new.store {z = tt {0}} c.in_ok-session.ensures.reads c.in_ok-answer.ensures.reads in
+    let three = read_then g.S.Store IsOpenRefused _ IsOpenRefused c.args.store.now c.read_answer.new.store c.read_entries.new.store {z = tt {0}} both c.in_ok-read_entries.ensures.reads in
+    rw (p.1, p.2) (refused_then g.S.Store IsOpenRefused HasNoStorage c.args.store.now c.read_entries.new.store c.load_storage.new.store _ three
     (λ clean none.
     let at1 : IsClean (v c.read_session.new.store) = omega (arith, c.in_ok-read_entries.ensures.reads.quiet.clean, c.in_ok-answer.ensures.reads.quiet.clean, clean) in
     (this_version (v c.args.store.now) (v c.read_entries.new.store) _ (three.same clean) (c.in_ok-session.ensures.ok at1), λ k h. none k.storage h.limits.storage h.storage)) c.in_err-storage.ensures.reads)
 
 pub returns-clause-reads : goal.returns-clause-reads
 returns-clause-reads g c =
-    let both = read_then g.S.Store _ _ IsRefused c.args.store.now c.read_session.new.store c.read_answer.new.store {z = tt {0}} c.in_ok-session.ensures.reads c.in_ok-answer.ensures.reads in
-    let three = read_then g.S.Store IsRefused _ IsRefused c.args.store.now c.read_answer.new.store c.read_entries.new.store {z = tt {0}} both c.in_ok-read_entries.ensures.reads in
-    read_then g.S.Store IsRefused _ IsRefused c.args.store.now c.read_entries.new.store c.load_storage.new.store three c.in_ok-storage.ensures.reads
+    let both = read_then g.S.Store _ _ IsOpenRefused c.args.store.now c.read_session.new.store c.read_answer.new.store {z = tt {0}} c.in_ok-session.ensures.reads c.in_ok-answer.ensures.reads in
+    let three = read_then g.S.Store IsOpenRefused _ IsOpenRefused c.args.store.now c.read_answer.new.store c.read_entries.new.store {z = tt {0}} both c.in_ok-read_entries.ensures.reads in
+    read_then g.S.Store IsOpenRefused _ IsOpenRefused c.args.store.now c.read_entries.new.store c.load_storage.new.store three c.in_ok-storage.ensures.reads
 
 pub returns-clause-ok : goal.returns-clause-ok
 returns-clause-ok g c =

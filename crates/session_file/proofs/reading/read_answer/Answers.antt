@@ -3,7 +3,7 @@ use Rattle.std.proofs.lemmas.Result.{err_from_is_err_and}
 use Rattle.sqlite_value.specs.Order.{Row}
 use Rattle.sqlite_trees.specs.View.{View, IsClean}
 use Rattle.sqlite_exec.proofs.CheckLemmas as lemma
-use Rattle.entry_tree.proofs.Tries.{quiet_on}
+use Rattle.session_tree.proofs.Tries.{quiet_on}
 use Rattle.session_file.specs.Kept.{answer_row, answer_tree}
 use Rattle.session_file.specs.Opening.{answer_parts}
 use Rattle.session_file.specs.Rows.{HasNoAnswer}

@@ -5,7 +5,7 @@ use Rattle.sqlite_value.specs.Order.{bytes, column}
 use Rattle.sqlite_trees.specs.View.{View, IsClean}
 use Rattle.sqlite_exec.specs.Loops.{left_of}
 use Rattle.sqlite_exec.proofs.CheckLemmas as lemma
-use Rattle.entry_tree.specs.Entries.{row_of}
+use Rattle.session_tree.specs.Entries.{entry_row}
 use Rattle.session_file.specs.Rows.{HasNoEntries, IsAbove}
 use Rattle.session_file.proofs.Lists.{all_taken, found_next, none_taken, one_key, one_taken}
 use Rattle.session_file.proofs.Loads.{all_left}
@@ -37,8 +37,8 @@ returns-then-not-is_above-clause-reads g c =
     read_damaged g.S.Store (HasNoEntries g.E.Entries.fits c.args.tree) c.args.store.now c.rows.store _ c.rows.invariant.2 c.next.ensures.quiet (λ clean m all is.
     let step = lemma.stepped _ _ 0 c.next.new.row (rw c.if-not-branch.false at (c.in_ok-next.ensures.ok clean)) in
     let it = found_next g.E.Entries.fits (entries c.rows.invariant.3.taken) c.next.new.row _ _ _ m (c.rows.invariant.3.before (omega (arith, c.next.ensures.quiet.clean))) step is all in
-    let row : c.next.new.row ≡ row_of (c.in-Some.key, bytes (column c.next.new.row 1)) = c.in-Some.ensures.some in
-    let same : row_of (c.in-Some.key, bytes (column c.next.new.row 1)) ≡ row_of it.entry = sym row ∙ it.row in
+    let row : c.next.new.row ≡ entry_row (c.in-Some.key, bytes (column c.next.new.row 1)) = c.in-Some.ensures.some in
+    let same : entry_row (c.in-Some.key, bytes (column c.next.new.row 1)) ≡ entry_row it.entry = sym row ∙ it.row in
     let key : it.entry.0 ≡ c.in-Some.key = sym (one_key (c.in-Some.key, bytes (column c.next.new.row 1)) it.entry same) in
     c.is_above.ensures.other c.if-not-is_above.true (subst (λ k. IsAbove k c.rows.last) key (subst (IsAbove it.entry.0) (sym c.rows.invariant.3.last) it.above)))
 
@@ -54,7 +54,7 @@ pub rows-preserved : goal.rows-preserved
 rows-preserved g c =
     let value = c.bytes_of.result.now in
     let blob : bytes (column c.next.new.row 1) ≡ value = sym (c.bytes_of.ensures ∙ ap bytes c.get.ensures) in
-    let row : c.next.new.row ≡ row_of (c.in-Some.key, value) = c.in-Some.ensures.some ∙ ap (λ b. row_of (c.in-Some.key, b)) blob in (
+    let row : c.next.new.row ≡ entry_row (c.in-Some.key, value) = c.in-Some.ensures.some ∙ ap (λ b. entry_row (c.in-Some.key, b)) blob in (
       search rules,
       search rules,
       search rules,

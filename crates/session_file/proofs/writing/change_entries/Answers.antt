@@ -5,10 +5,10 @@ use Rattle.std.specs.Option.{option_copied}
 use Rattle.rv_ledger.specs.Key.{key_cmp}
 use Rattle.session_file.specs.Kept.{storage_tree}
 use Rattle.sqlite_trees.specs.View.{View, IsClean}
-use Rattle.entry_tree.specs.Entries.{changed_rows}
-use Rattle.entry_tree.proofs.Rows.{sorted_rest}
+use Rattle.session_tree.specs.Entries.{changed_rows}
+use Rattle.session_tree.proofs.Rows.{sorted_rest}
 use Rattle.session_file.proofs.Changes.{IsPartWay, at_first, one_more}
-use Rattle.entry_tree.proofs.Tries.{after, failed, weaker_ok}
+use Rattle.session_tree.proofs.Tries.{after, failed, weaker_ok}
 use Rattle.session_file.proofs.Limits.{copied_short, never_long}
 use Rattle.session_file.proofs.writing.change_entries.Goals as goal
 

@@ -1,9 +1,9 @@
 use Rattle.std.proofs.Common.{Ok, ◌≡◌, ◌≢◌, T, ℕ}
 use Rattle.std.specs.FinMap.{is_sorted}
 use Rattle.sqlite_trees.specs.View.{IsClean, OnlyWrites}
-use Rattle.entry_tree.specs.Tries.{Tries}
+use Rattle.session_tree.specs.Tries.{Tries}
 use Rattle.rv_ledger.specs.Key.{key_cmp}
-use Rattle.entry_tree.specs.Entries.{rows_of}
+use Rattle.session_tree.specs.Entries.{rows_of}
 use Rattle.session_file.specs.Kept.{storage_tree}
 use Rattle.overlay.specs.Overlay.{with_changes}
 use Rattle.session_file.proofs.Changes.{IsPartWay}

@@ -4,10 +4,10 @@ use Rattle.std.specs.FinMap.{entries}
 use Rattle.sqlite_value.specs.Keys.{plain}
 use Rattle.sqlite_trees.specs.Tree.{insert_entry}
 use Rattle.sqlite_trees.specs.View.{View, IsClean}
-use Rattle.entry_tree.specs.Entries.{row_of}
+use Rattle.session_tree.specs.Entries.{entry_row}
 use Rattle.session_file.specs.Kept.{storage_tree}
 use Rattle.session_file.proofs.Lists.{IsInserted, at_first, map_rising, one_more}
-use Rattle.entry_tree.proofs.Tries.{after, failed, weaker_ok}
+use Rattle.session_tree.proofs.Tries.{after, failed, weaker_ok}
 use Rattle.session_file.proofs.Limits.{never_long}
 use Rattle.session_file.proofs.writing.insert_entries.Goals as goal
 
@@ -29,7 +29,7 @@ loop-key-preserved g c =
     let now = v c.change_entry.new.store in
     let step : c.loop-key.key-iterator ≡ (key, value) ∷ c.next.new.self = search rules in
     let short : length value ≤ 256 = subst (λ b. length b ≤ 256) c.bytes-in-loop-key.ensures.value c.bytes-in-loop-key.ensures.short in
-    let edit : IsClean now → now.trees storage_tree ≡ insert_entry plain (row_of (key, value)) (was.trees storage_tree) = λ clean. search rules in
+    let edit : IsClean now → now.trees storage_tree ≡ insert_entry plain (entry_row (key, value)) (was.trees storage_tree) = λ clean. search rules in
     let early : IsClean now → IsClean was = λ clean. omega (arith, c.change_entry.ensures.tries.quiet.clean) in (
       one_more _ _ _ _ _ (key, value) c.next.new.self (λ begun. (early begun.0, begun.1)) (λ begun. edit begun.0) c.bytes.ensures.count short (map_rising c.args.storage.now) (subst (λ l. IsInserted (entries c.args.storage.now) l (IsClean was × ((v c.args.store.now).trees storage_tree ≡ [])) (was.trees storage_tree)) step c.loop-key.invariant.0),
       λ clean t other. (c.in_ok-change_entry.ensures.ok clean).others t other ∙ c.loop-key.invariant.1 (early clean) t other,

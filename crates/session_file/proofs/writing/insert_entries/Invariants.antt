@@ -1,7 +1,7 @@
 use Rattle.std.proofs.Common.{Ok, ◌≡◌, ◌≢◌, ℕ, []}
 use Rattle.std.specs.FinMap.{entries}
 use Rattle.sqlite_trees.specs.View.{IsClean, OnlyWrites}
-use Rattle.entry_tree.specs.Tries.{Tries}
+use Rattle.session_tree.specs.Tries.{Tries}
 use Rattle.session_file.specs.Kept.{storage_tree}
 use Rattle.session_file.proofs.Lists.{IsInserted}
 use Rattle.session_file.proofs.writing.insert_entries.Given as goal

@@ -1,8 +1,8 @@
 use Rattle.std.proofs.Common.{arith}
 use Rattle.std.proofs.lemmas.Result.{IfErr-weaker}
 use Rattle.sqlite_trees.specs.View.{IsClean}
-use Rattle.entry_tree.proofs.Causes.{other_limit}
-use Rattle.entry_tree.proofs.Tries.{called}
+use Rattle.session_tree.proofs.Causes.{other_limit}
+use Rattle.session_tree.proofs.Tries.{called}
 use Rattle.session_file.proofs.Causes.{long_answer}
 use Rattle.session_file.proofs.writing.put_answer.Goals as goal
 

@@ -1,8 +1,8 @@
 use Rattle.std.proofs.Common.{arith}
 use Rattle.std.proofs.lemmas.Result.{IfErr-weaker}
 use Rattle.sqlite_trees.specs.View.{IsClean}
-use Rattle.entry_tree.proofs.Causes.{other_limit}
-use Rattle.entry_tree.proofs.Tries.{called}
+use Rattle.session_tree.proofs.Causes.{other_limit}
+use Rattle.session_tree.proofs.Tries.{called}
 use Rattle.session_file.proofs.Causes.{session_stored}
 use Rattle.session_file.proofs.writing.put_session.Goals as goal
 

@@ -4,10 +4,10 @@ use Rattle.std.specs.FinMap.{entries}
 use Rattle.sqlite_value.specs.Keys.{plain}
 use Rattle.sqlite_trees.specs.Tree.{remove_entry}
 use Rattle.sqlite_trees.specs.View.{View, IsClean}
-use Rattle.entry_tree.specs.Entries.{row_of}
+use Rattle.session_tree.specs.Entries.{entry_row}
 use Rattle.session_file.specs.Kept.{storage_tree}
 use Rattle.session_file.proofs.Lists.{AreRising, first_removed, map_rising}
-use Rattle.entry_tree.proofs.Tries.{after, failed, weaker_ok}
+use Rattle.session_tree.proofs.Tries.{after, failed, weaker_ok}
 use Rattle.session_file.proofs.writing.remove_entries.Goals as goal
 
 pub loop-key-init : goal.loop-key-init
@@ -29,9 +29,9 @@ loop-key-preserved g c =
     let now = v c.change_entry.new.store in
     let step : c.loop-key.key-iterator ≡ (key, value) ∷ c.next.new.self = search rules in
     let up : AreRising ((key, value) ∷ c.next.new.self) = subst AreRising step c.loop-key.invariant.3 in
-    let edit : IsClean now → now.trees storage_tree ≡ remove_entry plain (row_of (key, value)) (was.trees storage_tree) = λ clean. search rules in
+    let edit : IsClean now → now.trees storage_tree ≡ remove_entry plain (entry_row (key, value)) (was.trees storage_tree) = λ clean. search rules in
     let early : IsClean now → IsClean was = λ clean. omega (arith, c.change_entry.ensures.tries.quiet.clean) in (
-      λ clean is. edit clean ∙ ap (remove_entry plain (row_of (key, value))) (c.loop-key.invariant.0 (early clean) is ∙ ap (map row_of) step) ∙ first_removed (key, value) c.next.new.self up,
+      λ clean is. edit clean ∙ ap (remove_entry plain (entry_row (key, value))) (c.loop-key.invariant.0 (early clean) is ∙ ap (map entry_row) step) ∙ first_removed (key, value) c.next.new.self up,
       λ clean t other. (c.in_ok-change_entry.ensures.ok clean).others t other ∙ c.loop-key.invariant.1 (early clean) t other,
       λ clean. (c.in_ok-change_entry.ensures.ok clean).rest ∙ ap (λ (w : View). record w { trees = now.trees; cursors = now.cursors }) (c.loop-key.invariant.2 (early clean)),
       up.1,

@@ -1,4 +1,4 @@
-use Rattle.entry_tree.proofs.Tries.{after}
+use Rattle.session_tree.proofs.Tries.{after}
 use Rattle.session_file.proofs.writing.replace_entries.Goals as goal
 
 pub returns-clause-tries : goal.returns-clause-tries

@@ -1,5 +1,5 @@
 use Rattle.std.proofs.Common.{IfErr, Option, subst, sym}
-use Rattle.entry_tree.specs.Entries.{ByteMap}
+use Rattle.session_tree.specs.Entries.{ByteMap}
 use Rattle.session_file.specs.declared.rows.SessionRow.{SessionRow}
 use Rattle.session_states.specs.Loads.{kept_rows}
 use Rattle.session_states.specs.States.{AreLoadedAs, IsUnloadable}

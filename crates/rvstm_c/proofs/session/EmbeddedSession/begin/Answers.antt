@@ -1,5 +1,5 @@
 use Rattle.std.proofs.Common.{refl, sym, ◌∙◌}
-use Rattle.requests.specs.Requests.{Begin}
+use Rattle.session_requests.specs.Requests.{Begin}
 use Rattle.rvstm_c.proofs.Answers.{begun}
 use Rattle.rvstm_c.proofs.session.EmbeddedSession.begin.Goals as goal
 

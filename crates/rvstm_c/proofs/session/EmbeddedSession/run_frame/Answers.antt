@@ -1,5 +1,5 @@
 use Rattle.std.proofs.Common.{refl, sym, ◌∙◌, nat_lt, length}
-use Rattle.requests.specs.Requests.{Frame}
+use Rattle.session_requests.specs.Requests.{Frame}
 use Rattle.rvstm_c.proofs.Answers.{asked}
 use Rattle.rvstm_c.proofs.session.EmbeddedSession.run_frame.Goals as goal
 

@@ -1,5 +1,5 @@
 use Rattle.std.proofs.Common.{refl}
-use Rattle.requests.specs.Reading.{ask_of}
+use Rattle.session_requests.specs.Reading.{ask_of}
 use Rattle.rvstm_c.proofs.session.EmbeddedSession.take.Goals as goal
 
 pub returns : goal.returns

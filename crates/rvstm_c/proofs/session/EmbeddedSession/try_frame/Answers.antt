@@ -1,5 +1,5 @@
 use Rattle.std.proofs.Common.{refl, sym, ◌∙◌, nat_lt, length}
-use Rattle.requests.specs.Requests.{Try}
+use Rattle.session_requests.specs.Requests.{Try}
 use Rattle.rvstm_c.proofs.Answers.{asked}
 use Rattle.rvstm_c.proofs.session.EmbeddedSession.try_frame.Goals as goal
 

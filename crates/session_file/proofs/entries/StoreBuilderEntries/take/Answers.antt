@@ -1,6 +1,6 @@
 use Rattle.std.proofs.Common.{◌≡◌, ap, ◌∙◌, rules}
 use Rattle.std.specs.FinMap.{insert}
-use Rattle.entry_tree.specs.Entries.{ByteMap}
+use Rattle.session_tree.specs.Entries.{ByteMap}
 use Rattle.session_file.proofs.entries.StoreBuilderEntries.take.Goals as goal
 
 pub returns-clause-taken : goal.returns-clause-taken

@@ -1,7 +1,7 @@
 use Rattle.std.proofs.lemmas.Result.{on_ok_weaker}
 use Rattle.std.proofs.Common.{List, ℕ, OnOk, subst}
 use Rattle.std.specs.FinMap.{remove}
-use Rattle.session_file.specs.Staging.{Stages}
+use Rattle.session_file.specs.Staging.{StagesKept}
 use Rattle.session_file.proofs.Limits.{names_remove}
 use Rattle.session_file.proofs.Staged.{program_ok, writes_still}
 use Rattle.session_file.proofs.StagedIn.{stages_in}
@@ -11,10 +11,10 @@ pub returns : goal.returns
 returns g c =
     let v = g.S.Store.view in
     let name = c.bytes.result.now in
-    let staged : OnOk c.remove_key-result.result (Stages (λ next. record next { programs = remove next.programs name }) (v c.self.inside.store) (v c.remove_key-result.new.store)) =
+    let staged : OnOk c.remove_key-result.result (StagesKept (λ next. record next { programs = remove next.programs name }) (v c.self.inside.store) (v c.remove_key-result.new.store)) =
     program_ok c.remove_key-result.result _ _ (g.met.S.Store.shut_if_dirty c.remove_key-result.new.store) (λ m. remove m name) c.remove_key-result.ensures.ok c.remove_key-result.ensures.frame
     (λ m all. names_remove m name all) in
-    let named = subst (λ (n : List ℕ). OnOk c.remove_key-result.result (Stages (λ next. record next { programs = remove next.programs n }) (v c.self.inside.store) (v c.remove_key-result.new.store))) c.bytes.ensures.value staged in
+    let named = subst (λ (n : List ℕ). OnOk c.remove_key-result.result (StagesKept (λ next. record next { programs = remove next.programs n }) (v c.self.inside.store) (v c.remove_key-result.new.store))) c.bytes.ensures.value staged in
     rw (← c.self.view_is, c.settled.ensures.given)
     (stages_in g.S.Store _ _ _ c.self.inside.store c.remove_key-result.new.store c.settled.new.store c.remove_key-result.result (g.met.S.Store.shut_if_dirty c.settled.new.store) (λ l. l)
     named

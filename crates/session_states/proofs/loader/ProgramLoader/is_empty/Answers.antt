@@ -3,7 +3,7 @@ use Rattle.std.proofs.lemmas.Bool.{eq-eqb, eqb-true}
 use Rattle.std.specs.FinMap.{empty, len, len-empty}
 use Rattle.elf32.specs.Layout.{Layout}
 use Rattle.rv_ledger.specs.Key.{key_cmp}
-use Rattle.turns.specs.Programs.{ProgramsByName}
+use Rattle.session_turns.specs.Programs.{ProgramsByName}
 use Rattle.session_states.proofs.Programs.{no_length}
 use Rattle.session_states.proofs.loader.ProgramLoader.is_empty.Goals as goal
 

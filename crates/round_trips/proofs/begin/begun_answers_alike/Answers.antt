@@ -1,5 +1,0 @@
-use Rattle.round_trips.proofs.Alike.{after_alike, answers_alike, frame_after, reply_alike, states_alike}
-use Rattle.round_trips.proofs.begin.begun_answers_alike.Goals as goal
-
-pub returns : goal.returns
-returns c = record { reply = reply_alike; after = after_alike; frame = frame_after; answers = answers_alike; left = states_alike }

@@ -1,5 +1,0 @@
-use Rattle.round_trips.proofs.Begins.{session_answers, session_left}
-use Rattle.round_trips.proofs.begin.begun_session_answers_alike.Goals as goal
-
-pub returns : goal.returns
-returns c = record { answers = session_answers; left = session_left }

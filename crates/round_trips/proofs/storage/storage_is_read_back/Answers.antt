@@ -1,6 +1,0 @@
-use Rattle.round_trips.proofs.Between.{read_in_blocks}
-use Rattle.round_trips.proofs.Chains.{read_back}
-use Rattle.round_trips.proofs.storage.storage_is_read_back.Goals as goal
-
-pub returns : goal.returns
-returns c = record { alone = read_back; between = read_in_blocks }

@@ -1,0 +1,69 @@
+//! A session that begins with another one's dump, and goes on as that one.
+
+ghost use Rattle.std.specs.Prelude.{◌≡◌, ◌≢◌, ◌<◌, ◌++◌, ◌∷◌, [], ℕ, List, All, codes, true};
+ghost use Rattle.std.specs.FinMap.{entries};
+ghost use Rattle.session_requests.specs.Requests.{Ask, Begin, Frame, Last};
+ghost use Rattle.session_laws.specs.Begun.{EqualButLast, asks_last_late, begun_from};
+ghost use Rattle.session_laws.specs.Chained.{IsEntry};
+ghost use Rattle.session_serving.specs.Serving.{AreAnswered, answers_in_turn, state_after};
+ghost use Rattle.session_turns.specs.Failures.{IsAnswer};
+ghost use Rattle.session_turns.specs.Replies.{Done};
+ghost use Rattle.session_turns.specs.Telling.{dump_text};
+ghost use Rattle.session_turns.specs.Turn.{agree, new_session, turn};
+ghost use Rattle.session_turns.specs.declared.settings.Settings.{Settings};
+ghost use Rattle.session_turns.specs.declared.state.State.{State};
+
+use crate::storage::are_entries;
+use session_turns::State;
+
+/// A law, and no code: a session t that is handed the dump, the height and the digest of a session s by `begin` has then all
+/// that s has, but its programs, which stay t's, and its last answer, which is none. This holds where the keys of s have 32
+/// bytes and its values at most what its rules allow, and where both sessions keep a digest or neither does.
+pub fn begin_after_dump()
+    ensures { (settings : Settings) (s t : State) → All (IsEntry s.rules) (entries s.store) → agree s.digest t.digest ≡ true
+        → turn settings t (Begin s.height s.digest (dump_text s.rules s.store)) ≡ record { reply = Done []; after = begun_from s t } }
+{}
+
+/// A law, and no code: two sessions that differ at most in their last answer answer each request but `last` alike, and differ
+/// at most in their last answer behind each. Behind a frame that counts they are equal. So they answer a list of requests alike
+/// where no `last` comes before the first such frame.
+pub fn begun_answers_alike()
+    ensures reply { (settings : Settings) (s t : State) (ask : Ask) → EqualButLast s t → ask ≢ Last
+        → (turn settings s ask).reply ≡ (turn settings t ask).reply }
+    ensures after { (settings : Settings) (s t : State) (ask : Ask) → EqualButLast s t
+        → EqualButLast (turn settings s ask).after (turn settings t ask).after }
+    ensures frame { (settings : Settings) (s t : State) (bytes : List ℕ) → EqualButLast s t → s.height < 9999999999
+        → (turn settings s (Frame bytes)).after ≡ (turn settings t (Frame bytes)).after }
+    ensures answers { (settings : Settings) (s t : State) (asks : List Ask) → EqualButLast s t → asks_last_late settings s asks ≡ true
+        → answers_of settings s asks ≡ answers_of settings t asks }
+    ensures left { (settings : Settings) (s t : State) (asks : List Ask) → EqualButLast s t
+        → EqualButLast (state_after settings s asks) (state_after settings t asks) }
+{}
+
+/// A law, and no code: a session t that has the programs of a session s, and is handed its dump, height and digest by `begin`,
+/// answers that by `ok 0`, and what follows as s does where no `last` comes before the first frame that counts. What both leave
+/// differs at most in the last answer. This holds where the keys of s have 32 bytes and its values at most what its rules
+/// allow, and where both sessions keep a digest or neither does.
+pub fn begun_session_answers_alike()
+    ensures answers { (settings : Settings) (s t : State) (asks : List Ask)
+        → All (IsEntry s.rules) (entries s.store) → agree s.digest t.digest ≡ true → t.programs ≡ s.programs → asks_last_late settings s asks ≡ true
+        → answers_of settings t (Begin s.height s.digest (dump_text s.rules s.store) ∷ asks) ≡ codes "ok 0\n" ++ answers_of settings s asks }
+    ensures left { (settings : Settings) (s t : State) (asks : List Ask)
+        → All (IsEntry s.rules) (entries s.store) → agree s.digest t.digest ≡ true → t.programs ≡ s.programs
+        → EqualButLast (state_after settings s asks) (state_after settings t (Begin s.height s.digest (dump_text s.rules s.store) ∷ asks)) }
+{}
+
+/// The same law for a session s that a program holds and that came from a new one by requests, at some of which memory may
+/// have run out: nothing is asked of its keys and values then. It walks over the storage and changes nothing.
+pub fn held_session_answers_alike(s: &State)
+    ensures answers { (settings : Settings) (t : State) (before asks : List Ask) (text : List ℕ)
+        → AreAnswered (IsAnswer settings) (new_session settings) before text s.now
+        → agree s.now.digest t.digest ≡ true → t.programs ≡ s.now.programs → asks_last_late settings s.now asks ≡ true
+        → answers_of settings t (Begin s.now.height s.now.digest (dump_text s.now.rules s.now.store) ∷ asks) ≡ codes "ok 0\n" ++ answers_of settings s.now asks }
+    ensures left { (settings : Settings) (t : State) (before asks : List Ask) (text : List ℕ)
+        → AreAnswered (IsAnswer settings) (new_session settings) before text s.now
+        → agree s.now.digest t.digest ≡ true → t.programs ≡ s.now.programs
+        → EqualButLast (state_after settings s.now asks) (state_after settings t (Begin s.now.height s.now.digest (dump_text s.now.rules s.now.store) ∷ asks)) }
+{
+    are_entries(&s.store);
+}

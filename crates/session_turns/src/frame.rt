@@ -1,0 +1,208 @@
+//! Frames that are run, and those that are only tried.
+
+ghost use Rattle.std.specs.Prelude.{◌≡◌, ◌<◌, ◌⊎◌, IfErr, IfOk, nat_le, if◌then◌else◌};
+ghost use Rattle.session_requests.specs.Requests.{Frame};
+ghost use Rattle.session_turns.specs.Failures.{MayFailFrame};
+ghost use Rattle.session_turns.specs.Pending.{IsPendingDue, IsPending, counting, long_frame, stopped_frame};
+ghost use Rattle.session_turns.specs.Replies.{Refused, done_answer};
+ghost use Rattle.session_turns.specs.Stages.{StageGives, FailsOnlyWhere, IsRequestAnswered, IsRan, accepted_value};
+ghost use Rattle.session_turns.specs.Turn.{accepted, refused_frame, try_turn};
+
+use crate::accepting::accepted;
+use crate::answer::Answer;
+use crate::digest::next_digest;
+use crate::kept::{KeptAnswer, KeptBytes};
+use crate::pending::{Pending, PendingFrame, PendingRun};
+use crate::refusal::{Failure, FrameRefusal};
+use crate::run::{Left, run_beside};
+use crate::runner::CallRunner;
+use crate::settings::Settings;
+use crate::stages::{AcceptedFrame, Stop};
+use crate::state::State;
+use block_file::BlockText;
+use programs::calls_over;
+use rv_ledger::Rules;
+use std::alloc::{AllocError, Global};
+
+/// The greatest height.
+const MOST_HEIGHT: u64 = 9_999_999_999;
+
+/// What a frame that ran gives: the text of its receipts, its rules, and what it leaves.
+type Ran = (Vec<u8>, Rules, Left);
+
+/// Runs a frame beside the session: what it leaves is to be made. A frame that is done or refused is to count, and its answer
+/// to be kept as the session's last one. Where it fails nothing changes.
+pub(crate) fn frame<C: CallRunner>(
+    alloc: Global,
+    runner: &mut C,
+    settings: Settings,
+    state: &State,
+    bytes: &[u8],
+) -> Pending
+    requires ready { C.ready }
+    ensures pending { IsPending settings state.now (Frame bytes.now) result }
+    ensures due { IsPendingDue state.now (Frame bytes.now) result }
+{
+    if state.height >= MOST_HEIGHT {
+        return Pending::Nothing(Answer::Refused(FrameRefusal::TooHigh));
+    }
+    match ran(alloc, runner, settings, state, bytes) {
+        Ok(ran) => kept_frame(state, ran),
+        Err(stop) => stopped_frame(alloc, state, stop),
+    }
+}
+
+/// Runs a frame beside the session: its answer is that of the frame, and nothing changes.
+pub(crate) fn try_frame<C: CallRunner>(
+    alloc: Global,
+    runner: &mut C,
+    settings: Settings,
+    state: &State,
+    bytes: &[u8],
+) -> Answer
+    requires ready { C.ready }
+    ensures { IsRequestAnswered (λ failure. (state.now.height < 9999999999) × MayFailFrame settings state.now bytes.now failure) state.now (try_turn settings state.now bytes.now) result state.now }
+{
+    if state.height >= MOST_HEIGHT {
+        return Answer::Refused(FrameRefusal::TooHigh);
+    }
+    match ran(alloc, runner, settings, state, bytes) {
+        Ok((text, _, left)) => {
+            drop(left);
+            Answer::Done(text)
+        }
+        Err(stop) => stop.answer(),
+    }
+}
+
+/// The text of a frame's receipts, its rules, and what it leaves; or its first fault.
+fn ran<C: CallRunner>(
+    alloc: Global,
+    runner: &mut C,
+    settings: Settings,
+    state: &State,
+    bytes: &[u8],
+) -> Result<Ran, Stop>
+    requires ready { C.ready }
+    ensures says { StageGives (IsRan settings state.now) (accepted settings state.now bytes.now) result }
+    ensures fails { FailsOnlyWhere (MayFailFrame settings state.now bytes.now) result }
+{
+    match accepted(alloc, settings, state, bytes) {
+        Ok(frame) => match ran_accepted(alloc, runner, settings, state, frame) {
+            Ok(ran) => Ok(ran),
+            Err(failure) => Err(Stop::Failed(failure)),
+        },
+        Err(stop) => Err(stop),
+    }
+}
+
+/// The same of a frame that may run.
+fn ran_accepted<C: CallRunner>(
+    alloc: Global,
+    runner: &mut C,
+    settings: Settings,
+    state: &State,
+    frame: AcceptedFrame,
+) -> Result<Ran, Failure>
+    requires ready { C.ready }
+    ensures ran { IfOk result (IsRan settings state.now (accepted_value frame)) }
+    ensures failure { IfErr result (λ failure. (failure ≡ Failure.Run) ⊎ (failure ≡ Failure.Answer)) }
+{
+    let AcceptedFrame { block, images } = frame;
+    let BlockText {
+        rules,
+        programs: _,
+        store,
+        calls,
+    } = block;
+    let calls = match calls_over(alloc, rules, images.as_slice(), calls) {
+        Ok(calls) => calls,
+        Err(AllocError) => return Err(Failure::Run),
+    };
+    match run_beside(
+        alloc,
+        runner,
+        settings.is_brief,
+        &state.store,
+        store,
+        calls.as_slice(),
+    ) {
+        Ok((text, left)) => Ok((text, rules, left)),
+        Err(failure) => Err(failure),
+    }
+}
+
+/// A frame that ran is to count, and what it leaves is to be made.
+fn kept_frame(state: &State, ran: Ran) -> Pending
+    requires { state.now.height < 9999999999 }
+    ensures { result ≡ Pending.Frame (counting state.now (Some (record { left = ran.2; rules = ran.1 })) (done_answer ran.0.items)) }
+{
+    let (text, rules, left) = ran;
+    let run = PendingRun { left, rules };
+    counting(state, Some(run), None, KeptBytes::of(text))
+}
+
+/// A frame that is refused is to count. Where it fails nothing changes.
+fn stopped_frame(alloc: Global, state: &State, stop: Stop) -> Pending
+    requires { state.now.height < 9999999999 }
+    ensures { result ≡ stopped_frame state.now stop }
+{
+    match stop {
+        Stop::Refused(refusal) => counting(state, None, Some(refusal), KeptBytes::none(alloc)),
+        Stop::Failed(failure) => Pending::Nothing(Answer::Failed(failure)),
+    }
+}
+
+/// A frame that is to count: the height goes up, the digest goes on, and the answer is kept.
+fn counting(
+    state: &State,
+    run: Option<PendingRun>,
+    refusal: Option<FrameRefusal>,
+    bytes: KeptBytes,
+) -> Pending
+    requires { state.now.height < 9999999999 }
+    ensures { result ≡ Pending.Frame (counting state.now run (record { refusal = refusal; bytes = bytes })) }
+{
+    let answer = KeptAnswer { refusal, bytes };
+    Pending::Frame(PendingFrame {
+        run,
+        height: state.height + 1,
+        digest: next_digest(state.digest, &answer),
+        answer,
+    })
+}
+
+/// A frame with more bytes than the settings allow: it is to count, as other refused frames.
+pub(crate) fn long_frame(alloc: Global, state: &State) -> Pending
+    ensures { result ≡ long_frame state.now }
+{
+    if state.height >= MOST_HEIGHT {
+        return Pending::Nothing(Answer::Refused(FrameRefusal::TooHigh));
+    }
+    counting(
+        state,
+        None,
+        Some(FrameRefusal::TooLong),
+        KeptBytes::none(alloc),
+    )
+}
+
+/// Why such a frame is refused that is only tried.
+pub(crate) fn long_try(state: &State) -> FrameRefusal
+    ensures { Refused result ≡ (refused_frame state.now FrameRefusal.TooLong).reply }
+{
+    if state.height >= MOST_HEIGHT {
+        return FrameRefusal::TooHigh;
+    }
+    FrameRefusal::TooLong
+}
+
+/// Answers a frame for whose bytes memory ran out.
+pub(crate) fn unkept_frame(state: &State) -> Answer
+    ensures { result ≡ (if nat_le 9999999999 state.now.height then Answer.Refused FrameRefusal.TooHigh else Answer.Failed Failure.Block) }
+{
+    if state.height >= MOST_HEIGHT {
+        return Answer::Refused(FrameRefusal::TooHigh);
+    }
+    Answer::Failed(Failure::Block)
+}

@@ -1,9 +1,0 @@
-use Rattle.requests.specs.Requests.{Program}
-use Rattle.turns.proofs.Pendings.{pending_is_new, some_settings}
-use Rattle.turns.proofs.bodies.take_program.Goals as goal
-
-pub take_pending-requires : goal.take_pending-requires
-take_pending-requires c = pending_is_new some_settings c.args.state.now (Program c.args.file.now) c.hand_in-pending.result (c.hand_in-pending.ensures some_settings)
-
-pub returns : goal.returns
-returns c settings = c.take_pending.ensures.turn settings (Program c.args.file.now) (c.hand_in-pending.ensures settings)
