@@ -29,12 +29,3 @@ changes_few b top n s h =
 -- one for each record
 abbrev pub of_records : Prices
 of_records = record { of_record = 1; of_key = 0; of_end = 0; of_mark = 0 }
-
-pub records_few : (b : Bounds) (top n : ℕ) (s : State) → ComesTo b of_records top n s → n ≤ sum_to top (λ j. (call_at s j).incarnation + 1)
-records_few b top n s h =
-    let kept = most_is b of_records top in
-    let done = executed_is b of_records top in
-    let runs = run_is b of_records top in
-    let same : most b of_records top ≡ 1 = omega (arith, kept, done, runs) in
-    let all = subst (λ c. n ≤ c * sum_to top (λ j. (call_at s j).incarnation + 1)) same (comes_few b of_records top n s h) in
-    omega (arith, all)

@@ -71,10 +71,6 @@ path_within (x ∷ paths) (suc i) n all = path_within paths i n (λ k d h. all (
 pub next_within : (paths : List ℕ) (g i n : ℕ) → g ≤ n → All (λ path. path ≤ n) paths → greater g (path_at paths i) ≤ n
 next_within paths g i n less all = greater_within g (path_at paths i) n less (path_within paths i n all)
 
-pub waits_within : (paths : List ℕ) (n : ℕ) → All (λ path. path ≤ n) paths → (g : ℕ) (waits : List Wait) → g ≤ n → greatest_from paths g waits ≤ n
-waits_within paths n all g [] less = less
-waits_within paths n all g (wait ∷ waits) less = waits_within paths n all (greater g (path_at paths wait.writer)) waits (next_within paths g wait.writer n less all)
-
 pub more_within : (paths : List ℕ) (path n : ℕ) → All (λ p. p ≤ n * 2 ^ 32) paths → path < n * 2 ^ 32 + 2 ^ 32 → All (λ p. p ≤ (n + 1) * 2 ^ 32) (paths ++ path ∷ [])
 more_within [] path n all less = λ k d h. at_end k d h
   where

@@ -29,10 +29,6 @@ at_place P xs k j x d holds l is same = subst P (is ∙ get_or_default xs k x d 
 pub opened_places : (es fs : Slots) (q : Place) → slot_at fs q ≡ slot_at es q → contains (places_of fs) q ≡ contains (places_of es) q
 opened_places es fs q same = has_place fs q ∙ ap is_some same ∙ sym (has_place es q)
 
--- nothing made
-pub opened_none : (es fs : Slots) → fs ≡ es → IsOpened es fs
-opened_none es fs h = λ q. inl (ap (λ (xs : Slots). slot_at xs q) h)
-
 -- one after the other
 pub opened_then : (es fs gs : Slots) → IsOpened es fs → IsOpened fs gs → IsOpened es gs
 opened_then es fs gs h k = λ q. elim (k q) [
@@ -47,13 +43,6 @@ same_entry rs es fs q (inr made) = ap (option_and_then (entry_of rs)) made.1 ∙
 -- the versions stay
 pub opened_versions : (rs : List Record) (es fs : Slots) → IsOpened es fs → versions_of rs fs ≡ versions_of rs es
 opened_versions rs es fs h = same_versions rs rs fs es (λ q. same_entry rs es fs q (h q))
-
--- what is named stays placed
-pub opened_placed : (rs ss : List Record) (es fs : Slots) → ss ≡ rs → IsOpened es fs → ArePlaced rs es → ArePlaced ss fs
-opened_placed rs ss es fs e h old = λ q id found. subst (λ (xs : List Record). id < length xs) (sym e) (elim (h q) [
-  | inl same ↦ old q id (sym same ∙ found)
-  | inr made ↦ let vacant : slot_at fs q ≡ Some slot.Vacant = made.1 in cc
-])
 
 opened_some : (es fs : Slots) (q : Place) → (slot_at fs q ≡ slot_at es q) ⊎ ((slot_at es q ≡ None) × (slot_at fs q ≡ Some slot.Vacant)) → IsSome (slot_at es q) → IsSome (slot_at fs q)
 opened_some es fs q (inl same) h = subst (λ (o : Option Slot). IsSome o) (sym same) h
@@ -115,18 +104,6 @@ written_there es q s false o = refl
 pub written_places : (es fs : Slots) (p : Place) (s : Slot)
     → ((q : Place) → slot_at fs q ≡ cond (is_at (place_cmp p) q) (option_map (λ _. s) (slot_at es q)) (slot_at es q)) → places_of fs ≡ places_of es
 written_places es fs p s h = same_places fs es (λ q. ap is_some (h q) ∙ written_there es q s (is_at (place_cmp p) q) (slot_at es q))
-
-named_in : (n m id : ℕ) (s : Slot) (b : Bool) (o : Option Slot) → n ≤ m → ((i : ℕ) → o ≡ Some (slot.Placed i) → i < n) → ((i : ℕ) → s ≡ slot.Placed i → i < m)
-    → cond b (option_map (λ _. s) o) o ≡ Some (slot.Placed id) → id < m
-named_in n m id s true None l old new h = cc
-named_in n m id s true (Some t) l old new h = new id cc
-named_in n m id s false o l old new h = let p : id < n = old id h in omega arith
-
--- what is named stays placed
-pub written_placed : (rs ss : List Record) (es fs : Slots) (p : Place) (s : Slot) → length rs ≤ length ss → ((id : ℕ) → s ≡ slot.Placed id → id < length ss)
-    → ((q : Place) → slot_at fs q ≡ cond (is_at (place_cmp p) q) (option_map (λ _. s) (slot_at es q)) (slot_at es q)) → ArePlaced rs es → ArePlaced ss fs
-written_placed rs ss es fs p s l new h old = λ q id found.
-    named_in (length rs) (length ss) id s (is_at (place_cmp p) q) (slot_at es q) l (λ i e. old q i e) new (sym (h q) ∙ found)
 
 -- what was there before an element was added
 pub slice_get_before : {X : Type 0} (xs : List X) (x : X) (i : ℕ) → i < length xs → slice_get (xs ++ x ∷ []) i ≡ slice_get xs i

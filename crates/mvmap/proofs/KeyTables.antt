@@ -356,12 +356,3 @@ module _ (buckets : List ℕ) (others positions : Positions) (h : AreFound bucke
     found = λ q p e. let nothing : position_of positions q ≡ None = none q in cc;
     sound = h.sound;
   }
-
-  -- a key whose bucket's hint is wrong is in the tree, where it is there
-  pub in_others : (key : List ℕ) → ((p : ℕ) → hint_of buckets key ≡ At p → position_of positions key ≡ Some p → ⊥) → position_of others key ≡ position_of positions key
-  in_others key wrong = by (position_of positions key) (position_of others key) refl refl
-    where
-      by : (o t : Option ℕ) → position_of positions key ≡ o → position_of others key ≡ t → t ≡ o
-      by (Some p) t e f = elim (h.found key p e) [ inl hint ↦ absurd (wrong p hint e) | inr in_tree ↦ sym f ∙ in_tree ]
-      by None None e f = refl
-      by None (Some p) e f = let there : position_of positions key ≡ Some p = h.sound key p f in cc

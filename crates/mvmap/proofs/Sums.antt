@@ -51,15 +51,6 @@ pub record HasPassed (seen : ℕ → Visible) (i below : ℕ) (passed : List Ver
   pub bottom : bottom_in (seen i) ≡ bottom_in (seen below)
   pub value : (base : Content) → value_seen base (seen i) ≡ with_amount (value_seen base (seen below)) sum
 
-pub walk_begins : (seen : ℕ → Visible) (i : ℕ) (passed : List Version) → passed ≡ [] → HasPassed seen i i passed None
-walk_begins seen i passed none = record {
-  count = omega (arith, ap length none);
-  blocked = refl;
-  versions = ap (λ (vs : List Version). vs ++ passed_in (seen i)) (sym none);
-  bottom = refl;
-  value = λ base. refl;
-}
-
 module _ (seen : ℕ → Visible) (i below : ℕ) (passed : List Version) (sum : Option ℕ) (h : HasPassed seen i below passed sum) where
   -- past one more version
   pub walk_passes : (version : Version) (amount : ℕ) → version.writer < below → seen below ≡ Passed version.writer version.incarnation amount (seen version.writer)
@@ -71,23 +62,3 @@ module _ (seen : ℕ → Visible) (i below : ℕ) (passed : List Version) (sum :
     bottom = h.bottom ∙ ap bottom_in is;
     value = λ base. h.value base ∙ ap (λ s. with_amount (value_seen base s) sum) is ∙ more_passed (value_seen base (seen version.writer)) amount sum;
   }
-
-  no_more : (s : Visible) → seen below ≡ s → passed_in s ≡ [] → passed_in (seen i) ≡ passed
-  no_more s is none = h.versions ∙ ap (λ t. passed ++ passed_in t) is ∙ ap (λ (vs : List Version). passed ++ vs) none ∙ append-nil passed
-
-  pub walk_to_base : seen below ≡ Base → Tells (answer.Base sum) passed (seen i)
-  walk_to_base is = (
-    h.blocked ∙ ap blocker is,
-    (λ k. record { passed = no_more Base is refl k; bottom = (h.bottom ∙ ap bottom_in is) k }),
-    (λ base. h.value base ∙ ap (λ s. with_amount (value_seen base s) sum) is),
-  )
-
-  pub walk_to_version : (version : Version) (content : Content) → seen below ≡ Found version.writer version.incarnation content → Tells (answer.Found version (with_amount content sum)) passed (seen i)
-  walk_to_version version content is = (
-    h.blocked ∙ ap blocker is,
-    (λ k. record { passed = no_more (Found version.writer version.incarnation content) is refl k; bottom = (h.bottom ∙ ap bottom_in is) k }),
-    (λ base. h.value base ∙ ap (λ s. with_amount (value_seen base s) sum) is),
-  )
-
-  pub walk_to_estimate : (w : ℕ) → seen below ≡ Blocked w → blocker (seen i) ≡ Some w
-  walk_to_estimate w is = h.blocked ∙ ap blocker is

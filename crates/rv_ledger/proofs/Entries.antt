@@ -121,8 +121,3 @@ pub room_by_key : (es : List (List ℕ × ContentChange)) (key : List ℕ) (n : 
 room_by_key es key n m up is count many =
     let test : nat_lt (length es) 256 ≡ false = grind (arith, nat_tests) in
     or_false (is_some (get m key)) (nat_lt (len m) 256) (ap (λ (w : WriteMap). nat_lt (len w) 256) (sym is) ∙ ap (λ k. nat_lt k 256) (len_in_order es up) ∙ test)
-
--- what holds anyway holds where something is refused
-pub on_err : {A E P : Type 0} (r : Result A E) → P → OnErr r P
-on_err (Ok x) p = tt
-on_err (Err e) p = p

@@ -82,10 +82,6 @@ key_found list p e l is = ap (option_map (λ (x : List ℕ × List ℕ). x.0)) (
 pub value_found : (list : EntryList) (p : ℕ) (e : List ℕ × List ℕ) → p < length list → e ≡ get_or list p e → value_in list p ≡ e.1
 value_found list p e l is = ap (λ (x : Option (List ℕ × List ℕ)). unwrap_or (option_map (λ (y : List ℕ × List ℕ). y.1) x) []) (slice_get-get_or list p e l ∙ ap Some (sym is))
 
--- no entries are indexed by no positions
-pub none_indexed : AreIndexed [] []
-none_indexed = record { listed = λ key p h. cc; indexed = λ key p h. cc }
-
 -- a position that a key has is one of the list
 pub position_within : (ps : Positions) (list : EntryList) → AreIndexed ps list → (key : List ℕ) (p : ℕ) → position_of ps key ≡ Some p → p < length list
 position_within ps list h key p at = key_within list p key (h.listed key p at)

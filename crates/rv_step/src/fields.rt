@@ -44,9 +44,6 @@ pub(crate) const BNE: u32 = 0b001 << 12;
 /// funct3 of BLT, in its place.
 pub(crate) const BLT: u32 = 0b100 << 12;
 
-/// funct3 of BGE, in its place.
-pub(crate) const BGE: u32 = 0b101 << 12;
-
 /// funct3 of BLTU, in its place.
 pub(crate) const BLTU: u32 = 0b110 << 12;
 
@@ -86,9 +83,6 @@ pub(crate) const SLLI: u32 = 0b001 << 12;
 /// funct3 of SLTI, in its place.
 pub(crate) const SLTI: u32 = 0b010 << 12;
 
-/// funct3 of SLTIU, in its place.
-pub(crate) const SLTIU: u32 = 0b011 << 12;
-
 /// funct3 of XORI, in its place.
 pub(crate) const XORI: u32 = 0b100 << 12;
 
@@ -98,26 +92,17 @@ pub(crate) const SRLI: u32 = 0b101 << 12;
 /// funct3 of ORI, in its place.
 pub(crate) const ORI: u32 = 0b110 << 12;
 
-/// funct3 of ANDI, in its place.
-pub(crate) const ANDI: u32 = 0b111 << 12;
-
 /// funct7 and funct3 of ADD, in their places.
 pub(crate) const ADD: u32 = 0b000 << 12;
 
 /// funct7 and funct3 of SLL, in their places.
 pub(crate) const SLL: u32 = 0b001 << 12;
 
-/// funct7 and funct3 of SLT, in their places.
-pub(crate) const SLT: u32 = 0b010 << 12;
-
 /// funct7 and funct3 of SLTU, in their places.
 pub(crate) const SLTU: u32 = 0b011 << 12;
 
 /// funct7 and funct3 of XOR, in their places.
 pub(crate) const XOR: u32 = 0b100 << 12;
-
-/// funct7 and funct3 of SRL, in their places.
-pub(crate) const SRL: u32 = 0b101 << 12;
 
 /// funct7 and funct3 of OR, in their places.
 pub(crate) const OR: u32 = 0b110 << 12;
@@ -128,17 +113,11 @@ pub(crate) const AND: u32 = 0b111 << 12;
 /// funct7 and funct3 of MUL, in their places.
 pub(crate) const MUL: u32 = (0b0000001 << 25) + (0b000 << 12);
 
-/// funct7 and funct3 of MULH, in their places.
-pub(crate) const MULH: u32 = (0b0000001 << 25) + (0b001 << 12);
-
 /// funct7 and funct3 of MULHSU, in their places.
 pub(crate) const MULHSU: u32 = (0b0000001 << 25) + (0b010 << 12);
 
 /// funct7 and funct3 of MULHU, in their places.
 pub(crate) const MULHU: u32 = (0b0000001 << 25) + (0b011 << 12);
-
-/// funct7 and funct3 of DIV, in their places.
-pub(crate) const DIV: u32 = (0b0000001 << 25) + (0b100 << 12);
 
 /// funct7 and funct3 of DIVU, in their places.
 pub(crate) const DIVU: u32 = (0b0000001 << 25) + (0b101 << 12);

@@ -69,12 +69,6 @@ module _ (calls : List CallState) (execution validation key_room : ℕ) (workers
       rw (seen_step task_of workers w g old new Idle worker_within is (ap task_of e), seen_same counts_of workers w old new is (ap counts_of e), seen_same dones_of workers w old new is (ap dones_of e)) refl
       ∙ ap (λ (t : Schedule). with_task w (g (get_or t.tasks w Idle)) (state_of v p t)) was
 
-  -- its room alone changes
-  pub room_changed : new ≡ record old { room = new.room } → (v : Versions) (p : ℕ) → state_of v p after ≡ state_of v p s
-  room_changed e v p =
-      rw (seen_same task_of workers w old new is (ap task_of e), seen_same counts_of workers w old new is (ap counts_of e), seen_same dones_of workers w old new is (ap dones_of e)) refl
-      ∙ ap (state_of v p) was
-
   -- its task and its room change
   pub answers_swapped : (g : Task → Task) (room : ℕ) → new ≡ record old { task = g old.task; room = room } → after ≡ record s { tasks = set s.tasks w (g (get_or s.tasks w Idle)); rooms = set s.rooms w room }
   answers_swapped g room e =

@@ -110,10 +110,6 @@ passes_more size left count kept longer bytes a b c so read long few keeps = kno
   keeps bs is,
 ))
 
-pub passes_cut : (size left : ℕ) (kept : Keeping) (bytes : List ℕ) (a b c : Option (List ℕ)) → 0 < left → WhereKnown a b (Passes size left kept) → Consumes b c bytes → length bytes ≡ 0 → OnSome b (IsAtEnd c) → WhereKnown a c (λ xs ys. length xs < size)
-passes_cut size left kept bytes a b c some so read none end = known_then (Passes size left kept) _ (λ xs ys. length xs < size) a b c so (took_last bytes b c read end) (λ xs ys zs (bs, whole, sum, is) e.
-    omega (arith, some, ap length whole, length-append bs ys, ap length e, none, sum))
-
 -- what became of bytes that were to be kept
 abbrev pub IsLost : Keeping → Keeping → ℕ → Type 0
 IsLost (Kept before) Passed size = ⊥
@@ -133,11 +129,6 @@ some_lost (Kept bytes) Passed more size some lost on = absurd lost
 some_lost (Kept bytes) OutOfMemory more size some lost on = rw on some
 some_lost Passed now more size some lost on = tt
 some_lost OutOfMemory now more size some lost on = tt
-
-pub loses : (before now : Keeping) (size : ℕ) → now ≡ OutOfMemory → IsLost before now size → LosesSome before size body.Unkept
-loses (Kept bytes) now size none lost = rw none at lost
-loses Passed now size none lost = tt
-loses OutOfMemory now size none lost = tt
 
 -- ---- what a buffer shows
 

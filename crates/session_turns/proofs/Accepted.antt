@@ -14,20 +14,6 @@ use Rattle.session_turns.specs.declared.refusal.FrameRefusal.{FrameRefusal}
 abbrev pub behind : List Layout → Result (List Layout) FrameRefusal → Result (List Layout) FrameRefusal
 behind images rest = result_map_both (λ more. images ++ more) (λ refusal. refusal) rest
 
--- none yet
-pub behind_none : (rest : Result (List Layout) FrameRefusal) → rest ≡ behind [] rest
-behind_none (Ok more) = refl
-behind_none (Err refusal) = refl
-
--- one more
-pub behind_next : (images : List Layout) (image : Layout) (rest : Result (List Layout) FrameRefusal) → behind images (before (Ok image) rest) ≡ behind (images ++ image ∷ []) rest
-behind_next images image (Ok more) = ap Ok (sym (append_assoc images (image ∷ []) more))
-behind_next images image (Err refusal) = refl
-
--- all
-pub behind_all : (images : List Layout) → behind images (Ok []) ≡ Ok images
-behind_all images = ap Ok (append-nil images)
-
 -- the gas limits of lines together are those of what they say
 pub summed : (calls : List CallLine) → sum_by (λ call. call.gas) calls ≡ sum_by (λ call. call.gas) (map call_value calls)
 summed [] = refl

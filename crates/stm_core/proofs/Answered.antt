@@ -96,12 +96,6 @@ module _ (store : Storage) (key : List ℕ) (i : ℕ) (answers : List StorageAns
         ∙ ap (λ o. Running i (answers ++ record { key = key; value = value_seen (map.get store key) seen; origin = o } ∷ []) None) (sym origin_is)
         ∙ ap (answered_by store key i answers seen) (sym open_now)
 
-    pub given_result : read_result.Given value from ≡ read_result_of store key seen
-    given_result = ap (λ v. read_result.Given v from) (sym value_is) ∙ ap (read_result.Given (value_seen (map.get store key) seen)) (sym origin_is) ∙ ap (read_result_by store key seen) (sym open_now)
-
   -- where one is met
   pub blocked_task : (b : ℕ) → blocker seen ≡ Some b → Running i answers (Some b) ≡ answered_with store key i answers seen
   blocked_task b met = ap (answered_by store key i answers seen) (sym met)
-
-  pub blocked_result : (b : ℕ) → blocker seen ≡ Some b → read_result.Blocked ≡ read_result_of store key seen
-  blocked_result b met = ap (read_result_by store key seen) (sym met)

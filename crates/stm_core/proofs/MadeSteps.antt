@@ -190,14 +190,8 @@ start_reached job n workers table schedule count none records is =
 not_lt : (a b : ℕ) → b ≤ a → nat_lt a b ≡ false
 not_lt a b h = grind (arith)
 
-is_lt : (a b : ℕ) → a < b → nat_lt a b ≡ true
-is_lt a b h = grind (arith)
-
 not_le : (a b : ℕ) → b < a → nat_le a b ≡ false
 not_le a b h = grind (arith)
-
-is_le : (a b : ℕ) → a ≤ b → nat_le a b ≡ true
-is_le a b h = grind (arith)
 
 module _ (block : Block) (w : ℕ) (s : State) where
   pub ask_made : task_at s w ≡ Idle → worker_step block w Ask s ≡ Some (Ok (counted one_asking w (after_ask w s)))
@@ -244,21 +238,6 @@ module _ (block : Block) (w i : ℕ) (answers : List StorageAnswer) (s : State) 
       ∙ ap (λ b. cond b (Some (Err ArenaFull)) (cond (nat_le 65535 (call_at s i).incarnation) (Some (Err IncarnationLimit)) (Some (Ok (counted one_execution w (after_record w i answers receipt s)))))) (not_lt 1048576 (s.record_count + len receipt.writes) room)
       ∙ ap (λ b. cond b (Some (Err IncarnationLimit)) (Some (Ok (counted one_execution w (after_record w i answers receipt s))))) (not_le 65535 (call_at s i).incarnation low)
 
-  pub record_full : (receipt : Receipt) → task_at s w ≡ Running i answers None → block.borne_out i (replies_of answers) ≡ Some receipt → 1048576 < s.record_count + len receipt.writes
-      → worker_step block w Record s ≡ Some (Err ArenaFull)
-  record_full receipt runs bears full =
-      ap (λ t. step_with block w t Record s) runs
-      ∙ ap (λ o. record_within i answers w o s) bears
-      ∙ ap (λ b. cond b (Some (Err ArenaFull)) (cond (nat_le 65535 (call_at s i).incarnation) (Some (Err IncarnationLimit)) (Some (Ok (counted one_execution w (after_record w i answers receipt s)))))) (is_lt 1048576 (s.record_count + len receipt.writes) full)
-
-  pub record_limit : (receipt : Receipt) → task_at s w ≡ Running i answers None → block.borne_out i (replies_of answers) ≡ Some receipt → s.record_count + len receipt.writes ≤ 1048576 → 65535 ≤ (call_at s i).incarnation
-      → worker_step block w Record s ≡ Some (Err IncarnationLimit)
-  record_limit receipt runs bears room high =
-      ap (λ t. step_with block w t Record s) runs
-      ∙ ap (λ o. record_within i answers w o s) bears
-      ∙ ap (λ b. cond b (Some (Err ArenaFull)) (cond (nat_le 65535 (call_at s i).incarnation) (Some (Err IncarnationLimit)) (Some (Ok (counted one_execution w (after_record w i answers receipt s)))))) (not_lt 1048576 (s.record_count + len receipt.writes) room)
-      ∙ ap (λ b. cond b (Some (Err IncarnationLimit)) (Some (Ok (counted one_execution w (after_record w i answers receipt s))))) (is_le 65535 (call_at s i).incarnation high)
-
 -- a worker's own run that is handed in, within the limits, and refused
 module _ (calls : List Invocation) (store : Storage) (w i : ℕ) (answers : List StorageAnswer) (run : EndedRun) (s : State) (runs : task_at s w ≡ Running i answers None) (handed : IsHanded calls i answers run) where
   runs_own : task_at s w ≡ Running i run.answers.items None
@@ -270,12 +249,6 @@ module _ (calls : List Invocation) (store : Storage) (w i : ℕ) (answers : List
   pub own_made : s.record_count + len run.receipt.writes ≤ 1048576 → (call_at s i).incarnation < 65535
       → worker_step (block_of calls store) w Record s ≡ Some (Ok (counted one_execution w (after_record w i run.answers.items run.receipt s)))
   own_made room low = record_made (block_of calls store) w i run.answers.items s run.receipt runs_own bears_own room low
-
-  pub own_full : 1048576 < s.record_count + len run.receipt.writes → worker_step (block_of calls store) w Record s ≡ Some (Err ArenaFull)
-  own_full full = record_full (block_of calls store) w i run.answers.items s run.receipt runs_own bears_own full
-
-  pub own_limit : s.record_count + len run.receipt.writes ≤ 1048576 → 65535 ≤ (call_at s i).incarnation → worker_step (block_of calls store) w Record s ≡ Some (Err IncarnationLimit)
-  own_limit room high = record_limit (block_of calls store) w i run.answers.items s run.receipt runs_own bears_own room high
 
 -- ---- results
 

@@ -135,8 +135,3 @@ pub moved_is : (w i : ℕ) (key : List ℕ) (keys : List (List ℕ)) (new : Bool
 moved_is w i key keys new s versions placed v p =
     ap (λ x. with_task w (Moving i keys new) (record s { versions = x; record_count = placed })) v
     ∙ ap (λ x. with_task w (Moving i keys new) (record s { versions = changed s.versions (key, i) (version_of (call_at s i) key); record_count = x })) p
-
--- a key is marked where an estimate is set and the worker goes on to the next key
-pub marked_is : (w i : ℕ) (key : List ℕ) (keys : List (List ℕ)) (s : State) (versions : Versions) → versions ≡ changed s.versions (key, i) (Some Estimate)
-    → with_task w (Marking i keys) (record s { versions = versions }) ≡ after_mark_estimate w i key keys s
-marked_is w i key keys s versions v = ap (λ x. with_task w (Marking i keys) (record s { versions = x })) v

@@ -47,10 +47,6 @@ capacity-set [] i x y within at e = refl
 capacity-set (c ∷ cs) zero x y within at e = ap (λ k. (k - 255) + capacity_of cs) (e ∙ ap (λ (z : ChunkState). z.size) at)
 capacity-set (c ∷ cs) (suc i) x y within at e = let inside : i < length cs = omega (arith, within) in ap (λ k. (c.size - 255) + k) (capacity-set cs i x y inside at e)
 
-pub capacity-rewound : (cs : List ChunkState) → capacity_of (map emptied cs) ≡ capacity_of cs
-capacity-rewound [] = refl
-capacity-rewound (c ∷ cs) = ap (λ k. (c.size - 255) + k) (capacity-rewound cs)
-
 -- rewound chunks have room for all that they can hold
 pub spare-rewound : (cs : List ChunkState) → spare (map emptied cs) ≡ capacity_of cs
 spare-rewound [] = refl
@@ -94,16 +90,3 @@ begins-set (c ∷ cs) (suc i) x y more within at e (suc j) = let inside : i < le
 -- a chunk to which bytes are appended keeps those that it had
 pub keeps-set : (cs : List ChunkState) (i : ℕ) (x y : ChunkState) (more : List ℕ) → i < length cs → x ≡ get_or cs i x → y.bytes ≡ x.bytes ++ more → KeepsBytes cs (set cs i y)
 keeps-set cs i x y more within at e = (omega (arith, length-set cs i y), begins-set cs i x y more within at e)
-
-begins-append : (cs : List ChunkState) (n j : ℕ) → (rest : List ℕ) × (bytes_at (cs ++ empty_chunk n ∷ []) j ≡ bytes_at cs j ++ rest)
-begins-append [] n zero = ([], refl)
-begins-append [] n (suc j) = ([], refl)
-begins-append (c ∷ cs) n zero = ([], sym (append-nil c.bytes))
-begins-append (c ∷ cs) n (suc j) = begins-append cs n j
-
--- and so do all where one is added
-pub keeps-append : (cs : List ChunkState) (n : ℕ) → KeepsBytes cs (cs ++ empty_chunk n ∷ [])
-keeps-append cs n = (omega (arith, length-append cs (empty_chunk n ∷ [])), begins-append cs n)
-
-pub keeps-same : (cs : List ChunkState) → KeepsBytes cs cs
-keeps-same cs = (omega arith, λ j. ([], sym (append-nil (bytes_at cs j))))
