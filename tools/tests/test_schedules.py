@@ -62,7 +62,7 @@ class Command(InFolder):
 
     def test_what_continues_one(self) -> None:
         """The program is done after three lines."""
-        said = 'if [ $(wc -l <"$6") -lt 3 ]; then echo "rvstm: drive NotDone 1" >&2; exit 1; fi'
+        said = 'n=0; while read -r line; do n=$((n + 1)); done <"$6"; [ $n -ge 3 ] || { echo "rvstm: drive NotDone 1" >&2; exit 1; }'
         program = self.write("program", f"#!/bin/sh\n{said}\necho end\n")
         (self.folder / "program").chmod(0o755)
         begun = self.write("begun", "0\n")
