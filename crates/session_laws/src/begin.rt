@@ -35,7 +35,7 @@ pub fn begun_answers_alike()
     ensures frame { (settings : Settings) (s t : State) (bytes : List ℕ) → EqualButLast s t → s.height < 9999999999
         → (turn settings s (Frame bytes)).after ≡ (turn settings t (Frame bytes)).after }
     ensures answers { (settings : Settings) (s t : State) (asks : List Ask) → EqualButLast s t → asks_last_late settings s asks ≡ true
-        → answers_of settings s asks ≡ answers_of settings t asks }
+        → answers_in_turn settings s asks ≡ answers_in_turn settings t asks }
     ensures left { (settings : Settings) (s t : State) (asks : List Ask) → EqualButLast s t
         → EqualButLast (state_after settings s asks) (state_after settings t asks) }
 {}
@@ -47,7 +47,7 @@ pub fn begun_answers_alike()
 pub fn begun_session_answers_alike()
     ensures answers { (settings : Settings) (s t : State) (asks : List Ask)
         → All (IsEntry s.rules) (entries s.store) → agree s.digest t.digest ≡ true → t.programs ≡ s.programs → asks_last_late settings s asks ≡ true
-        → answers_of settings t (Begin s.height s.digest (dump_text s.rules s.store) ∷ asks) ≡ codes "ok 0\n" ++ answers_of settings s asks }
+        → answers_in_turn settings t (Begin s.height s.digest (dump_text s.rules s.store) ∷ asks) ≡ codes "ok 0\n" ++ answers_in_turn settings s asks }
     ensures left { (settings : Settings) (s t : State) (asks : List Ask)
         → All (IsEntry s.rules) (entries s.store) → agree s.digest t.digest ≡ true → t.programs ≡ s.programs
         → EqualButLast (state_after settings s asks) (state_after settings t (Begin s.height s.digest (dump_text s.rules s.store) ∷ asks)) }
@@ -59,7 +59,7 @@ pub fn held_session_answers_alike(s: &State)
     ensures answers { (settings : Settings) (t : State) (before asks : List Ask) (text : List ℕ)
         → AreAnswered (IsAnswer settings) (new_session settings) before text s.now
         → agree s.now.digest t.digest ≡ true → t.programs ≡ s.now.programs → asks_last_late settings s.now asks ≡ true
-        → answers_of settings t (Begin s.now.height s.now.digest (dump_text s.now.rules s.now.store) ∷ asks) ≡ codes "ok 0\n" ++ answers_of settings s.now asks }
+        → answers_in_turn settings t (Begin s.now.height s.now.digest (dump_text s.now.rules s.now.store) ∷ asks) ≡ codes "ok 0\n" ++ answers_in_turn settings s.now asks }
     ensures left { (settings : Settings) (t : State) (before asks : List Ask) (text : List ℕ)
         → AreAnswered (IsAnswer settings) (new_session settings) before text s.now
         → agree s.now.digest t.digest ≡ true → t.programs ≡ s.now.programs

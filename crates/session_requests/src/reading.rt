@@ -203,7 +203,7 @@ fn read_piece<R: BufferedSource>(
     requires { 0 < most }
     ensures bytes { IfOk result (λ piece. (bytes : List ℕ) × Consumes (R.remaining input.old) (R.remaining input.new) bytes
         × (length bytes ≡ piece.0) × (piece.0 ≤ most) × (piece.0 ≡ 0 → OnSome (R.remaining input.old) (IsAtEnd (R.remaining input.new)))
-        × ((whole : List ℕ) → IsKept kept whole → IsKept piece.1 (whole ++ bytes))) }
+        × ((whole : List ℕ) → AreBytesKept kept whole → AreBytesKept piece.1 (whole ++ bytes))) }
     ensures goes_on { IfOk result (λ piece. KeepingGoesOn kept piece.1) }
     ensures fails { OnErr result (R.may_fail input.old) }
     ensures same { R.may_fail input.new → R.may_fail input.old }

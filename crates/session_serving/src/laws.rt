@@ -14,7 +14,7 @@ ghost use Rattle.session_turns.specs.declared.state.State.{State};
 #[tactic(auto, using(crate::proofs::Folds::wanted_fold))]
 pub fn session_is_a_fold()
     ensures { (settings : Settings) (s after : State) (asks : List Ask) (text : List ℕ)
-        → AreAnswered (IsWanted settings) s asks text after → (text ≡ answers_of settings s asks) × (after ≡ state_after settings s asks) }
+        → AreAnswered (IsAnsweredAsTurn settings) s asks text after → (text ≡ answers_in_turn settings s asks) × (after ≡ state_after settings s asks) }
 {}
 
 /// A law, and no code: a request that failed leaves the session as it was. So it may be given again, and is answered then as
@@ -22,5 +22,5 @@ pub fn session_is_a_fold()
 #[tactic(auto, using(crate::proofs::Failed::nothing_changes))]
 pub fn failed_request_may_be_given_again()
     ensures { (settings : Settings) (s after : State) (ask : Ask) (failure : Failure)
-        → IsAnswer settings s ask (answer_text (Failed failure)) after → after ≡ s }
+        → IsAnswer settings s ask (turn_reply_text (Failed failure)) after → after ≡ s }
 {}

@@ -181,7 +181,7 @@ fn take_pending<M: Session>(
     requires new { IsNewProgram (M.state session.old) pending }
     requires storable { IsStorable body.now pending }
     ensures says { (ask : Ask) → AsksPending settings (M.state session.old) ask pending
-        → IsAnsweredBy (M.answers settings) (M.shuts settings) (M.leaves settings) M.text_of session.old ask result session.new }
+        → AnswersOrShuts (M.answers settings) (M.shuts settings) (M.leaves settings) M.text_of session.old ask result session.new }
     ensures kept { M.is_kept settings session.new }
     ensures sound { StaysOpen (M.is_open session.new) result }
 {

@@ -128,7 +128,7 @@ fn last(state: &State) -> Answer
 /// only tried.
 pub fn refuse_long(alloc: Global, state: &mut State, line: RequestLine) -> Answer
     ensures { (settings : Settings) (bytes : List ℕ) → length bytes ≡ body_length line → is_too_long settings.frame_limit line ≡ true
-        → IsAnswered (λ _. ⊥) state.old (turn settings state.old (with_body line bytes)) result state.new }
+        → IsRequestAnswered (λ _. ⊥) state.old (turn settings state.old (with_body line bytes)) result state.new }
 {
     let pending = pending_long(alloc, state, line);
     take_pending(alloc, state, pending)
