@@ -7,7 +7,7 @@ ghost use Rattle.session_durability.specs.Keeping.{IsFoundBehind, IsKeptIn, Keep
 use crate::session::FileSession;
 use crate::staging::stage;
 use session_file::AnswerRow;
-use session_turns::{Answer, Failure, Pending, Settings, give_back, make, make_room};
+use session_turns::{Answer, Failure, Pending, Settings, make_ready};
 use sqlite_trees::error::StoreError;
 use sqlite_trees::store::Store;
 use std::alloc::Global;
@@ -39,8 +39,8 @@ pub(crate) fn keep<S: Store>(
         Ok(()) => {}
         Err(error) => return Err(KeepFault::Store(error)),
     }
-    let room = match make_room(&mut session.state, &pending) {
-        Ok(room) => room,
+    let ready = match make_ready(&mut session.state, pending) {
+        Ok(ready) => ready,
         Err(failure) => {
             session.file.rollback();
             return Err(KeepFault::Room(failure));
@@ -49,12 +49,12 @@ pub(crate) fn keep<S: Store>(
     match session.file.commit() {
         Ok(()) => {}
         Err(error) => {
-            give_back(&mut session.state, &pending, room);
+            ready.give_back(&mut session.state);
             return Err(KeepFault::Store(error));
         }
     }
-    drop_found(&mut session.found, &pending);
-    Ok(make(alloc, &mut session.state, pending, room))
+    drop_found(&mut session.found, &ready.pending);
+    Ok(ready.make(alloc, &mut session.state))
 }
 
 /// Drops the answer that was found, if the session begins again.

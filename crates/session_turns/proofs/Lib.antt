@@ -4,6 +4,7 @@ pub mod Entries
 pub mod Frames
 pub mod Listings
 pub mod Pendings
+pub mod Readies
 pub mod ShortNames
 pub mod Stopped
 pub mod WholeTexts

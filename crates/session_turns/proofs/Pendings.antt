@@ -12,13 +12,10 @@ use Rattle.overlay.specs.Overlay.{Changes}
 use Rattle.session_requests.specs.Requests.{Ask}
 use Rattle.rv_ledger.proofs.Entries.{key_cmp-IsAntisymmetric}
 use Rattle.rv_ledger.specs.Key.{Storage, key_cmp}
-use Rattle.session_turns.specs.Pending.{HasRoomFor, HasRoomForLeft, HasRoomForRun, IsNewProgram, IsPending}
+use Rattle.session_turns.specs.Pending.{HasRoomForLeft, IsNewProgram, IsPending}
 use Rattle.session_turns.specs.Programs.{ProgramsByName}
 use Rattle.session_turns.specs.declared.pending.Pending.{Pending}
 use Rattle.session_turns.specs.declared.pending.Pending.TheVariants as pending
-use Rattle.session_turns.specs.declared.pending.PendingFrame.{PendingFrame}
-use Rattle.session_turns.specs.declared.pending.PendingRun.{PendingRun}
-use Rattle.session_turns.specs.declared.room.Room.{Room}
 use Rattle.session_turns.specs.declared.run.Left.{Left}
 use Rattle.session_turns.specs.declared.run.Left.TheVariants as left
 use Rattle.session_turns.specs.declared.settings.Settings.{Settings}
@@ -48,12 +45,6 @@ program_back before now name image programs new is gone =
     ∙ ap (λ (ps : ProgramsByName). record before { programs = ps }) (put_and_gone before.programs name image new)
 
 -- ---- the room of a frame
-
-pub frame_room : (before now : State) (p : Pending) (frame : PendingFrame) (room : Room) → p ≡ pending.Frame frame → HasRoomFor before p room now → HasRoomForRun before.store frame.run room.keys now.store
-frame_room before now p frame room is has = (subst (λ (q : Pending). HasRoomFor before q room now) is has).0
-
-pub run_room : (before now : Storage) (ran : Option PendingRun) (keys : Option (Vec (List ℕ) Global)) (run : PendingRun) → ran ≡ Some run → HasRoomForRun before ran keys now → HasRoomForLeft before run.left keys now
-run_room before now ran keys run is has = subst (λ (o : Option PendingRun). HasRoomForRun before o keys now) is has
 
 -- changes fit a storage that has the room
 pub left_fits : (before now : Storage) (given : Left) (keys : Option (Vec (List ℕ) Global)) (changes : Changes) → given ≡ left.Changed changes → HasRoomForLeft before given keys now → Fits now (entries changes)

@@ -5,3 +5,4 @@ pub mod Telling
 pub mod Turn
 pub mod Stages
 pub mod Pending
+pub mod Ready

@@ -22,7 +22,6 @@ use Rattle.session_turns.specs.declared.pending.PendingRun.{PendingRun}
 use Rattle.session_turns.specs.declared.refusal.Failure.{Failure}
 use Rattle.session_turns.specs.declared.refusal.Failure.TheVariants as want
 use Rattle.session_turns.specs.declared.refusal.FrameRefusal.TheVariants.{TooHigh, TooLong}
-use Rattle.session_turns.specs.declared.room.Room.{Room}
 use Rattle.session_turns.specs.declared.run.Left.{Left}
 use Rattle.session_turns.specs.declared.run.Left.TheVariants as left
 use Rattle.session_turns.specs.declared.settings.Settings.{Settings}
@@ -88,11 +87,11 @@ HasRoomForRun before None keys now = now ≡ before
 HasRoomForRun before (Some run) keys now = HasRoomForLeft before run.left keys now
 
 -- a state has the room for what is pending; a program is in its place already
-abbrev pub HasRoomFor : State → Pending → Room → State → Type 0
-HasRoomFor before (pending.Program name image text) room now =
+abbrev pub HasRoomFor : State → Pending → Option (Vec (List ℕ) Global) → State → Type 0
+HasRoomFor before (pending.Program name image text) keys now =
     (contains_key before.programs name ≡ false) × (now ≡ record before { programs = insert before.programs name (arc_value image) })
-HasRoomFor before (pending.Frame frame) room now = HasRoomForRun before.store frame.run room.keys now.store × (now ≡ record before { store = now.store })
-HasRoomFor before other room now = now ≡ before
+HasRoomFor before (pending.Frame frame) keys now = HasRoomForRun before.store frame.run keys now.store × (now ≡ record before { store = now.store })
+HasRoomFor before other keys now = now ≡ before
 
 -- what was pending was made, from the state that it was pending in
 abbrev pub IsPendingMade : State → Pending → Answer → State → Type 0

@@ -9,7 +9,7 @@ use crate::answer::Answer;
 use crate::begin::begin;
 use crate::frame::{frame, try_frame};
 use crate::handed_in::hand_in;
-use crate::making::take_pending;
+use crate::ready::take_pending;
 use crate::runner::CallRunner;
 use crate::settings::Settings;
 use crate::state::State;

@@ -3,9 +3,8 @@
 ghost use Rattle.std.specs.Prelude.{◌≡◌, IfErr, IfOk, IsSome, OnErr, OnOk};
 ghost use Rattle.std.specs.Arc.{arc_value};
 ghost use Rattle.std.specs.FinMap.{insert};
-ghost use Rattle.rv_ledger.specs.Key.{Storage};
 ghost use Rattle.session_turns.specs.Pending.{HasRoomFor, HasRoomForRun, IsNewProgram, MayWantRoom};
-ghost use Rattle.session_turns.specs.declared.state.State.{State};
+ghost use Rattle.session_turns.specs.Ready.{store_without};
 
 use crate::pending::{Pending, PendingRun};
 use crate::program_table::ProgramTable;
@@ -18,30 +17,24 @@ use rv_ledger::{Key, Store};
 use std::alloc::AllocError;
 use std::sync::Arc;
 
-/// The room that a state has for what is pending.
-#[derive(Drop)]
-pub struct Room {
-    keys: Option<Vec<Key>>,
-}
-
-/// Makes the room that what is pending needs, so that making it takes no memory. It fails where memory runs out, and then
-/// nothing changes. What a program needs is to be in its place, so it is put there.
-pub fn make_room(state: &mut State, pending: &Pending) -> Result<Room, Failure>
+/// Makes the room that what is pending needs, and returns the keys that were put in for it. It fails where memory runs out, and
+/// then nothing changes.
+pub(crate) fn make_room(state: &mut State, pending: &Pending) -> Result<Option<Vec<Key>>, Failure>
     requires { IsNewProgram state.old pending.now }
-    ensures ok { IfOk result (λ room. HasRoomFor state.old pending.now room state.new) }
+    ensures ok { IfOk result (λ keys. HasRoomFor state.old pending.now keys state.new) }
     ensures err { OnErr result (state.new ≡ state.old) }
     ensures failure { IfErr result (MayWantRoom pending.now) }
 {
     match pending {
         Pending::Program(name, image, _) => match put_shared(&mut state.programs, *name, image) {
-            Ok(()) => Ok(Room { keys: None }),
+            Ok(()) => Ok(None),
             Err(AllocError) => Err(Failure::Program),
         },
         Pending::Frame(frame) => match room_for_run(&mut state.store, &frame.run) {
-            Ok(keys) => Ok(Room { keys }),
+            Ok(keys) => Ok(keys),
             Err(AllocError) => Err(Failure::Run),
         },
-        _ => Ok(Room { keys: None }),
+        _ => Ok(None),
     }
 }
 
@@ -72,20 +65,9 @@ fn room_for_run(store: &mut Store, run: &Option<PendingRun>) -> Result<Option<Ve
     }
 }
 
-/// Gives the room back: the state is as it was before.
-pub fn give_back(state: &mut State, pending: &Pending, room: Room)
-    ensures { (before : State) → HasRoomFor before pending.now room state.old → state.new ≡ before }
-{
-    match pending {
-        Pending::Program(name, _, _) => state.programs.remove(name),
-        Pending::Frame(frame) => give_back_run(&mut state.store, &frame.run, room.keys),
-        _ => {}
-    }
-}
-
 /// Gives the room for what a run leaves back.
-fn give_back_run(store: &mut Store, run: &Option<PendingRun>, keys: Option<Vec<Key>>)
-    ensures { (before : Storage) → HasRoomForRun before run.now keys store.old → store.new ≡ before }
+pub(crate) fn give_back_run(store: &mut Store, run: &Option<PendingRun>, keys: Option<Vec<Key>>)
+    ensures { HasRoomForRun (store_without run.now keys store.old) run.now keys store.old → store.new ≡ store_without run.now keys store.old }
 {
     let (Some(run), Some(keys)) = (run, keys) else {
         return;

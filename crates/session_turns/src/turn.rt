@@ -5,7 +5,7 @@ ghost use Rattle.session_requests.specs.Reading.{ask_of, is_too_long};
 ghost use Rattle.session_requests.specs.Requests.{Dump, body_length, with_body};
 ghost use Rattle.session_turns.specs.Pending.{IsPendingDue, IsPending, IsPendingRefusal, IsReadRequest, IsUndone};
 ghost use Rattle.session_turns.specs.Stages.{IsRequestAnswered, IsTurn};
-ghost use Rattle.session_turns.specs.Turn.{last_reply, told, turn};
+ghost use Rattle.session_turns.specs.Turn.{last_reply, told};
 ghost use Rattle.session_turns.specs.declared.settings.Settings.{Settings};
 
 use crate::answer::Answer;
@@ -14,8 +14,8 @@ use crate::bodies::take_try;
 use crate::dump::EmptyBuffer;
 use crate::frame::{frame, long_frame, long_try, unkept_frame};
 use crate::handed_in::{forget, hand_in, names};
-use crate::making::take_pending;
 use crate::pending::Pending;
+use crate::ready::take_pending;
 use crate::refusal::{Failure, FrameRefusal};
 use crate::runner::CallRunner;
 use crate::settings::Settings;
@@ -124,17 +124,8 @@ fn last(state: &State) -> Answer
     }
 }
 
-/// Answers a request with more bytes behind its line than may be, which were passed over: a program, a frame, or one that is
-/// only tried.
-pub fn refuse_long(alloc: Global, state: &mut State, line: RequestLine) -> Answer
-    ensures { (settings : Settings) (bytes : List ℕ) → length bytes ≡ body_length line → is_too_long settings.frame_limit line ≡ true
-        → IsRequestAnswered (λ _. ⊥) state.old (turn settings state.old (with_body line bytes)) result state.new }
-{
-    let pending = pending_long(alloc, state, line);
-    take_pending(alloc, state, pending)
-}
-
-/// What such a request comes to, before it is made so: it is refused, and a frame is to count.
+/// What is pending of a request with more bytes after its line than may be, which were passed over: it is refused, and a frame
+/// is to count.
 pub fn pending_long(alloc: Global, state: &State, line: RequestLine) -> Pending
     ensures pending { (settings : Settings) (bytes : List ℕ) → length bytes ≡ body_length line → is_too_long settings.frame_limit line ≡ true
         → IsPending settings state.now (with_body line bytes) result }

@@ -1,8 +1,12 @@
-use Rattle.std.proofs.Common.{arith, inl, inr, refl}
+use Rattle.std.proofs.Common.{arith, inl, inr, refl, subst, ◌∙◌}
 use Rattle.session_tree.proofs.Causes.{later_cause}
 use Rattle.sqlite_trees.specs.View.{IsClean}
 use Rattle.session_states.specs.States.{file_state}
+use Rattle.session_turns.specs.Pending.{IsPendingMade}
+use Rattle.session_turns.specs.declared.pending.Pending.{Pending}
+use Rattle.session_turns.specs.declared.state.State.{State}
 use Rattle.session_durability.proofs.Keeps.{kept_again, kept_next, kept_still, lasts_on, lasts_quiet, may_leave, next_is}
+use Rattle.session_durability.specs.Keeping.{IsFoundBehind}
 use Rattle.session_durability.proofs.keeping.keep.Goals as goal
 
 pub returns-in-Err : goal.returns-in-Err
@@ -18,12 +22,12 @@ returns-in-Err g c = record {
   lasts = lasts_quiet g.S.Store c.args.session.now.file c.stage.new.file c.stage.ensures.quiet;
 }
 
-pub returns-in-Err-make_room : goal.returns-in-Err-make_room
-returns-in-Err-make_room g c = rw c.in-Err-make_room.ensures.err (record {
+pub returns-in-Err-make_ready : goal.returns-in-Err-make_ready
+returns-in-Err-make_ready g c = rw c.in-Err-make_ready.ensures.err (record {
   ok = tt;
   next = tt;
   same = (refl, refl);
-  room = c.in-Err-make_room.ensures.failure;
+  room = c.in-Err-make_ready.ensures.failure;
   cause = λ clean. tt;
   kept = kept_again c.args.settings c.args.session.now.state c.args.session.now.found (g.S.Store.view c.args.session.now.file) c.args.pending (g.S.Store.view c.stage.new.file) (g.S.Store.view c.rollback.new.self)
       c.in-Ok.ensures.ok c.rollback.ensures.back c.requires.kept;
@@ -35,7 +39,7 @@ returns-in-Err-make_room g c = rw c.in-Err-make_room.ensures.err (record {
 pub returns-in-Err-commit : goal.returns-in-Err-commit
 returns-in-Err-commit g c =
     let v = g.S.Store.view in
-    rw (c.give_back.ensures c.args.session.now.state c.in-Ok-make_room.ensures.ok) (record {
+    rw (c.give_back.ensures c.in-Ok-make_ready.ensures.ready ∙ c.in-Ok-make_ready.ensures.before) (record {
       ok = tt;
       next = tt;
       same = (refl, refl);
@@ -52,14 +56,16 @@ returns-in-Err-commit g c =
       lasts = lasts_on g.S.Store c.args.session.now.file c.stage.new.file c.commit.new.self (lasts_quiet g.S.Store _ _ c.stage.ensures.quiet) c.commit.ensures.lasts;
     })
 
-pub make-requires : goal.make-requires
-make-requires g c = (c.args.session.now.state, c.in-Ok-make_room.ensures.ok)
-
 pub returns : goal.returns
 returns g c =
     let v = g.S.Store.view in
-    let made = c.make.ensures c.args.session.now.state c.in-Ok-make_room.ensures.ok in
-    let next = next_is c.args.session.now.state c.make.new.state c.args.session.now.found c.drop_found.new.found c.args.pending c.make.result made c.drop_found.ensures in record {
+    let s = c.args.session.now.state in
+    let made : IsPendingMade s c.args.pending c.make.result c.make.new.state =
+    subst (λ (p : Pending). IsPendingMade s p c.make.result c.make.new.state) c.in-Ok-make_ready.ensures.pending
+    (subst (λ (t : State). IsPendingMade t c.in-Ok-make_ready.ready.pending c.make.result c.make.new.state) c.in-Ok-make_ready.ensures.before c.make.ensures) in
+    let found : IsFoundBehind c.args.pending c.args.session.now.found c.drop_found.new.found =
+    subst (λ (p : Pending). IsFoundBehind p c.args.session.now.found c.drop_found.new.found) c.in-Ok-make_ready.ensures.pending c.drop_found.ensures in
+    let next = next_is s c.make.new.state c.args.session.now.found c.drop_found.new.found c.args.pending c.make.result made found in record {
       ok = made;
       next = next;
       same = tt;
