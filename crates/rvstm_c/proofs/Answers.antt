@@ -1,6 +1,7 @@
 -- What a session that was asked answers.
 use Rattle.std.proofs.Common.{◌≡◌, ℕ, List, Bool, false, cond, length, nat_lt, Option, Some, None, refl, sym, ap, subst}
-use Rattle.session_requests.specs.Requests.{Ask, Begin, Dump, ◌>>=◌, digest_of}
+use Rattle.rvstm_c.specs.Settings.{most_number}
+use Rattle.session_requests.specs.Requests.{Ask, Begin, Dump, ◌>>=◌, digest_of, greatest_height}
 use Rattle.session_turns.specs.Failures.{MayTurnFail}
 use Rattle.session_turns.specs.Replies.{Done}
 use Rattle.session_turns.specs.Stages.{IsTurn}
@@ -38,9 +39,9 @@ asked b ask before status after passed done = subst (λ (b : Bool). IsCalled (co
 
 -- a beginning, by the tests that it passed
 pub begun : (height : ℕ) (text bytes : List ℕ) (digest : Option (List ℕ)) (before : EmbeddedSession) (status : ℕ) (after : EmbeddedSession)
-    → nat_lt 9999999999 height ≡ false → nat_lt 9999999999 (length bytes) ≡ false → digest_of text ≡ Some digest → TakesTurn (Begin height digest bytes) before status after
+    → nat_lt greatest_height height ≡ false → nat_lt most_number (length bytes) ≡ false → digest_of text ≡ Some digest → TakesTurn (Begin height digest bytes) before status after
     → IsCalled (begin_asked height text bytes) before status after
 begun height text bytes digest before status after low short is done =
     subst (λ (b : Bool). IsCalled (cond b None (digest_of text >>= (λ d. with_bytes bytes (Begin height d bytes)))) before status after) (sym low)
     (subst (λ (o : Option (Option (List ℕ))). IsCalled (o >>= (λ d. with_bytes bytes (Begin height d bytes))) before status after) (sym is)
-    (asked (nat_lt 9999999999 (length bytes)) (Begin height digest bytes) before status after short done))
+    (asked (nat_lt most_number (length bytes)) (Begin height digest bytes) before status after short done))

@@ -9,9 +9,13 @@ use Rattle.rvstm_c.specs.declared.settings.SettingsForC.{SettingsForC}
 abbrev pub usual_settings : Settings
 usual_settings = record { frame_limit = 67108864; frame_gas = None; keeps_digest = false; is_brief = false }
 
--- a number is at most 9,999,999,999
+-- the greatest number that ten digits say, as those of a line do
+abbrev pub most_number : ℕ
+most_number = 9999999999
+
+-- a number is at most this
 abbrev pub number_of : ℕ → Option ℕ
-number_of number = if nat_le number 9999999999 then Some number else None
+number_of number = if nat_le number most_number then Some number else None
 
 -- a bound of the gas; 2^64 - 1 stands for none
 abbrev pub gas_of : ℕ → Option (Option ℕ)

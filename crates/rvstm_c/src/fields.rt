@@ -1,12 +1,14 @@
 //! What a call is given, as the fields of a line.
 
 ghost use Rattle.std.specs.Prelude.{◌≡◌, ◌&&◌, length, nat_le, nat_lt};
-ghost use Rattle.session_requests.specs.Requests.{digest_of, hex_name_of};
+ghost use Rattle.rvstm_c.specs.Settings.{most_number};
+ghost use Rattle.session_requests.specs.Requests.{digest_of, greatest_height, hex_name_of};
 
 use block_file::fields::key;
+use session_requests::GREATEST_HEIGHT;
 
-/// The greatest number of ten digits: no length, height or setting is greater.
-pub(crate) const MOST: u64 = 9_999_999_999;
+/// The greatest number that ten digits say: no length or setting is greater.
+pub(crate) const MOST_NUMBER: u64 = 9_999_999_999;
 
 /// The 32 bytes that 64 lower-case hex digits give. None for any other text.
 pub(crate) fn name_of(text: &[u8]) -> Option<[u8; 32]>
@@ -30,16 +32,16 @@ pub(crate) fn digest_of(text: &[u8]) -> Option<Option<[u8; 32]>>
 
 /// Whether bytes are more than a line can say: 9,999,999,999.
 pub(crate) fn is_long(bytes: &[u8]) -> bool
-    ensures { result ≡ nat_lt 9999999999 (length bytes.now) }
+    ensures { result ≡ nat_lt most_number (length bytes.now) }
 {
-    bytes.len() as u64 > MOST
+    bytes.len() as u64 > MOST_NUMBER
 }
 
 /// Whether a height is above the greatest one.
 pub(crate) fn is_high(height: u64) -> bool
-    ensures { result ≡ nat_lt 9999999999 height }
+    ensures { result ≡ nat_lt greatest_height height }
 {
-    height > MOST
+    height > GREATEST_HEIGHT
 }
 
 /// Whether a count is 1 to 1,024.

@@ -3,7 +3,7 @@
 ghost use Rattle.std.specs.Prelude.{◌≡◌, Some};
 ghost use Rattle.rvstm_c.specs.Settings.{gas_of, number_of, settings_of};
 
-use crate::fields::MOST;
+use crate::fields::MOST_NUMBER;
 use session_turns::Settings;
 
 /// What stands for a bound that is none.
@@ -41,7 +41,7 @@ pub(crate) fn settings_of(given: SettingsForC) -> Option<Settings>
 fn number_of(number: u64) -> Option<u64>
     ensures { result ≡ number_of number }
 {
-    if number <= MOST {
+    if number <= MOST_NUMBER {
         return Some(number);
     }
     None

@@ -4,7 +4,8 @@ use Rattle.std.specs.Prelude.{nat_le, nat_lt}
 use Rattle.std.specs.FinMap.{contains_key}
 use Rattle.sha2.specs.Sha256.{sha256}
 use Rattle.elf32.specs.Layout.{Layout}
-use Rattle.session_requests.specs.Requests.{Ask, Program, Forget, Programs, Frame, Try, Last, Get, ListEntries, Dump, Begin, State as AskState}
+use Rattle.programs.specs.Programs.{file_limit}
+use Rattle.session_requests.specs.Requests.{Ask, Program, Forget, Programs, Frame, Try, Last, Get, ListEntries, Dump, Begin, State as AskState, greatest_height}
 use Rattle.session_laws.specs.Begun.{EqualButLast}
 use Rattle.session_laws.proofs.Alike.{after_alike, reply_alike}
 use Rattle.session_states.specs.States.{FileState, last_of}
@@ -57,7 +58,7 @@ loaded_last s name (Ok image) = refl
 loaded_last s name (Err refusal) = refl
 
 pub program_last : (s : State) (file : List ℕ) → (program_turn s file).after.last ≡ s.last
-program_last s file = either (nat_lt 131072 (length file)) (told s (Refused FileTooLong)) (named_turn s (sha256 file) file) s.last refl
+program_last s file = either (nat_lt file_limit (length file)) (told s (Refused FileTooLong)) (named_turn s (sha256 file) file) s.last refl
     (either (contains_key s.programs (sha256 file)) (told s (Done _)) (turn_with_program s (sha256 file) (handed_program file)) s.last refl (loaded_last s (sha256 file) (handed_program file)))
 
 pub forget_last : (settings : Settings) (s : State) (name : List ℕ) → (turn settings s (Forget name)).after.last ≡ s.last
@@ -86,7 +87,7 @@ unchanged_last : (settings : Settings) (s : State) (last : Option (List ℕ × L
     → last_behind last ask (turn settings (bare s) ask) ≡ last
 unchanged_last settings s last (Program file) given other h failed reply is = ap (λ (o : Option KeptAnswer). last_of o last) (program_last (bare s) file)
 unchanged_last settings s last (Forget name) given other h failed reply is = ap (λ (o : Option KeptAnswer). last_of o last) (forget_last settings (bare s) name)
-unchanged_last settings s last (Frame bytes) given other h failed reply is = uncounted settings s last (nat_le 9999999999 s.height) (accepted settings s bytes) is
+unchanged_last settings s last (Frame bytes) given other h failed reply is = uncounted settings s last (nat_le greatest_height s.height) (accepted settings s bytes) is
 unchanged_last settings s last Last given other h failed reply is = absurd (other refl)
 unchanged_last settings s last (Begin height digest bytes) given other h failed reply is = undone_begin s last given height digest bytes (turn settings (bare s) (Begin height digest bytes)).reply h reply failed
 unchanged_last settings s last ask given other h failed reply is = refl

@@ -1,7 +1,7 @@
 -- What is pending of a request, and what a session over a file answers it.
 use Rattle.std.proofs.Common.{◌≡◌, ◌≢◌, ◌<◌, ◌⊎◌, ℕ, List, [], Bool, true, false, IsTrue, Option, Some, None, inl, inr, refl, sym, ap, subst, ◌∙◌}
 use Rattle.std.specs.Option.{option_map}
-use Rattle.session_requests.specs.Requests.{Ask, Program, Forget, Frame, Last, Begin}
+use Rattle.session_requests.specs.Requests.{Ask, Program, Forget, Frame, Last, Begin, greatest_height}
 use Rattle.session_laws.specs.Begun.{EqualButLast}
 use Rattle.session_laws.proofs.Alike.{after_alike, frame_after, reply_alike}
 use Rattle.session_file.specs.Opening.{answer_parts}
@@ -102,7 +102,7 @@ program_behind settings s last ask file is = subst (λ (a : Ask). last ≡ last_
 forget_behind : (settings : Settings) (s : State) (last : Option (List ℕ × List ℕ)) (ask : Ask) (name : List ℕ) → ask ≡ Forget name → last ≡ last_behind last ask (turn settings (bare s) ask)
 forget_behind settings s last ask name is = subst (λ (a : Ask). last ≡ last_behind last a (turn settings (bare s) a)) (sym is) (sym (ap (λ (o : Option KeptAnswer). last_of o last) (forget_last settings (bare s) name)))
 
-frame_behind : (settings : Settings) (s : State) (last : Option (List ℕ × List ℕ)) (ask : Ask) (bytes : List ℕ) (frame : PendingFrame) → ask ≡ Frame bytes → s.height < 9999999999
+frame_behind : (settings : Settings) (s : State) (last : Option (List ℕ × List ℕ)) (ask : Ask) (bytes : List ℕ) (frame : PendingFrame) → ask ≡ Frame bytes → s.height < greatest_height
     → turn_of s (pending.Frame frame) ≡ turn settings s (Frame bytes) → Some (kept_text frame.answer) ≡ last_behind last ask (turn settings (bare s) ask)
 frame_behind settings s last ask bytes frame is low counts =
     subst (λ (a : Ask). Some (kept_text frame.answer) ≡ last_behind last a (turn settings (bare s) a)) (sym is)
@@ -149,7 +149,7 @@ changed settings s ask (pending.Forget name) last is due change =
 changed settings s ask (pending.Frame frame) last is due change =
     let (bytes, e) = is.asked in
     let other = no_last_frame ask bytes e in
-    let low : s.height < 9999999999 = subst (λ (a : Ask). IsPendingDue s a (pending.Frame frame)) e due in
+    let low : s.height < greatest_height = subst (λ (a : Ask). IsPendingDue s a (pending.Frame frame)) e due in
     turned settings s ask _ last is other (frame_behind settings s last ask bytes frame e low (subst (λ (a : Ask). turn_of s (pending.Frame frame) ≡ turn settings s a) e is.turn))
     (subst (λ (a : Ask). MayChange settings (over s last) a) (sym e) low)
 changed settings s ask (pending.Begin begin) last is due change =

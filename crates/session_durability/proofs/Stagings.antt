@@ -6,6 +6,7 @@ use Rattle.std.specs.Arc.{arc_value}
 use Rattle.std.specs.FinMap as fin
 use Rattle.sha2.specs.Sha256.{sha256}
 use Rattle.sha2.proofs.Facts256.{length-sha256}
+use Rattle.programs.specs.Programs.{file_limit}
 use Rattle.session_tree.proofs.Causes.{later_cause, other_limit}
 use Rattle.session_tree.proofs.Tries.{quiet_on}
 use Rattle.session_tree.specs.Entries.{IsTooLong}
@@ -51,7 +52,7 @@ module _ (settings : Settings) (s : State) (old : View) where
   spared_far known change more one two new knows first second gives last k keeps is = gives k (more (change k)) (second k (change k) (first k k (knows last k keeps) is))
 
   -- a program
-  pub staged_program : (name file : List ℕ) (image : _) (text : _) (new : View) → (sha256 file ≡ name) × (image_of file ≡ Ok (arc_value image)) × (length file ≤ 131072)
+  pub staged_program : (name file : List ℕ) (image : _) (text : _) (new : View) → (sha256 file ≡ name) × (image_of file ≡ Ok (arc_value image)) × (length file ≤ file_limit)
       → staging.StagesKept (λ next. record next { programs = fin.insert next.programs name file }) old new → IsPendingStaged settings s (pending.Program name image text) old new
   staged_program name file image text new (hash, loads, short) stages last k keeps is =
       (record k { programs = fin.insert k.programs name file }, program_put settings (over s last) k name file (arc_value image) keeps hash loads, stages k k is)
@@ -108,7 +109,7 @@ module _ (settings : Settings) (s : State) (old : View) where
 -- ---- why a program is not staged
 
 -- a program that is no longer than one may be has room
-pub short_program : (name body : List ℕ) → sha256 body ≡ name → length body ≤ 131072 → IsTooLong name (Some body) → ⊥
+pub short_program : (name body : List ℕ) → sha256 body ≡ name → length body ≤ file_limit → IsTooLong name (Some body) → ⊥
 short_program name body is short long =
     let key : length name ≡ 32 = ap length (sym is) ∙ length-sha256 body in
     omega (arith, key, short, long)

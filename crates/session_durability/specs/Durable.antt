@@ -2,7 +2,7 @@
 use Rattle.std.specs.Prelude.{◌≡◌, ◌≢◌, ◌<◌, ◌≤◌, ◌⊎◌, ⊤, ℕ, Bool, List, [], ◌∷◌, ◌++◌, codes, Option, Some, None}
 use Rattle.std.specs.Option.{ForSome}
 use Rattle.byte_streams.specs.Refusals.{line_text}
-use Rattle.session_requests.specs.Requests.{Ask, Program, Forget, Frame, Last, Begin}
+use Rattle.session_requests.specs.Requests.{Ask, Program, Forget, Frame, Last, Begin, greatest_height}
 use Rattle.session_serving.specs.Serving as serving
 use Rattle.session_file.specs.Kept.{HoldsIn, Kept}
 use Rattle.session_file.specs.Limits.{HasSmallNumbers, IsLongAnswer}
@@ -55,7 +55,7 @@ failed_store fault = line_text (codes "failed ") (store_fault_parts fault)
 abbrev pub MayChange : Settings → FileState → Ask → Type 0
 MayChange settings f (Program file) = (refusal : Refusals) → (turn settings f.state (Program file)).reply ≢ Refused refusal
 MayChange settings f (Forget name) = (refusal : Refusals) → (turn settings f.state (Forget name)).reply ≢ Refused refusal
-MayChange settings f (Frame bytes) = f.state.height < 9999999999
+MayChange settings f (Frame bytes) = f.state.height < greatest_height
 MayChange settings f (Begin height digest bytes) = (refusal : Refusals) → (turn settings f.state (Begin height digest bytes)).reply ≢ Refused refusal
 MayChange settings f ask = ⊥
 

@@ -73,10 +73,14 @@ AreEntries storage = AllByRecursion (λ e. (length e.0 ≡ 32) × (length e.1 �
 abbrev pub AreNamed : ByteMap → Type 0
 AreNamed programs = AllByRecursion (λ e. length e.0 ≡ 32) (entries programs)
 
--- a digest has 32 bytes, and no session is higher than this
+-- no session is higher than this
+abbrev pub greatest_height : ℕ
+greatest_height = 9999999999
+
+-- a digest has 32 bytes
 pub record IsSessionInLimits (s : SessionRow) : Type 0 where
   pub digest : length s.digest ≡ 32
-  pub height : s.height ≤ 9999999999
+  pub height : s.height ≤ greatest_height
 
 -- so it is of each part
 pub record IsKeptInLimits (k : Kept) : Type 0 where

@@ -7,7 +7,8 @@ use Rattle.sha2.specs.Sha256.{sha256}
 use Rattle.block_file.specs.Block.{BlockValue, block_of}
 use Rattle.block_file.specs.declared.fault.BlockFault.{BlockFault}
 use Rattle.elf32.specs.Layout.{Layout}
-use Rattle.session_requests.specs.Requests.{Ask, Program, Forget, Frame, Try, Last, Begin}
+use Rattle.programs.specs.Programs.{file_limit}
+use Rattle.session_requests.specs.Requests.{Ask, Program, Forget, Frame, Try, Last, Begin, greatest_height}
 use Rattle.session_turns.specs.Replies.{TurnReply, Done, Refused, turn_reply_text}
 use Rattle.session_turns.specs.Telling.{names_text}
 use Rattle.session_turns.specs.Turn.{Accepted, Turn, ◌>>=◌, accepted, agree, begun_with, frame_answer, is_dump, handed_program, told, turn, unless, turn_with_program}
@@ -116,10 +117,10 @@ module _ (s : State) (last : Option KeptAnswer) where
   frame_high settings false wanted h = cc
 
   turn_alike : (settings : Settings) (ask : Ask) → ask ≢ Last → IsAlike (turn settings s ask) (turn settings twin ask)
-  turn_alike settings (Program file) other = handed_in (nat_lt 131072 (length file)) (contains_key s.programs (sha256 file)) (sha256 file) (handed_program file)
+  turn_alike settings (Program file) other = handed_in (nat_lt file_limit (length file)) (contains_key s.programs (sha256 file)) (sha256 file) (handed_program file)
   turn_alike settings (Forget name) other = forgotten (contains_key s.programs name) (record s { programs = remove s.programs name })
-  turn_alike settings (Frame bytes) other = frame_alike settings (nat_le 9999999999 s.height) (accepted settings s bytes)
-  turn_alike settings (Try bytes) other = ((frame_alike settings (nat_le 9999999999 s.height) (accepted settings s bytes)).0, other_last s last)
+  turn_alike settings (Frame bytes) other = frame_alike settings (nat_le greatest_height s.height) (accepted settings s bytes)
+  turn_alike settings (Try bytes) other = ((frame_alike settings (nat_le greatest_height s.height) (accepted settings s bytes)).0, other_last s last)
   turn_alike settings Last other = absurd (other refl)
   turn_alike settings (Begin height digest bytes) other = begun height digest (begun_block (agree digest s.digest) (block_of bytes))
   turn_alike settings ask other = (refl, other_last s last)
@@ -138,28 +139,28 @@ module _ (settings : Settings) where
   after_alike s t ask e = (alike s t ask e (λ is. cc)).1
 
   -- whether a frame counts
-  low_height : (height : ℕ) → height < 9999999999 → nat_le 9999999999 height ≡ false
+  low_height : (height : ℕ) → height < greatest_height → nat_le greatest_height height ≡ false
   low_height height h = grind (arith, nat_tests)
 
-  low_test : (height : ℕ) → nat_lt height 9999999999 ≡ true → height < 9999999999
+  low_test : (height : ℕ) → nat_lt height greatest_height ≡ true → height < greatest_height
   low_test height h = grind (arith, nat_tests)
 
-  high_test : (height : ℕ) → nat_lt height 9999999999 ≡ false → nat_le 9999999999 height ≡ true
+  high_test : (height : ℕ) → nat_lt height greatest_height ≡ false → nat_le greatest_height height ≡ true
   high_test height h = grind (arith, nat_tests)
 
-  pub frame_after : (s t : State) (bytes : List ℕ) → EqualButLast s t → s.height < 9999999999 → (turn settings s (Frame bytes)).after ≡ (turn settings t (Frame bytes)).after
+  pub frame_after : (s t : State) (bytes : List ℕ) → EqualButLast s t → s.height < greatest_height → (turn settings s (Frame bytes)).after ≡ (turn settings t (Frame bytes)).after
   frame_after s t bytes e low =
       subst (λ (u : State). (turn settings s (Frame bytes)).after ≡ (turn settings u (Frame bytes)).after) (is_with_last s t e)
-      (ap (λ (u : Turn). u.after) (frame_counts s t.last settings (nat_le 9999999999 s.height) (accepted settings s bytes) (low_height s.height low)))
+      (ap (λ (u : Turn). u.after) (frame_counts s t.last settings (nat_le greatest_height s.height) (accepted settings s bytes) (low_height s.height low)))
 
   -- ---- lists
 
-  behind_frame : (s t : State) (bytes : List ℕ) (asks : List Ask) (counts : Bool) → EqualButLast s t → nat_lt s.height 9999999999 ≡ counts → (counts || asks_last_late settings s asks) ≡ true
+  behind_frame : (s t : State) (bytes : List ℕ) (asks : List Ask) (counts : Bool) → EqualButLast s t → nat_lt s.height greatest_height ≡ counts → (counts || asks_last_late settings s asks) ≡ true
       → (asks_last_late settings (turn settings s (Frame bytes)).after asks ≡ true → answers_in_turn settings (turn settings s (Frame bytes)).after asks ≡ answers_in_turn settings (turn settings t (Frame bytes)).after asks)
       → answers_in_turn settings (turn settings s (Frame bytes)).after asks ≡ answers_in_turn settings (turn settings t (Frame bytes)).after asks
   behind_frame s t bytes asks true e is late rest = ap (λ (u : State). answers_in_turn settings u asks) (frame_after s t bytes e (low_test s.height is))
   behind_frame s t bytes asks false e is late rest =
-      let same : (turn settings s (Frame bytes)).after ≡ s = frame_high s None settings (nat_le 9999999999 s.height) (accepted settings s bytes) (high_test s.height is) in
+      let same : (turn settings s (Frame bytes)).after ≡ s = frame_high s None settings (nat_le greatest_height s.height) (accepted settings s bytes) (high_test s.height is) in
       rest (subst (λ (u : State). asks_last_late settings u asks ≡ true) (sym same) late)
 
   pub answers_alike : (s t : State) (asks : List Ask) → EqualButLast s t → asks_last_late settings s asks ≡ true → answers_in_turn settings s asks ≡ answers_in_turn settings t asks
@@ -168,7 +169,7 @@ module _ (settings : Settings) where
   answers_alike s t (Frame bytes ∷ asks) e late =
       let both = alike s t (Frame bytes) e (λ is. cc) in
       one_more settings (turn settings s (Frame bytes)) (turn settings t (Frame bytes)) asks both
-      (behind_frame s t bytes asks (nat_lt s.height 9999999999) e refl late
+      (behind_frame s t bytes asks (nat_lt s.height greatest_height) e refl late
       (answers_alike (turn settings s (Frame bytes)).after (turn settings t (Frame bytes)).after asks both.1))
   answers_alike s t (ask ∷ asks) e late =
       let both = alike s t ask e (λ is. cc) in

@@ -9,8 +9,8 @@ use Rattle.sha2.specs.Sha256.{sha256}
 use Rattle.block_file.specs.Block.{BlockValue, block_of}
 use Rattle.block_file.specs.declared.fault.BlockFault.{BlockFault}
 use Rattle.elf32.specs.Layout.{Layout}
-use Rattle.programs.specs.Programs.{calls_over}
-use Rattle.session_requests.specs.Requests.{Ask, Program, Forget, Frame, Begin}
+use Rattle.programs.specs.Programs.{calls_over, file_limit}
+use Rattle.session_requests.specs.Requests.{Ask, Program, Forget, Frame, Begin, greatest_height}
 use Rattle.rv_ledger.specs.Key.{Storage}
 use Rattle.rv_ledger.specs.Rules.{longest_value}
 use Rattle.rv_ledger.specs.declared.rules.Rules.{Rules}
@@ -123,11 +123,11 @@ loaded_short s name (Err refusal) h = h
 module _ (settings : Settings) where
   pub turn_short : (s : State) (ask : Ask) → AreShort s.rules s.store → AreShort (turn settings s ask).after.rules (turn settings s ask).after.store
   turn_short s (Program file) h =
-      cond_both (nat_lt 131072 (length file)) _ _ (λ (t : Turn). IsShortState t.after) (λ _. h) (λ _.
+      cond_both (nat_lt file_limit (length file)) _ _ (λ (t : Turn). IsShortState t.after) (λ _. h) (λ _.
       cond_both (contains_key s.programs (sha256 file)) _ _ (λ (t : Turn). IsShortState t.after) (λ _. h) (λ _. loaded_short s (sha256 file) (handed_program file) h))
   turn_short s (Forget name) h = cond_both (contains_key s.programs name) _ _ (λ (t : Turn). IsShortState t.after) (λ _. h) (λ _. h)
   turn_short s (Frame bytes) h =
-      cond_both (nat_le 9999999999 s.height) _ _ (λ (t : Turn). IsShortState t.after) (λ _. h) (λ _. frame_short settings s (accepted settings s bytes) h (frame_taken settings s bytes))
+      cond_both (nat_le greatest_height s.height) _ _ (λ (t : Turn). IsShortState t.after) (λ _. h) (λ _. frame_short settings s (accepted settings s bytes) h (frame_taken settings s bytes))
   turn_short s (Begin height digest bytes) h = begun_short s height digest _ h (text_taken bytes BlockValue IsShortRead _ (λ block own.
       unless_short IsShortRead (not (is_dump block)) NotADump _ (λ _. unless_short IsShortRead (not (agree digest s.digest)) OtherDigest _ (λ _. own))))
   turn_short s ask h = h

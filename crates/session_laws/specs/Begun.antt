@@ -1,6 +1,6 @@
 -- A session that begins with another one's dump.
 use Rattle.std.specs.Prelude.{◌≡◌, ◌||◌, nat_lt, Bool, true, false, List, [], ◌∷◌, None}
-use Rattle.session_requests.specs.Requests.{Ask, Frame, Last}
+use Rattle.session_requests.specs.Requests.{Ask, Frame, Last, greatest_height}
 use Rattle.session_turns.specs.Turn.{turn}
 use Rattle.session_turns.specs.declared.settings.Settings.{Settings}
 use Rattle.session_turns.specs.declared.state.State.{State}
@@ -22,5 +22,5 @@ pub record EqualButLast (s t : State) : Type 0 where
 abbrev pub asks_last_late : Settings → State → List Ask → Bool
 asks_last_late settings s [] = true
 asks_last_late settings s (Last ∷ asks) = false
-asks_last_late settings s (Frame bytes ∷ asks) = nat_lt s.height 9999999999 || asks_last_late settings s asks
+asks_last_late settings s (Frame bytes ∷ asks) = nat_lt s.height greatest_height || asks_last_late settings s asks
 asks_last_late settings s (ask ∷ asks) = asks_last_late settings (turn settings s ask).after asks

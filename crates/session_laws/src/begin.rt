@@ -2,7 +2,7 @@
 
 ghost use Rattle.std.specs.Prelude.{◌≡◌, ◌≢◌, ◌<◌, ◌++◌, ◌∷◌, [], ℕ, List, All, codes, true};
 ghost use Rattle.std.specs.FinMap.{entries};
-ghost use Rattle.session_requests.specs.Requests.{Ask, Begin, Frame, Last};
+ghost use Rattle.session_requests.specs.Requests.{Ask, Begin, Frame, Last, greatest_height};
 ghost use Rattle.session_laws.specs.Begun.{EqualButLast, asks_last_late, begun_from};
 ghost use Rattle.session_laws.specs.Chained.{IsEntry};
 ghost use Rattle.session_serving.specs.Serving.{AreAnswered, answers_in_turn, state_after};
@@ -32,7 +32,7 @@ pub fn begun_answers_alike()
         → (turn settings s ask).reply ≡ (turn settings t ask).reply }
     ensures after { (settings : Settings) (s t : State) (ask : Ask) → EqualButLast s t
         → EqualButLast (turn settings s ask).after (turn settings t ask).after }
-    ensures frame { (settings : Settings) (s t : State) (bytes : List ℕ) → EqualButLast s t → s.height < 9999999999
+    ensures frame { (settings : Settings) (s t : State) (bytes : List ℕ) → EqualButLast s t → s.height < greatest_height
         → (turn settings s (Frame bytes)).after ≡ (turn settings t (Frame bytes)).after }
     ensures answers { (settings : Settings) (s t : State) (asks : List Ask) → EqualButLast s t → asks_last_late settings s asks ≡ true
         → answers_in_turn settings s asks ≡ answers_in_turn settings t asks }

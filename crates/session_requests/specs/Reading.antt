@@ -1,6 +1,7 @@
 -- What is read of an input.
 use Rattle.std.specs.Prelude.{◌≡◌, ⊤, ℕ, ◌<◌, ◌≤◌, nat_lt, Bool, true, false, List, [], ◌∷◌, ◌++◌, length, Option, Some, None, OnSome, take}
 use Rattle.std.specs.Io.KnownBytes.{Consumes, IsAtEnd}
+use Rattle.programs.specs.Programs.{file_limit}
 use Rattle.session_requests.specs.declared.reading.LineEnd.{LineEnd}
 use Rattle.session_requests.specs.declared.reading.LineEnd.TheVariants as end
 use Rattle.session_requests.specs.declared.reading.Keeping.{Keeping}
@@ -51,7 +52,7 @@ ask_of request.Quit = Quit
 
 -- whether more bytes follow than may: 131,072 of a program, `frame_limit` of a frame
 abbrev pub is_too_long : ℕ → RequestLine → Bool
-is_too_long frame_limit (line.Program length) = nat_lt 131072 length
+is_too_long frame_limit (line.Program length) = nat_lt file_limit length
 is_too_long frame_limit (line.Frame length) = nat_lt frame_limit length
 is_too_long frame_limit (line.Try length) = nat_lt frame_limit length
 is_too_long frame_limit other = false

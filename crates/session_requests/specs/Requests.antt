@@ -22,6 +22,10 @@ None >>= f = None
 abbrev pub line_limit : ℕ
 line_limit = 128
 
+-- no session is higher than this
+abbrev pub greatest_height : ℕ
+greatest_height = 9999999999
+
 -- a byte before the first of two texts
 abbrev pub onto : ℕ → List ℕ × List ℕ → List ℕ × List ℕ
 onto byte found = (byte ∷ found.0, found.1)

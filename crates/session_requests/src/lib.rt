@@ -27,4 +27,4 @@ mod request;
 
 pub use laws::{next_of_input, read_is_written, written_is_read};
 pub use reading::next_request;
-pub use request::{Asked, Request, RequestFault, RequestLine};
+pub use request::{Asked, GREATEST_HEIGHT, Request, RequestFault, RequestLine};

@@ -7,6 +7,7 @@ ghost use Rattle.session_requests.specs.Reading.{is_too_long};
 use crate::fields::{first_part, name};
 use crate::request::RequestLine;
 use block_file::fields::decimal;
+use programs::FILE_LIMIT;
 
 /// What a line without its LF says. None where it has none of the forms.
 pub(crate) fn line_of(text: &[u8]) -> Option<RequestLine>
@@ -116,7 +117,7 @@ impl RequestLine {
         ensures { result ≡ is_too_long frame_limit self }
     {
         match self {
-            RequestLine::Program(length) => length > 131_072,
+            RequestLine::Program(length) => length > FILE_LIMIT as u64,
             RequestLine::Frame(length) | RequestLine::Try(length) => length > frame_limit,
             _ => false,
         }

@@ -1,5 +1,8 @@
 //! What a session is asked for.
 
+/// The height that no session is above.
+pub const GREATEST_HEIGHT: u64 = 9_999_999_999;
+
 /// What the line of a request says. A length is the number of bytes behind the line, below 10^10.
 #[derive(Clone, Copy, Debug, PartialEq, Eq)]
 pub enum RequestLine {

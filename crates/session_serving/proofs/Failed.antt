@@ -5,7 +5,8 @@ use Rattle.std.specs.FinMap.{contains_key}
 use Rattle.elf32.specs.Layout.{Layout}
 use Rattle.block_file.specs.Block.{BlockValue}
 use Rattle.sha2.specs.Sha256.{sha256}
-use Rattle.session_requests.specs.Requests.{Ask, Program, Forget, Programs, Frame, Try, Last, Get, ListEntries, Dump, Begin, Quit, State as AskState}
+use Rattle.programs.specs.Programs.{file_limit}
+use Rattle.session_requests.specs.Requests.{Ask, Program, Forget, Programs, Frame, Try, Last, Get, ListEntries, Dump, Begin, Quit, State as AskState, greatest_height}
 use Rattle.session_turns.specs.Failures.{IsAnswer}
 use Rattle.session_turns.specs.Replies.{Done, Failed, Refused, TurnReply, turn_reply_text, refused_or_done}
 use Rattle.session_turns.specs.Turn.{Accepted, Turn, accepted, begun_with, frame_answer, last_reply, named_turn, handed_program, turn, turn_with_program}
@@ -45,11 +46,11 @@ begun s height digest (Ok block) = tt
 begun s height digest (Err refusal) = tt
 
 turns : (settings : Settings) (s : State) (ask : Ask) → Tells (turn settings s ask).reply
-turns settings s (Program file) = either (nat_lt 131072 (length file)) _ (named_turn s (sha256 file) file) tt (either (contains_key s.programs (sha256 file)) _ (turn_with_program s (sha256 file) (handed_program file)) tt (loaded s (sha256 file) (handed_program file)))
+turns settings s (Program file) = either (nat_lt file_limit (length file)) _ (named_turn s (sha256 file) file) tt (either (contains_key s.programs (sha256 file)) _ (turn_with_program s (sha256 file) (handed_program file)) tt (loaded s (sha256 file) (handed_program file)))
 turns settings s (Forget name) = either (contains_key s.programs name) _ _ tt tt
 turns settings s Programs = tt
-turns settings s (Frame bytes) = either (nat_le 9999999999 s.height) _ (frame_answer settings s (accepted settings s bytes)) tt (framed settings s (accepted settings s bytes))
-turns settings s (Try bytes) = either (nat_le 9999999999 s.height) _ (frame_answer settings s (accepted settings s bytes)) tt (framed settings s (accepted settings s bytes))
+turns settings s (Frame bytes) = either (nat_le greatest_height s.height) _ (frame_answer settings s (accepted settings s bytes)) tt (framed settings s (accepted settings s bytes))
+turns settings s (Try bytes) = either (nat_le greatest_height s.height) _ (frame_answer settings s (accepted settings s bytes)) tt (framed settings s (accepted settings s bytes))
 turns settings s Last = last s.last
 turns settings s (Get key) = tt
 turns settings s (ListEntries from count) = tt

@@ -4,6 +4,7 @@ use Rattle.std.specs.Arc.{arc_value}
 use Rattle.std.specs.Io.KnownBytes.{Appends}
 use Rattle.sha2.specs.Sha256.{sha256}
 use Rattle.elf32.specs.Image.{image_of}
+use Rattle.programs.specs.Programs.{file_limit}
 use Rattle.session_requests.specs.Requests.{Ask, Last, Program, requests_of}
 use Rattle.session_requests.specs.declared.request.RequestFault.{RequestFault}
 use Rattle.session_serving.specs.Serving.{Answering, Leaving, Shutting, end_text, end_fault_of, until_quit}
@@ -41,7 +42,7 @@ pub record AsksPending (settings : Settings) (s : State) (ask : Ask) (p : Pendin
 
 -- what keeps a session can have what is pending: a program has the bytes that it was loaded from, and is no longer than one may be
 abbrev pub IsStorable : List ℕ → Pending → Type 0
-IsStorable body (pending.Program name image text) = (sha256 body ≡ name) × (image_of body ≡ Ok (arc_value image)) × (length body ≤ 131072)
+IsStorable body (pending.Program name image text) = (sha256 body ≡ name) × (image_of body ≡ Ok (arc_value image)) × (length body ≤ file_limit)
 IsStorable body other = ⊤
 
 -- the bytes of a program that is handed in

@@ -7,7 +7,7 @@ use Rattle.std.proofs.lemmas.Bool.Decides.{nat_tests}
 use Rattle.block_file.specs.Block.{BlockValue, block_of}
 use Rattle.block_file.specs.declared.fault.BlockFault.{BlockFault}
 use Rattle.elf32.specs.Layout.{Layout}
-use Rattle.session_requests.specs.Requests.{Frame}
+use Rattle.session_requests.specs.Requests.{Frame, greatest_height}
 use Rattle.rv_ledger.specs.declared.rules.Rules.{Rules}
 use Rattle.session_turns.specs.Failures.{MayTurnFail, MayFailFrame}
 use Rattle.session_turns.specs.Pending.{IsPendingDue, IsPending, counting, long_frame, stopped_frame}
@@ -143,10 +143,10 @@ run_fails settings s bytes frame failure is (inr e) = subst (MayFailFrame settin
 
 -- ---- the turn
 
-turn_is : (settings : Settings) (s : State) (bytes : List ℕ) → s.height < 9999999999 → frame_answer settings s (accepted settings s bytes) ≡ frame_turn settings s bytes
+turn_is : (settings : Settings) (s : State) (bytes : List ℕ) → s.height < greatest_height → frame_answer settings s (accepted settings s bytes) ≡ frame_turn settings s bytes
 turn_is settings s bytes low =
-    let test : nat_le 9999999999 s.height ≡ false = grind (arith, nat_tests) in
-    by_test (nat_le 9999999999 s.height) _ _ test
+    let test : nat_le greatest_height s.height ≡ false = grind (arith, nat_tests) in
+    by_test (nat_le greatest_height s.height) _ _ test
   where
     by_test : (b : Bool) (x y : Turn) → b ≡ false → y ≡ (if b then x else y)
     by_test false x y e = refl
@@ -157,7 +157,7 @@ answer_kept settings s (Ok w) ran is = λ j. counted_turn (record s { store = is
 answer_kept settings s (Err r) ran is = absurd is
 
 -- a frame that ran is to count
-pub frame_kept : (settings : Settings) (s : State) (bytes : List ℕ) (ran : Ran) → s.height < 9999999999 → StageGives (IsRan settings s) (accepted settings s bytes) (Ok ran)
+pub frame_kept : (settings : Settings) (s : State) (bytes : List ℕ) (ran : Ran) → s.height < greatest_height → StageGives (IsRan settings s) (accepted settings s bytes) (Ok ran)
     → IsPending settings s (Frame bytes) (pending.Frame (counting s (Some (record { left = ran.2; rules = ran.1 })) (done_answer ran.0.items)))
 frame_kept settings s bytes ran low is = record {
   turn = answer_kept settings s (accepted settings s bytes) ran is ∙ turn_is settings s bytes low;
@@ -174,7 +174,7 @@ stop_refused settings s (Ok w) refusal is = absurd is
 stop_refused settings s (Err r) refusal is = ap (λ (x : FrameRefusal). counted_turn s (refused_answer x)) is
 
 -- one that stopped before is refused, or fails
-pub frame_stopped : (settings : Settings) (s : State) (bytes : List ℕ) (why : Stop) → s.height < 9999999999 → StageGives (IsRan settings s) (accepted settings s bytes) (Err why)
+pub frame_stopped : (settings : Settings) (s : State) (bytes : List ℕ) (why : Stop) → s.height < greatest_height → StageGives (IsRan settings s) (accepted settings s bytes) (Err why)
     → FailsOnlyWhere {X = Ran} (MayFailFrame settings s bytes) (Err why) → IsPending settings s (Frame bytes) (stopped_frame s why)
 frame_stopped settings s bytes (stop.Refused refusal) low is fails = record {
   turn = stop_refused settings s (accepted settings s bytes) refusal is ∙ turn_is settings s bytes low;
@@ -185,24 +185,24 @@ frame_stopped settings s bytes (stop.Refused refusal) low is fails = record {
 frame_stopped settings s bytes (stop.Failed failure) low is fails = ((low, fails), refl)
 
 -- the same of a frame that is only tried
-pub try_done : (settings : Settings) (s : State) (bytes : List ℕ) (ran : Ran) → s.height < 9999999999 → StageGives (IsRan settings s) (accepted settings s bytes) (Ok ran) → Done ran.0.items ≡ (frame_turn settings s bytes).reply
+pub try_done : (settings : Settings) (s : State) (bytes : List ℕ) (ran : Ran) → s.height < greatest_height → StageGives (IsRan settings s) (accepted settings s bytes) (Ok ran) → Done ran.0.items ≡ (frame_turn settings s bytes).reply
 try_done settings s bytes ran low is = ap (λ (t : Turn). t.reply) (answer_kept settings s (accepted settings s bytes) ran is ∙ turn_is settings s bytes low)
 
-pub try_stopped : (settings : Settings) (s : State) (bytes : List ℕ) (why : Stop) → s.height < 9999999999 → StageGives (IsRan settings s) (accepted settings s bytes) (Err why)
+pub try_stopped : (settings : Settings) (s : State) (bytes : List ℕ) (why : Stop) → s.height < greatest_height → StageGives (IsRan settings s) (accepted settings s bytes) (Err why)
     → FailsOnlyWhere {X = Ran} (MayFailFrame settings s bytes) (Err why)
-    → IsRequestAnswered (λ failure. (s.height < 9999999999) × MayFailFrame settings s bytes failure) s (try_turn settings s bytes) (stopped_answer why) s
+    → IsRequestAnswered (λ failure. (s.height < greatest_height) × MayFailFrame settings s bytes failure) s (try_turn settings s bytes) (stopped_answer why) s
 try_stopped settings s bytes (stop.Refused refusal) low is fails = (ap (λ (t : Turn). t.reply) (stop_refused settings s (accepted settings s bytes) refusal is ∙ turn_is settings s bytes low), refl)
 try_stopped settings s bytes (stop.Failed failure) low is fails = ((low, fails), refl)
 
 -- a frame that stopped counts only below the greatest height
-pub due_stopped : (s : State) (bytes : List ℕ) (why : Stop) → s.height < 9999999999 → IsPendingDue s (Frame bytes) (stopped_frame s why)
+pub due_stopped : (s : State) (bytes : List ℕ) (why : Stop) → s.height < greatest_height → IsPendingDue s (Frame bytes) (stopped_frame s why)
 due_stopped s bytes (stop.Refused refusal) low = low
 due_stopped s bytes (stop.Failed failure) low = tt
 
 -- so does one that is too long
-long_due : (s : State) (bytes : List ℕ) (high : Bool) → nat_le 9999999999 s.height ≡ high → IsPendingDue s (Frame bytes) (if high then pending.Nothing (answer.Refused TooHigh) else pending.Frame (counting s None (refused_answer TooLong)))
+long_due : (s : State) (bytes : List ℕ) (high : Bool) → nat_le greatest_height s.height ≡ high → IsPendingDue s (Frame bytes) (if high then pending.Nothing (answer.Refused TooHigh) else pending.Frame (counting s None (refused_answer TooLong)))
 long_due s bytes true is = tt
 long_due s bytes false is = grind (arith, nat_tests)
 
 pub due_long : (s : State) (bytes : List ℕ) → IsPendingDue s (Frame bytes) (long_frame s)
-due_long s bytes = long_due s bytes (nat_le 9999999999 s.height) refl
+due_long s bytes = long_due s bytes (nat_le greatest_height s.height) refl

@@ -1,6 +1,7 @@
 -- Where this machine may run out of memory: for a stage of a request only where no stage before it refuses.
 use Rattle.std.specs.Prelude.{◌≡◌, ◌≢◌, ◌<◌, ◌⊎◌, ⊤, ℕ, List, false, nat_lt, length, IfErr, IsOk}
-use Rattle.session_requests.specs.Requests.{Ask, Program, Programs, Frame, Try, Get, ListEntries, Dump, Begin, State as AskState}
+use Rattle.programs.specs.Programs.{file_limit}
+use Rattle.session_requests.specs.Requests.{Ask, Program, Programs, Frame, Try, Get, ListEntries, Dump, Begin, State as AskState, greatest_height}
 use Rattle.session_turns.specs.Turn.{accepted, program_turn, turn}
 use Rattle.session_turns.specs.Replies.{Failed, Refused, turn_reply_text}
 use Rattle.session_turns.specs.declared.refusal.Failure.{Failure}
@@ -19,9 +20,9 @@ MayFailFrame settings s bytes want.Run = IsOk (accepted settings s bytes)
 MayFailFrame settings s bytes want.Answer = IsOk (accepted settings s bytes)
 
 abbrev pub MayTurnFail : Settings → State → Ask → Failure → Type 0
-MayTurnFail settings s (Frame bytes) failure = (s.height < 9999999999) × MayFailFrame settings s bytes failure
-MayTurnFail settings s (Try bytes) failure = (s.height < 9999999999) × MayFailFrame settings s bytes failure
-MayTurnFail settings s (Program file) want.Program = nat_lt 131072 (length file) ≡ false
+MayTurnFail settings s (Frame bytes) failure = (s.height < greatest_height) × MayFailFrame settings s bytes failure
+MayTurnFail settings s (Try bytes) failure = (s.height < greatest_height) × MayFailFrame settings s bytes failure
+MayTurnFail settings s (Program file) want.Program = nat_lt file_limit (length file) ≡ false
 MayTurnFail settings s (Program file) want.Answer = (refusal : FrameRefusal) → (program_turn s file).reply ≢ Refused refusal
 MayTurnFail settings s (Begin height digest bytes) want.Block = ⊤
 MayTurnFail settings s Programs want.Answer = ⊤

@@ -6,7 +6,7 @@ use Rattle.std.specs.FinMap.{contains_key, insert, remove}
 use Rattle.sha2.specs.Sha256.{sha256}
 use Rattle.elf32.specs.Image.{image_of}
 use Rattle.overlay.specs.Commit.{HasRoom}
-use Rattle.session_requests.specs.Requests.{Ask, Begin, Forget, Frame, Program, Try}
+use Rattle.session_requests.specs.Requests.{Ask, Begin, Forget, Frame, Program, Try, greatest_height}
 use Rattle.rv_ledger.specs.Key.{Storage}
 use Rattle.session_turns.specs.Failures.{MayTurnFail}
 use Rattle.session_turns.specs.Replies.{Done, kept_reply, refused_answer}
@@ -61,7 +61,7 @@ stopped_frame s (stop.Failed want) = pending.Nothing (answer.Failed want)
 
 -- one that is refused for its length
 abbrev pub long_frame : State → Pending
-long_frame s = if nat_le 9999999999 s.height then pending.Nothing (answer.Refused TooHigh) else pending.Frame (counting s None (refused_answer TooLong))
+long_frame s = if nat_le greatest_height s.height then pending.Nothing (answer.Refused TooHigh) else pending.Frame (counting s None (refused_answer TooLong))
 
 -- ---- the room that it needs
 
@@ -149,5 +149,5 @@ IsUndone other = ⊥
 -- where nothing is pending of a `begin`, it is refused or fails; a frame is pending only below the greatest height
 abbrev pub IsPendingDue : State → Ask → Pending → Type 0
 IsPendingDue s (Begin height digest bytes) (pending.Nothing answer) = IsUndone answer
-IsPendingDue s (Frame bytes) (pending.Frame frame) = s.height < 9999999999
+IsPendingDue s (Frame bytes) (pending.Frame frame) = s.height < greatest_height
 IsPendingDue s ask p = ⊤

@@ -8,14 +8,14 @@ use Rattle.sha2.specs.Sha256.{sha256}
 use Rattle.block_file.specs.Block.{BlockValue, block_of}
 use Rattle.elf32.specs.Layout.{Layout}
 use Rattle.elf32.specs.Image.{image_of}
-use Rattle.session_requests.specs.Requests.{Ask, Program, Forget, Programs, Frame, Try, Last, Get, ListEntries, Dump, Begin, State as AskState, Quit}
+use Rattle.session_requests.specs.Requests.{Ask, Program, Forget, Programs, Frame, Try, Last, Get, ListEntries, Dump, Begin, State as AskState, Quit, greatest_height}
 use Rattle.rv_ledger.specs.Key.{Storage}
 use Rattle.rv_ledger.specs.declared.rules.Rules.TheVariants as rules
 use Rattle.rv_step.specs.Fold.{receipts_of, store_after}
 use Rattle.receipts.specs.Brief.{receipts_text}
 use Rattle.session_turns.specs.Replies.{TurnReply, Done, Refused, turn_reply_text, done_answer, kept_reply, refused_answer}
 use Rattle.session_turns.specs.Telling.{value_line, dump_text, listed, names_text, rules_number, state_text}
-use Rattle.programs.specs.Programs.{calls_over}
+use Rattle.programs.specs.Programs.{calls_over, file_limit}
 use Rattle.session_turns.specs.Programs.{frame_programs}
 use Rattle.session_turns.specs.declared.kept.KeptAnswer.{KeptAnswer}
 use Rattle.session_turns.specs.declared.refusal.FrameRefusal.{FrameRefusal}
@@ -114,12 +114,12 @@ frame_answer settings s (Ok frame) = counted_turn (after_run s frame) (receipts_
 
 -- a frame that is refused for what is known of it before its text
 abbrev pub refused_frame : State → FrameRefusal → Turn
-refused_frame s refusal = if nat_le 9999999999 s.height then told s (Refused TooHigh) else counted_turn s (refused_answer refusal)
+refused_frame s refusal = if nat_le greatest_height s.height then told s (Refused TooHigh) else counted_turn s (refused_answer refusal)
 
 -- at the greatest height no frame is run, and none counts
 abbrev pub frame_turn : Settings → State → List ℕ → Turn
 frame_turn settings s bytes =
-    if nat_le 9999999999 s.height then told s (Refused TooHigh) else frame_answer settings s (accepted settings s bytes)
+    if nat_le greatest_height s.height then told s (Refused TooHigh) else frame_answer settings s (accepted settings s bytes)
 
 -- `try`: the answer to the same frame, and nothing is kept
 abbrev pub try_turn : Settings → State → List ℕ → Turn
@@ -141,7 +141,7 @@ named_turn s name file =
     if fin.contains_key s.programs name then told s (Done (names_text (name ∷ []))) else turn_with_program s name (handed_program file)
 
 abbrev pub program_turn : State → List ℕ → Turn
-program_turn s file = if nat_lt 131072 (length file) then told s (Refused FileTooLong) else named_turn s (sha256 file) file
+program_turn s file = if nat_lt file_limit (length file) then told s (Refused FileTooLong) else named_turn s (sha256 file) file
 
 abbrev pub forget_turn : State → List ℕ → Turn
 forget_turn s name =

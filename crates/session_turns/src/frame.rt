@@ -1,7 +1,7 @@
 //! Frames that are run, and those that are only tried.
 
 ghost use Rattle.std.specs.Prelude.{◌≡◌, ◌<◌, ◌⊎◌, IfErr, IfOk, nat_le, if◌then◌else◌};
-ghost use Rattle.session_requests.specs.Requests.{Frame};
+ghost use Rattle.session_requests.specs.Requests.{Frame, greatest_height};
 ghost use Rattle.session_turns.specs.Failures.{MayFailFrame};
 ghost use Rattle.session_turns.specs.Pending.{IsPendingDue, IsPending, counting, long_frame, stopped_frame};
 ghost use Rattle.session_turns.specs.Replies.{Refused, done_answer};
@@ -22,10 +22,8 @@ use crate::state::State;
 use block_file::BlockText;
 use programs::calls_over;
 use rv_ledger::Rules;
+use session_requests::GREATEST_HEIGHT;
 use std::alloc::{AllocError, Global};
-
-/// The greatest height.
-const MOST_HEIGHT: u64 = 9_999_999_999;
 
 /// What a frame that ran gives: the text of its receipts, its rules, and what it leaves.
 type Ran = (Vec<u8>, Rules, Left);
@@ -43,7 +41,7 @@ pub(crate) fn frame<C: CallRunner>(
     ensures pending { IsPending settings state.now (Frame bytes.now) result }
     ensures due { IsPendingDue state.now (Frame bytes.now) result }
 {
-    if state.height >= MOST_HEIGHT {
+    if state.height >= GREATEST_HEIGHT {
         return Pending::Nothing(Answer::Refused(FrameRefusal::TooHigh));
     }
     match ran(alloc, runner, settings, state, bytes) {
@@ -61,9 +59,9 @@ pub(crate) fn try_frame<C: CallRunner>(
     bytes: &[u8],
 ) -> Answer
     requires ready { C.ready }
-    ensures { IsRequestAnswered (λ failure. (state.now.height < 9999999999) × MayFailFrame settings state.now bytes.now failure) state.now (try_turn settings state.now bytes.now) result state.now }
+    ensures { IsRequestAnswered (λ failure. (state.now.height < greatest_height) × MayFailFrame settings state.now bytes.now failure) state.now (try_turn settings state.now bytes.now) result state.now }
 {
-    if state.height >= MOST_HEIGHT {
+    if state.height >= GREATEST_HEIGHT {
         return Answer::Refused(FrameRefusal::TooHigh);
     }
     match ran(alloc, runner, settings, state, bytes) {
@@ -134,7 +132,7 @@ fn ran_accepted<C: CallRunner>(
 
 /// A frame that ran is to count, and what it leaves is to be made.
 fn kept_frame(state: &State, ran: Ran) -> Pending
-    requires { state.now.height < 9999999999 }
+    requires { state.now.height < greatest_height }
     ensures { result ≡ Pending.Frame (counting state.now (Some (record { left = ran.2; rules = ran.1 })) (done_answer ran.0.items)) }
 {
     let (text, rules, left) = ran;
@@ -144,7 +142,7 @@ fn kept_frame(state: &State, ran: Ran) -> Pending
 
 /// A frame that is refused is to count. Where it fails nothing changes.
 fn stopped_frame(alloc: Global, state: &State, stop: Stop) -> Pending
-    requires { state.now.height < 9999999999 }
+    requires { state.now.height < greatest_height }
     ensures { result ≡ stopped_frame state.now stop }
 {
     match stop {
@@ -160,7 +158,7 @@ fn counting(
     refusal: Option<FrameRefusal>,
     bytes: KeptBytes,
 ) -> Pending
-    requires { state.now.height < 9999999999 }
+    requires { state.now.height < greatest_height }
     ensures { result ≡ Pending.Frame (counting state.now run (record { refusal = refusal; bytes = bytes })) }
 {
     let answer = KeptAnswer { refusal, bytes };
@@ -176,7 +174,7 @@ fn counting(
 pub(crate) fn long_frame(alloc: Global, state: &State) -> Pending
     ensures { result ≡ long_frame state.now }
 {
-    if state.height >= MOST_HEIGHT {
+    if state.height >= GREATEST_HEIGHT {
         return Pending::Nothing(Answer::Refused(FrameRefusal::TooHigh));
     }
     counting(
@@ -191,7 +189,7 @@ pub(crate) fn long_frame(alloc: Global, state: &State) -> Pending
 pub(crate) fn long_try(state: &State) -> FrameRefusal
     ensures { Refused result ≡ (refused_frame state.now FrameRefusal.TooLong).reply }
 {
-    if state.height >= MOST_HEIGHT {
+    if state.height >= GREATEST_HEIGHT {
         return FrameRefusal::TooHigh;
     }
     FrameRefusal::TooLong
@@ -199,9 +197,9 @@ pub(crate) fn long_try(state: &State) -> FrameRefusal
 
 /// Answers a frame for whose bytes memory ran out.
 pub(crate) fn unkept_frame(state: &State) -> Answer
-    ensures { result ≡ (if nat_le 9999999999 state.now.height then Answer.Refused FrameRefusal.TooHigh else Answer.Failed Failure.Block) }
+    ensures { result ≡ (if nat_le greatest_height state.now.height then Answer.Refused FrameRefusal.TooHigh else Answer.Failed Failure.Block) }
 {
-    if state.height >= MOST_HEIGHT {
+    if state.height >= GREATEST_HEIGHT {
         return Answer::Refused(FrameRefusal::TooHigh);
     }
     Answer::Failed(Failure::Block)

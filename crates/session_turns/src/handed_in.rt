@@ -20,14 +20,12 @@ use crate::state::State;
 use crate::texts::finished;
 use byte_streams::Destination;
 use elf32::{ElfError, Image, load};
+use programs::FILE_LIMIT;
 use receipts::{TextBuffer, push_key};
 use rv_ledger::Key;
 use sha2::{Digest, Sha256};
 use std::alloc::{AllocError, AllocFailed, Global};
 use std::sync::Arc;
-
-/// The greatest length of a program's file, in bytes.
-const FILE_LIMIT: usize = 131_072;
 
 /// A program that is to be put under its name, the SHA-256 of its file, which is the answer. One that is here is not loaded
 /// again. Refused where the file has more than 131,072 bytes or is no program.
