@@ -8,7 +8,7 @@ ghost use Rattle.session_tree.specs.Entries.{ByteMap, rows_of};
 ghost use Rattle.session_file.specs.Kept.{AreEntries, HoldsIn, storage_tree};
 ghost use Rattle.session_file.specs.Opening.{IsFresh, IsOpenRefused, ReadsIn, RefusesIn, kept_of};
 ghost use Rattle.session_file.specs.Rows.{HasNoStorage, IsReadFault};
-ghost use Rattle.session_file.specs.Staging.{HasTrees, IsKeeping, IsShaped};
+ghost use Rattle.session_file.specs.Staging.{HasTrees, IsKeeping};
 
 use crate::entries::Entries;
 use crate::fault::OpenFault;

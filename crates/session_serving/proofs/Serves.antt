@@ -12,7 +12,7 @@ use Rattle.session_serving.specs.Serving.{Answering, AreAnswered, IsCutOff, IsEn
 use Rattle.session_serving.specs.declared.serving.ServeFault.{ServeFault}
 use Rattle.session_serving.specs.declared.serving.ServeFault.TheVariants.{Broken, Output, Shut, Unreadable}
 
--- so many requests were answered, and nothing behind them was read
+-- so many requests were answered, and nothing after them was read
 pub record IsServing {S : Type 0} (answers : Answering S) (old now : S) (before mid : Option (List ℕ)) (count : ℕ) (xs ys : List ℕ) : Type 0 where
   pub heard : List Ask
   pub text : List ℕ
@@ -109,7 +109,7 @@ module _ {S : Type 0} (answers : Answering S) where
   ended may_fail shuts fault Unreadable old now next before mid last count xs ys s none told = absurd told
   ended may_fail shuts fault (Shut other) old now next before mid last count xs ys s none told = absurd told
 
-  -- ---- where they are known
+  -- ---- if they are known
 
   pub serve_start : (s : S) (out a : Option (List ℕ)) → WhereKnown a a (IsServing answers s s out out 0)
   serve_start s out None = tt
@@ -163,7 +163,7 @@ module _ {S : Type 0} (answers : Answering S) where
   serve_cut limit asked old now next answer before mid last count a b c so read took cut = known_some _ a c (known_then _ (ReadsRequest limit asked) (λ xs ys. IsCutOff answers old xs next before last) a b c so read
       (λ xs ys zs s t. cut_off old now next answer before mid last count xs ys zs s (took ys zs t) cut))
 
-  -- the end where a request shut the session
+  -- the end if a request shut the session
   shut_off : {F : Type 0} (shuts : Shutting S F) (fault : F) (old now next : S) (before mid : Option (List ℕ)) (count : ℕ) (xs ys zs : List ℕ)
       → IsServing answers old now before mid count xs ys → (ask : Ask) × ComesFirst ask ys zs × shuts now ask fault next → IsShut answers shuts fault old xs next before mid
   shut_off shuts fault old now next before mid count xs ys zs s (ask, comes, is) = (

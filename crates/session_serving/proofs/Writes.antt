@@ -13,7 +13,7 @@ use Rattle.session_serving.specs.Writing.{PrintsText, Says}
 part_of : (text : List ℕ) (before after : Option (List ℕ)) → AppendsPart before after text → (part : List ℕ) × (left : List ℕ) × (part ++ left ≡ text) × Appends before after part
 part_of text before after (n, below, a) = (take n text, drop n text, take-append-drop n text, a)
 
--- and of that with more behind it
+-- and of that with more after it
 part_before : (line text : List ℕ) (before after : Option (List ℕ)) → AppendsPart before after line → (part : List ℕ) × (left : List ℕ) × (part ++ left ≡ line ++ text) × Appends before after part
 part_before line text before after (n, below, a) = (
   take n line,
@@ -27,7 +27,7 @@ flushed : {X E : Type 0} (r : Result X E) (text : List ℕ) (before mid after : 
 flushed (Ok x) text before mid after a k = Appends-kept before mid after text a k
 flushed (Err e) text before mid after a k = (text, [], append-nil text, Appends-kept before mid after text a k)
 
--- a text behind a line that was written
+-- a text after a line that was written
 says_behind : {X E : Type 0} (r : Result X E) (line text : List ℕ) (before mid after : Option (List ℕ)) → Appends before mid line → Says r mid after text → Says r before after (line ++ text)
 says_behind (Ok x) line text before mid after a s = Appends-trans before mid after line text a s
 says_behind (Err e) line text before mid after a (part, left, whole, s) = (
@@ -42,11 +42,11 @@ module _ {S X : Type 0} {contents : S → Option (List ℕ)} {may_refuse : S →
   pub cut : {Y : Type 0} {e : WriteFault} {old new : S} {text : List ℕ} → WritesText {X = Y} contents may_refuse (Err e) old new text → PrintsText {X = X} contents may_refuse is_flushed (Err e) old new text
   cut {old = old} {new = new} {text = text} w = record { says = part_of text (contents old) (contents new) w.err; flushed = tt; refused = w.cause; no_worse = w.same }
 
-  -- and so was a part of that with more behind it
+  -- and so was a part of that with more after it
   pub cut_before : {Y : Type 0} {e : WriteFault} {old new : S} {line : List ℕ} (text : List ℕ) → WritesText {X = Y} contents may_refuse (Err e) old new line → PrintsText {X = X} contents may_refuse is_flushed (Err e) old new (line ++ text)
   cut_before {old = old} {new = new} {line = line} text w = record { says = part_before line text (contents old) (contents new) w.err; flushed = tt; refused = w.cause; no_worse = w.same }
 
-  -- a text behind a line that was written
+  -- a text after a line that was written
   pub printed_behind : {Y : Type 0} {y : Y} {r : Result X WriteFault} {old mid new : S} {line text : List ℕ} → WritesText contents may_refuse (Ok y) old mid line → PrintsText contents may_refuse is_flushed r mid new text → PrintsText contents may_refuse is_flushed r old new (line ++ text)
   printed_behind {r = r} {old = old} {mid = mid} {new = new} {line = line} {text = text} w p = record {
     says = says_behind r line text (contents old) (contents mid) (contents new) w.ok p.says;

@@ -18,7 +18,7 @@ use Rattle.session_turns.specs.declared.pending.Pending.TheVariants as pending
 use Rattle.session_turns.specs.declared.settings.Settings.{Settings}
 use Rattle.session_turns.specs.declared.state.State.{State}
 
--- this request comes first in xs, and ys is behind it
+-- this request comes first in xs, and ys is after it
 abbrev pub ComesFirst : Ask → List ℕ → List ℕ → Type 0
 ComesFirst ask xs ys = (until_quit (requests_of xs).asks ≡ ask ∷ until_quit (requests_of ys).asks) × (end_fault_of (requests_of xs) ≡ end_fault_of (requests_of ys))
 
@@ -34,7 +34,7 @@ IsNextAnswered answers s text after xs ys = (ask : Ask) × ComesFirst ask xs ys 
 abbrev pub NothingComes : {S : Type 0} → Option RequestFault → S → S → List ℕ → Type 0
 NothingComes fault s after xs = NoneComes fault xs × (after ≡ s)
 
--- a request, but a `last`, comes to what is pending
+-- a request, but a `last`, has this pending
 pub record AsksPending (settings : Settings) (s : State) (ask : Ask) (p : Pending) : Type 0 where
   pub pending : IsPending settings s ask p
   pub due : IsPendingDue s ask p

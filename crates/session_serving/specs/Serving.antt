@@ -34,7 +34,7 @@ AreAnswered {S = S} answers s (ask ∷ asks) text after =
     (answer : List ℕ) × (next : S) × (rest : List ℕ)
     × (text ≡ answer ++ rest) × answers s ask answer next × AreAnswered answers next asks rest after
 
--- the answers where memory never runs out, each over what the ones before it left
+-- the answers if memory never runs out, each over what the ones before it left
 abbrev pub answers_in_turn : Settings → State → List Ask → List ℕ
 answers_in_turn settings s [] = []
 answers_in_turn settings s (ask ∷ asks) = turn_reply_text (turn settings s ask).reply ++ answers_in_turn settings (turn settings s ask).after asks
@@ -46,7 +46,7 @@ state_after settings s (ask ∷ asks) = state_after settings (turn settings s as
 
 -- ---- all of an input
 
--- the requests before the first `q`, which has no answer, and behind which nothing is read
+-- the requests before the first `q`, which has no answer, and after which nothing is read
 abbrev pub until_quit : List Ask → List Ask
 until_quit [] = []
 until_quit (Quit ∷ asks) = []
@@ -80,7 +80,7 @@ IsServed answers fault old bytes new before after =
 
 -- ---- sessions that are cut short
 
--- where a write failed: in the answer of the next request, which was done, or in what is written last
+-- a write failed: in the answer of the next request, which was done, or in what is written last
 abbrev pub IsAnswerCutAt : {S : Type 0} → Answering S → Option RequestFault → S → List Ask → List ℕ → S → Type 0
 IsAnswerCutAt answers fault s [] part after = (left : List ℕ) × (part ++ left ≡ end_text fault) × (after ≡ s)
 IsAnswerCutAt answers fault s (ask ∷ asks) part after = (left : List ℕ) × answers s ask (part ++ left) after
@@ -92,7 +92,7 @@ IsCutOff {S = S} answers old bytes new before after =
     × (until_quit (requests_of bytes).asks ≡ heard ++ rest) × AreAnswered answers old heard text mid
     × IsAnswerCutAt answers (end_fault_of (requests_of bytes)) mid rest part new × Appends before after (text ++ part)
 
--- they were, and then a read failed, where one may; or they are 2^64 - 1
+-- they were, and then a read failed, if one may; or they are 2^64 - 1
 abbrev pub IsUnread : {S : Type 0} → Type 0 → Answering S → S → List ℕ → S → Option (List ℕ) → Option (List ℕ) → Type 0
 IsUnread may_fail answers old bytes new before after =
     (heard : List Ask) × (rest : List Ask) × (text : List ℕ)

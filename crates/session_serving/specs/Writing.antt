@@ -4,13 +4,13 @@ use Rattle.std.specs.Io.KnownBytes.{Appends}
 use Rattle.byte_streams.specs.Written.{AtMostAs}
 use Rattle.byte_streams.specs.declared.fault.WriteFault.{WriteFault}
 
--- a text was written in whole, or a beginning of it where a write failed
+-- a text was written in whole, or a beginning of it if a write failed
 abbrev pub Says : {X E : Type 0} → Result X E → Option (List ℕ) → Option (List ℕ) → List ℕ → Type 0
 Says (Ok x) before after text = Appends before after text
 Says (Err e) before after text = (part : List ℕ) × (left : List ℕ) × (part ++ left ≡ text) × Appends before after part
 
 -- a text was written in whole and flushed; or it was refused as it might be, and a beginning of it was written. Whatever may be
--- refused behind it might be refused before it
+-- refused after it might be refused before it
 pub record PrintsText {S X : Type 0} (contents : S → Option (List ℕ)) (may_refuse : S → WriteFault → Type 0) (is_flushed : S → Type 0) (result : Result X WriteFault) (old new : S) (text : List ℕ) : Type 0 where
   pub says : Says result (contents old) (contents new) text
   pub flushed : OnOk result (is_flushed new)

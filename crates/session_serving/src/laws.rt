@@ -9,7 +9,7 @@ ghost use Rattle.session_turns.specs.declared.refusal.Failure.{Failure};
 ghost use Rattle.session_turns.specs.declared.settings.Settings.{Settings};
 ghost use Rattle.session_turns.specs.declared.state.State.{State};
 
-/// A law, and no code: where memory did not run out, what a session wrote is the answers one after another, each over what
+/// A law, and no code: if memory did not run out, what a session wrote is the answers one after another, each over what
 /// the ones before it left, and the session is as all of them leave it. So equal requests and settings have equal answers.
 #[tactic(auto, using(crate::proofs::Folds::wanted_fold))]
 pub fn session_is_a_fold()

@@ -69,7 +69,7 @@ pub fn serve<R: BufferedSource, M: Session, C: CallRunner, W: Destination>(
     ensures refused { IfErr result (MayEnd (W.may_refuse out.old)) }
 {
     for answers in 0..u64::MAX {
-        let asked = match next_behind(alloc, input, settings.frame_limit, answers, out) {
+        let asked = match read_after_flush(alloc, input, settings.frame_limit, answers, out) {
             Ok(asked) => asked,
             Err(io::Error { .. }) => return Err(ServeFault::Unreadable),
         };
@@ -88,7 +88,7 @@ pub fn serve<R: BufferedSource, M: Session, C: CallRunner, W: Destination>(
 }
 
 /// Reads the next request, as `next_request` does, after so many answers to a writer, the last of which is flushed.
-fn next_behind<R: BufferedSource, W: Destination>(
+fn read_after_flush<R: BufferedSource, W: Destination>(
     alloc: Global,
     input: &mut R,
     frame_limit: u64,

@@ -19,7 +19,7 @@ use session_turns::{
 };
 use std::io;
 
-/// Writes an answer in the state that it leaves, and flushes it. Refused where a write failed: a beginning of the answer was
+/// Writes an answer in the state that it leaves, and flushes it. Refused if a write failed: a beginning of the answer was
 /// written. Takes no memory.
 pub fn write_answer<W: Destination>(
     state: &State,
@@ -46,7 +46,7 @@ pub fn write_answer<W: Destination>(
     }
 }
 
-/// Writes the answer that is kept of the last frame, or the refusal where there is none.
+/// Writes the answer that is kept of the last frame, or the refusal if there is none.
 fn print_last<W: Destination>(state: &State, out: &mut W) -> Result<(), WriteFault>
     ensures { PrintsText W.contents W.may_refuse W.is_flushed result out.old out.new (turn_reply_text (last_reply state.now.last)) }
 {
@@ -67,7 +67,7 @@ fn print_kept<W: Destination>(kept: &KeptAnswer, out: &mut W) -> Result<(), Writ
     write_both(line.as_str().as_bytes(), bytes_of_kept(kept), out)
 }
 
-/// Writes the text of the session's storage behind a line with its length.
+/// Writes the text of the session's storage after a line with its length.
 fn print_storage<W: Destination>(
     state: &State,
     buffer: EmptyBuffer,
@@ -86,7 +86,7 @@ fn print_storage<W: Destination>(
     }
 }
 
-/// Answers bytes that are no request: writes the refusal, and flushes it. Refused where a write failed.
+/// Answers bytes that are no request: writes the refusal, and flushes it. Refused if a write failed.
 pub(crate) fn print_end<W: Destination>(fault: RequestFault, out: &mut W) -> Result<(), WriteFault>
     ensures { PrintsText W.contents W.may_refuse W.is_flushed result out.old out.new (end_text (Some fault)) }
 {
@@ -94,7 +94,7 @@ pub(crate) fn print_end<W: Destination>(fault: RequestFault, out: &mut W) -> Res
     print(line.as_str().as_bytes(), out)
 }
 
-/// Writes a line and the bytes behind it, and flushes them.
+/// Writes a line and the bytes after it, and flushes them.
 pub fn write_both<W: Destination>(line: &[u8], bytes: &[u8], out: &mut W) -> Result<(), WriteFault>
     ensures { PrintsText W.contents W.may_refuse W.is_flushed result out.old out.new (line.now ++ bytes.now) }
 {

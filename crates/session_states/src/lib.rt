@@ -11,4 +11,4 @@ pub use fault::StoreFault;
 pub use laws::kept_state_is_one;
 pub use loader::ProgramLoader;
 pub use loading::{LoadFault, Loaded, load_state};
-pub use rows::{has_settings, row_of};
+pub use rows::row_of;

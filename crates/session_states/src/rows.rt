@@ -22,7 +22,7 @@ pub fn row_of(settings: Settings, rules: Rules, height: u64, digest: [u8; 32]) -
 }
 
 /// Whether a row keeps these settings.
-pub fn has_settings(settings: &Settings, row: &SessionRow) -> bool
+pub(crate) fn has_settings(settings: &Settings, row: &SessionRow) -> bool
     ensures same { IsTrue result → HasSettings settings.now row.now }
     ensures other { result ≡ false → ¬ HasSettings settings.now row.now }
 {

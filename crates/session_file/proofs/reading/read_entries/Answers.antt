@@ -1,9 +1,8 @@
-use Rattle.std.proofs.Common.{◌≡◌, ◌∷◌, arith, rules, sym, ap, ◌∙◌, refl, subst}
+use Rattle.std.proofs.Common.{◌≡◌, arith, rules, sym, ap, ◌∙◌, refl, subst}
 use Rattle.std.specs.FinMap.{entries}
 use Rattle.std.proofs.lemmas.Result.{err_from_is_err_and}
 use Rattle.sqlite_value.specs.Order.{bytes, column}
-use Rattle.sqlite_trees.specs.View.{View, IsClean}
-use Rattle.sqlite_exec.specs.Loops.{left_of}
+use Rattle.sqlite_trees.specs.View.{View}
 use Rattle.sqlite_exec.proofs.CheckLemmas as lemma
 use Rattle.session_tree.specs.Entries.{entry_row}
 use Rattle.session_file.specs.Rows.{HasNoEntries, IsAbove}
