@@ -52,7 +52,7 @@ fn key_count(store: &Store) -> u64
 fn push_settings<W: Destination>(text: &mut TextBuffer, settings: Settings, out: &mut W)
     ensures { Appended W.contents W.may_refuse text.old out.old text.new out.new (
         number_line (codes "frame-limit") settings.frame_limit
-        ++ line_of (codes "frame-gas") (number_or_none settings.frame_gas ∷ [])
+        ++ line_of (codes "frame-gas") (number_text_or_none settings.frame_gas ∷ [])
         ++ number_line (codes "brief") (if settings.is_brief then 1 else 0)) }
 {
     push_number(text, b"frame-limit", settings.frame_limit, out);
