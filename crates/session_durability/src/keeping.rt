@@ -1,6 +1,6 @@
 //! Keeping what is pending: on the disk first, and then in memory.
 
-ghost use Rattle.session_turns.specs.Pending.{IsPendingMade, IsNewProgram, MayWantRoom};
+ghost use Rattle.session_turns.specs.Pending.{IsNewProgram};
 ghost use Rattle.session_serving.specs.Asking.{IsStorable};
 ghost use Rattle.session_durability.specs.Keeping.{IsFoundBehind, IsKeptIn, KeepsPending};
 
