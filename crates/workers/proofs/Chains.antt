@@ -10,7 +10,7 @@ use Rattle.rv_ledger.specs.declared.job.Job.{Job}
 use Rattle.stm_state.specs.Steps as steps
 use Rattle.workers.specs.History.{HasLimit, HasStepLimit}
 use Rattle.workers.specs.declared.chain.ChainFault.{ChainFault}
-use Rattle.workers.specs.declared.chain.ChainFault.TheVariants.{Run, TooManyCalls}
+use Rattle.workers.specs.declared.chain.ChainFault.TheVariants.{Run}
 use Rattle.workers.specs.declared.fault.RunFault.{RunFault}
 use Rattle.workers.specs.declared.fault.RunFault.TheVariants as faults
 use Rattle.workers.specs.Chain.{IsBlockAnswer, IsChain, calls_run, store_left}
@@ -36,14 +36,6 @@ refused_block {X} job workers answer fault is short some few bad_count full limi
       (λ e. subst (λ (r : Result X RunFault). IfErr r (λ f. f ≡ faults.IncarnationLimit → HasLimit job workers steps.IncarnationLimit)) is limit (run_is fault faults.IncarnationLimit e)),
       (λ e. subst (λ (r : Result X RunFault). IfErr r (λ f. f ≡ faults.StepLimit → HasStepLimit job workers None)) is step_limit (run_is fault faults.StepLimit e)),
     )
-
--- a block whose calls are run is refused neither as TooManyCalls nor as BadCount
-pub not_refused_before : (store : Storage) (calls : List Invocation) (workers : ℕ) (answer : Result (Vec Receipt) ChainFault) → IsBlockAnswer store calls workers answer
-    → length calls ≤ 1024 → 1 ≤ workers → workers ≤ 32 → (answer ≡ Err TooManyCalls) ⊎ (answer ≡ Err (Run faults.BadCount)) → ⊥
-not_refused_before store calls workers answer h short some few (inl e) = let long = (subst (IsBlockAnswer store calls workers) e h).0.0 refl in omega (arith, short, long)
-not_refused_before store calls workers answer h short some few (inr e) =
-    let bad = (subst (IsBlockAnswer store calls workers) e h).1.0 refl in
-    elim bad.1 [ inl none ↦ omega (arith, none, some) | inr many ↦ omega (arith, many, few) ]
 
 -- blocks after blocks
 chain_append : (blocks more : List (Vec Invocation × ℕ)) (answers others : List (Result (Vec Receipt) ChainFault)) (store middle last : Storage)

@@ -8,6 +8,6 @@ pub mod Histories
 pub mod Limits
 pub mod Chains
 pub mod Ways
-pub mod Working
+pub mod Steps
 pub mod CountsAlong
 pub mod Runs

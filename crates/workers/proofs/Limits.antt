@@ -105,37 +105,15 @@ module _ (job : Job) (before after : BookState) (share left : Share) (of : IsBoo
       subst (λ (c : Counts). Adds step c left.counts) (sym is.owes.agrees.counts)
       (subst (λ (c : Counts). Adds step (get_or b.state.counts w no_counts) c) (sym same) turn)
 
-  asking_made : (owed : NextStep) → IsMade owed Ask before after share left → KeepsLimit share.work_limit share.counts → KeepsLimit left.work_limit left.counts
+  pub asking_made : (owed : NextStep) → IsMade owed Ask before after share left → KeepsLimit share.work_limit share.counts → KeepsLimit left.work_limit left.counts
   asking_made owed is kept =
       subst (λ limit. KeepsLimit limit left.counts) (sym is.limit) (asking_keeps share.work_limit share.counts left.counts (made_by_share owed Ask is) kept)
 
-  step_made : (owed : NextStep) (step : Step) → step ≢ Ask → IsMade owed step before after share left → (IsSpent share.work_limit share.counts → ⊥)
+  pub step_made : (owed : NextStep) (step : Step) → step ≢ Ask → IsMade owed step before after share left → (IsSpent share.work_limit share.counts → ⊥)
       → KeepsLimit left.work_limit left.counts
   step_made owed step not is on =
       subst (λ limit. KeepsLimit limit left.counts) (sym is.limit)
       (step_keeps share.work_limit share.counts left.counts (adds_step step share.counts left.counts not (made_by_share owed step is)) on)
-
--- an asking keeps the limit that its worker kept
-pub ask_keeps : (job : Job) (share left : Share) (answer : Result Asked RunFault) → IsAskAnswer job share left answer
-    → OnOk answer (KeepsLimit share.work_limit share.counts → KeepsLimit left.work_limit left.counts)
-ask_keeps job share left (Ok asked) h = asking_made job h.0 h.1 share left h.2 _ h.3.0
-ask_keeps job share left (Err fault) h = tt
-
--- any other step of a worker that may make one keeps its limit
-pub make_keeps : (job : Job) (kind : StepKind) (call n : ℕ) (share left : Share) (answer : Result NextStep RunFault) → IsMakeAnswer job kind call n share left answer
-    → OnOk answer ((IsSpent share.work_limit share.counts → ⊥) → KeepsLimit left.work_limit left.counts)
-make_keeps job kind call n share left (Ok next) h = step_made job h.0 h.1 share left h.2 _ (step_of kind) (no_asking kind) h.3.0
-make_keeps job kind call n share left (Err fault) h = tt
-
-pub read_keeps : (job : Job) (key : List ℕ) (call n : ℕ) (share left : Share) (answer : Result ReadResult RunFault) → IsReadAnswer job key call n share left answer
-    → OnOk answer ((IsSpent share.work_limit share.counts → ⊥) → KeepsLimit left.work_limit left.counts)
-read_keeps job key call n share left (Ok read) h = step_made job h.0 h.1 share left h.2 _ (ReadKey key) (λ e. cc) h.3.0
-read_keeps job key call n share left (Err fault) h = tt
-
-pub record_keeps : (job : Job) (call n : ℕ) (share left : Share) (answer : Result NextStep RunFault) → IsRecordAnswer job call n share left answer
-    → OnOk answer ((IsSpent share.work_limit share.counts → ⊥) → KeepsLimit left.work_limit left.counts)
-record_keeps job call n share left (Ok next) h = step_made job h.1 h.2 share left h.3 _ Record (λ e. cc) h.4.0
-record_keeps job call n share left (Err fault) h = tt
 
 -- ---- shares
 
@@ -146,9 +124,3 @@ none_kept (Some limit) = omega arith
 
 pub new_within : (limit : Option ℕ) (worker : ℕ) (share : Share) → counts_of_share share ≡ zero_counts worker → share.work_limit ≡ limit → IsWithinLimit limit share
 new_within limit worker share new is = (is, subst (KeepsLimit limit) (sym (ap (λ told. told.counts) new)) (none_kept limit))
-
--- another share with the same counts and the same limit keeps it too
-pub same_keeps : (share other : Share) → counts_of_share other ≡ counts_of_share share → other.work_limit ≡ share.work_limit → KeepsLimit share.work_limit share.counts
-    → KeepsLimit other.work_limit other.counts
-same_keeps share other counts limit kept =
-    subst (λ x. KeepsLimit x other.counts) (sym limit) (subst (KeepsLimit share.work_limit) (sym (ap (λ told. told.counts) counts)) kept)

@@ -19,9 +19,9 @@ use Rattle.workers.specs.declared.executor.GivesBack.{GivesBack}
 use Rattle.workers.specs.declared.fault.OutsideFault.TheVariants as outside
 use Rattle.workers.specs.declared.fault.RunFault.{RunFault}
 use Rattle.workers.specs.declared.fault.RunFault.TheVariants as faults
-use Rattle.workers.specs.declared.worker.WorkFault.{WorkFault}
-use Rattle.workers.specs.declared.worker.WorkFault.TheVariants.{Met, Refused}
-use Rattle.workers.specs.Book.{BookState, FaultFits, IsAsked, IsMakeCall, IsReadCall, IsSpent, IsStepCall, IsStopped, TellsNext, counts_of_share, first_fault, owed_by}
+use Rattle.workers.specs.declared.worker.ended.WorkFault.{WorkFault}
+use Rattle.workers.specs.declared.worker.ended.WorkFault.TheVariants.{Met, Refused}
+use Rattle.workers.specs.Book.{BookState, FaultFits, IsAsked, IsMakeCall, IsReadCall, IsSpent, IsStepCall, IsStopped, KeepsLimit, TellsNext, counts_of_share, first_fault, owed_by}
 use Rattle.workers.specs.Settle.{IsGivenBack}
 
 -- a book is of a job: it has that job, some list of worker steps leads to its state, and its fault is true of its core
@@ -46,6 +46,40 @@ IsReadAnswer job key call n share counted answer = (before : BookState) × (afte
 abbrev pub IsRecordAnswer : Job → ℕ → ℕ → Share → Share → Result NextStep RunFault → Type 0
 IsRecordAnswer job call n share counted answer = (run : EndedRun) × (before : BookState) × (after : BookState) × IsBookOf job before
     × IsStepCall (next_step.Run call n) Record (IsOwn share.worker run before.core) (IsTaken share.worker Record before.core) (TellsNext after share counted) before after share counted answer
+
+-- ---- what a step leaves of the share
+
+-- it is the same worker's, within the same limit
+pub record IsSameWorkers (share left : Share) : Type 0 where
+  pub worker : left.worker ≡ share.worker
+  pub limit : left.work_limit ≡ share.work_limit
+
+-- the same, and so many asks were answered Done; if the limit was kept, it still is
+pub record IsKept (count : ℕ) (share left : Share) : Type 0 where
+  pub same : IsSameWorkers share left
+  pub dones : left.dones ≡ count
+  pub keeps : KeepsLimit share.work_limit share.counts → KeepsLimit left.work_limit left.counts
+
+-- what is left after steps, with so many asks answered Done by what they return; where they are refused, they count what they made
+abbrev pub Leaves : {X E : Type 0} → (X → ℕ) → Share → Share → Result X E → Type 0
+Leaves dones share left (Ok x) = IsKept (dones x) share left
+Leaves dones share left (Err fault) = IsSameWorkers share left
+
+-- what is left after steps of which no ask is answered Done
+abbrev pub Steps : {X E : Type 0} → Share → Share → Result X E → Type 0
+Steps share left result = Leaves (λ _. share.dones) share left result
+
+-- what is left after a step that may be an ask: it is answered Done where none is owed then
+abbrev pub dones_by : ℕ → Option NextStep → ℕ
+dones_by n None = n + 1
+dones_by n (Some next) = n
+
+abbrev pub Ends : {E : Type 0} → Share → Share → Result (Option NextStep) E → Type 0
+Ends share left result = Leaves (dones_by share.dones) share left result
+
+-- a look at the cell changes the pass alone
+abbrev pub Looks : Share → Share → Type 0
+Looks share left = left ≡ record share { pass = left.pass }
 
 -- ---- the step that a worker makes next
 

@@ -14,7 +14,7 @@ pub use asked::{AllDone, Asked};
 use rv_ledger::{Job, Key, LentValue, StoredValue};
 use scheduler::COUNT_LIMIT;
 pub use share::Share;
-use share::is_spent;
+use share::counts_are_spent;
 use std::marker::{Brand, Model, PhantomData};
 use stm_core::{AskResult, Core, JobSource, NextStep, ReadResult, StepKind};
 pub(crate) use written::MetFault;
@@ -169,7 +169,7 @@ impl<J: JobName, H: JobSource> Book<J, H> {
         ensures fault { IsStopped self.old.fault self.old.work_limit share.now self.old.core result }
         ensures written { self.new ≡ record self.old { fault = Some result } }
     {
-        if !self.agrees(share) || !is_spent(self.work_limit, share.counts) {
+        if !self.agrees(share) || !counts_are_spent(self.work_limit, share.counts) {
             return self.write(RunFault::Foreign);
         }
         self.write(RunFault::StepLimit)
@@ -219,7 +219,7 @@ impl<J: JobName, H: JobSource> Book<J, H> {
         ensures { IsReadCall key.now call incarnation self.old self.new share.old share.new result }
     {
         let base = StoredValue::value_of(self.core.source().content(key));
-        self.read_over(
+        self.read_with_base(
             share,
             call,
             incarnation,
@@ -230,7 +230,7 @@ impl<J: JobName, H: JobSource> Book<J, H> {
 
     /// The same, where the caller has looked up what the storage before the block has at the key, and lends it.
     #[tactic(auto, using(crate::proofs::Stays::stays, crate::proofs::Causes::unready_cause))]
-    pub(crate) fn read_over(
+    pub(crate) fn read_with_base(
         &mut self,
         share: &mut Share,
         call: u16,

@@ -273,7 +273,7 @@ impl Promise<Result<Share, WrittenFault>> for GivesBack {
 /// The handle of a thread that runs for a share.
 type Thread = PromisedHandle<Result<Share, WrittenFault>, GivesBack>;
 
-/// The shares that the threads give back, as `run_threads` returns them; none where it is refused.
+/// The shares that the threads give back, as `run_each_share` returns them; none where it is refused.
 #[tactic(auto, using(crate::proofs::GivenBack::none_left, crate::proofs::GivenBack::all_left, crate::proofs::GivenBack::all_keep))]
 fn shares_back<
     J: JobName + Send + Sync,
@@ -294,7 +294,7 @@ fn shares_back<
     ensures left { AreLeft work_limit (length shares.items) result.items }
     ensures within { All (λ share. KeepsLimit work_limit share.counts) result.items }
 {
-    match run_threads(rt, alloc, shared, shares, gate, work_limit) {
+    match run_each_share(rt, alloc, shared, shares, gate, work_limit) {
         Ok(back) => back,
         Err(_) => Vec::new(alloc),
     }
@@ -302,7 +302,7 @@ fn shares_back<
 
 /// Runs a thread for each share, all of one limit, and waits for all of them. Returns all their shares, or a fault that
 /// stands written: that of a thread, Spawn where the system refuses a thread, and Memory where memory ran out.
-fn run_threads<
+fn run_each_share<
     J: JobName + Send + Sync,
     H: JobSource + Send + Sync,
     R: Threads + Wait + Sync,

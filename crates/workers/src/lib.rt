@@ -10,7 +10,6 @@ mod fault;
 mod gate;
 mod on_storage;
 mod patience;
-mod reading;
 mod shared;
 mod worker;
 

@@ -11,7 +11,7 @@ use crate::done_cell::DoneCell;
 use crate::fault::OutsideFault;
 use crate::gate::Spin;
 use crate::patience::spin_for;
-use rv_ledger::Job;
+use rv_ledger::{Call, Job};
 use std::alloc::{AllocError, Global};
 use std::marker::Brand;
 use std::sync::{Mutex, MutexGuard, Wait};
@@ -58,7 +58,7 @@ impl<J: JobName> Shared<J> {
 }
 
 impl<J: JobName, H: JobSource> Shared<J, H> {
-    ghost use Rattle.std.specs.Prelude.{◌≡◌, [], length, map, All, IfErr, IfOk};
+    ghost use Rattle.std.specs.Prelude.{◌≡◌, ◌<◌, [], Some, length, map, slice_get, All, IfErr, IfOk};
     ghost use Rattle.workers.specs.Book.{IsWithinLimit, zero_counts_of_all, counts_of_share, outside_fault};
     ghost use Rattle.workers.specs.Work.{IsWrittenOver};
     ghost use Rattle.workers.specs.DoneCell.{IsPassOf};
@@ -94,6 +94,15 @@ impl<J: JobName, H: JobSource> Shared<J, H> {
     pub fn into_book(self) -> Book<J, H> {
         let Shared { lock, .. } = self;
         lock.into_inner()
+    }
+
+    /// The call of the job with an index.
+    #[inline(always)]
+    pub(crate) fn call(&self, index: u16) -> &Call
+        requires { index < length J.job.block }
+        ensures { slice_get J.job.block index ≡ Some result.now }
+    {
+        &self.job.calls()[usize::from(index)]
     }
 
     /// Takes the lock for a step of a worker.

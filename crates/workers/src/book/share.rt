@@ -60,7 +60,7 @@ impl Share {
     pub(crate) fn is_spent(&self) -> bool
         ensures { (result ≡ true) ↔ IsSpent self.now.work_limit self.now.counts }
     {
-        is_spent(self.work_limit, self.counts)
+        counts_are_spent(self.work_limit, self.counts)
     }
 
     /// How many asks of the worker were answered Done.
@@ -74,7 +74,7 @@ impl Share {
 /// Whether a worker of these counts makes no further step: it has made 2^64 - 1 of them or, where there is a limit, so many
 /// that are no asks.
 #[inline(always)]
-pub(super) fn is_spent(work_limit: Option<u64>, counts: Counts) -> bool
+pub(super) fn counts_are_spent(work_limit: Option<u64>, counts: Counts) -> bool
     ensures { (result ≡ true) ↔ IsSpent work_limit counts }
 {
     match work_limit {

@@ -1,0 +1,29 @@
+//! Why a worker ends before all is done.
+
+ghost use Rattle.std.specs.Prelude.{◌≡◌};
+
+use crate::book::{MetFault, WrittenFault};
+
+/// Why a worker makes no further step. The fault is written.
+#[derive(Clone, Copy, Debug)]
+pub(crate) enum WorkFault {
+    /// A step call was refused.
+    Refused(WrittenFault),
+    /// A fault was met outside the lock.
+    Met(MetFault),
+}
+
+impl WorkFault {
+    ghost use Rattle.std.specs.Prelude.{◌≡◌};
+    ghost use Rattle.workers.specs.Work.{fault_of};
+
+    /// The fault that stands written.
+    pub(super) fn written_fault(self) -> WrittenFault
+        ensures { result ≡ fault_of self }
+    {
+        match self {
+            WorkFault::Refused(written) => written,
+            WorkFault::Met(fault) => fault.written(),
+        }
+    }
+}
