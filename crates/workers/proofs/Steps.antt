@@ -17,7 +17,7 @@ use Rattle.workers.specs.declared.book.share.Share.{Share}
 use Rattle.workers.specs.declared.fault.RunFault.{RunFault}
 use Rattle.workers.specs.declared.worker.ended.WorkFault.{WorkFault}
 use Rattle.workers.specs.Book.{BookState, IsAsked, IsCause, IsMade, IsSpent, LeavesWritten, Owes, owed_by}
-use Rattle.workers.specs.Work.{IsAskAnswer, IsBlocked, IsBookOf, IsKept, IsMakeAnswer, IsNext, IsReadAnswer, IsRecordAnswer, IsRefusedBy, IsSameWorkers, IsStepFault, IsWorkersEnd, Leaves, Looks, Steps, dones_by, fault_of}
+use Rattle.workers.specs.Work.{IsAskAnswer, IsBlocked, IsBookOf, IsKept, IsMakeAnswer, IsNext, IsReadAnswer, IsRecordAnswer, IsRefusedBy, IsSameWorkers, IsStepAnswer, IsStepFault, IsWorkersEnd, Leaves, Looks, Steps, after_step, asks_first, dones_by, fault_of}
 use Rattle.workers.proofs.Askings.{no_asking}
 use Rattle.workers.proofs.Limits.{asking_made, step_made}
 
@@ -135,7 +135,13 @@ pub record_refused : (job : Job) (call n : ℕ) (share left : Share) (fault : Ru
     → IsRefusedBy job (next_step.Run call n) left fault
 record_refused job call n share left fault h = inr (subst (λ (x : Share). IsRecordAnswer job call n x left (Err fault)) (sym h.4.0.kept) h)
 
--- ---- how a worker ends
+-- ---- the steps of a worker, and how it ends
+
+pub first_step : (job : Job) (first : Share) → IsNext job first first next_step.Ask
+first_step job first = asks_first
+
+pub step_after : (job : Job) (first share counted : Share) (step next : NextStep) → IsNext job first share step → IsStepAnswer job step share counted (Some next) → IsNext job first counted next
+step_after job first share counted step next before answer = after_step before answer
 
 pub workers_end : (job : Job) (first before left : Share) (step : NextStep) (met : WorkFault) → IsNext job first before step → IsSameWorkers first before → IsSameWorkers before left
     → IsStepFault job step left met → IsWorkersEnd job first (fault_of met)

@@ -105,9 +105,11 @@ IsStepAnswer job (next_step.Run call n) share counted (Some next) = IsRunAnswer 
 IsStepAnswer job (next_step.Make kind call n) share counted (Some next) = IsMakeAnswer job kind call n share counted (Ok next)
 IsStepAnswer job step share counted None = ⊥
 
--- the step that a worker makes next: at first it asks, and then it makes the step that it owes after the one before
-abbrev pub IsNext : Job → Share → Share → NextStep → Type 0
-IsNext job first counted next = ((next ≡ next_step.Ask) × (counted ≡ first)) ⊎ ((step : NextStep) × (share : Share) × IsStepAnswer job step share counted (Some next))
+-- the step that a worker makes next: at first it asks, and then it makes the step that it owes after the one before, which it made
+-- by this rule too
+pub data IsNext (job : Job) (first : Share) : Share → NextStep → Type 0 where
+  asks_first : IsNext job first first next_step.Ask
+  after_step : {share counted : Share} {step next : NextStep} → IsNext job first share step → IsStepAnswer job step share counted (Some next) → IsNext job first counted next
 
 -- ---- why a worker ends with a fault
 

@@ -107,6 +107,7 @@ impl<J: JobName, H: JobSource, R: Wait, G: Gate, S: Spin + Drop> Worker<'_, J, H
     }
 
     /// Makes steps until an ask is answered Done. Refused as `work` is.
+    #[tactic(auto, using(crate::proofs::Steps::first_step, crate::proofs::Steps::step_after))]
     fn make_steps(&mut self) -> Result<(), WorkFault>
         ensures steps { Leaves (λ _. self.old.share.dones + 1) self.old.share self.new.share result }
         ensures shown { OnOk result (cell_view self.new.share.pass ≡ 1) }

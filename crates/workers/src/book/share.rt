@@ -7,7 +7,7 @@ use crate::done_cell::DonePass;
 use rv_ledger::Counts;
 
 /// A worker's share of the counts, with its pass of the block's cell. The counts start at zero, and only the
-/// step calls of `Book` change them. Where there is a limit, the worker stops behind so many steps, asks aside.
+/// step calls of `Book` change them. Where there is a limit, the worker stops after so many steps, asks aside.
 #[derive(Drop)]
 pub struct Share {
     pub(super) worker: usize,
