@@ -1,25 +1,20 @@
 -- What a worker's step adds to its counts, and that it keeps its limit.
-use Rattle.std.proofs.Common.{◌≡◌, ◌≢◌, ◌<◌, ◌≤◌, ◌+◌, nat_lt, ℕ, List, length, get_or, set, Option, None, Some, Result, Ok, Err, OnOk, arith, refl, sym, ap, subst, ◌∙◌, inr}
+use Rattle.std.proofs.Common.{◌≡◌, ◌≢◌, ◌<◌, ◌≤◌, ◌+◌, nat_lt, ℕ, length, get_or, set, Option, None, Some, Ok, arith, refl, sym, ap, subst, ◌∙◌, inr}
 use Rattle.std.proofs.lemmas.Bool.{cond_both}
 use Rattle.std.proofs.lemmas.List.{get_or-set_same}
 use Rattle.rv_ledger.specs.declared.job.Job.{Job}
 use Rattle.rv_ledger.specs.declared.outcome.Counts.{Counts}
 use Rattle.stm_state.specs.State.{State, is_done, no_counts}
-use Rattle.stm_state.specs.Steps.{Block, Step, Ask, ReadKey, Record, after_ask, after_decide, after_finish_abort, after_finish_execution, after_check_read, after_mark_estimate, after_move_key, after_park, after_read_key, after_record, ask_execution, ask_validation, count_done, counted, one_asking, one_execution, one_step, one_validation}
+use Rattle.stm_state.specs.Steps.{Block, Step, Ask, after_ask, after_decide, after_finish_abort, after_finish_execution, after_check_read, after_mark_estimate, after_move_key, after_park, after_read_key, after_record, ask_execution, ask_validation, count_done, counted, one_asking, one_execution, one_step, one_validation}
 use Rattle.stm_state.proofs.StepsByTask as cases
 use Rattle.stm_state.proofs.StepsByTask.{by_ask, by_read, by_park, by_record, by_move, by_finish, by_check, by_decide, by_mark, by_abort, made}
 use Rattle.stm_state.proofs.Counted.{aborted_silent, ask_execution_silent, ask_validation_silent, checked_silent, decided_silent, executed_silent, parked_silent}
 use Rattle.stm_state.proofs.InvariantKept.{invariant_kept}
-use Rattle.stm_core.specs.CoreState.{block_in, step_of}
+use Rattle.stm_core.specs.CoreState.{block_in}
 use Rattle.stm_core.specs.declared.next_step.NextStep.{NextStep}
-use Rattle.stm_core.specs.declared.next_step.ReadResult.{ReadResult}
-use Rattle.stm_core.specs.declared.next_step.StepKind.{StepKind}
-use Rattle.workers.proofs.Askings.{no_asking}
-use Rattle.workers.specs.declared.book.asked.Asked.{Asked}
 use Rattle.workers.specs.declared.book.share.Share.{Share}
-use Rattle.workers.specs.declared.fault.RunFault.{RunFault}
 use Rattle.workers.specs.Book.{BookState, IsMade, IsSpent, IsWithinLimit, KeepsLimit, counts_of_share, zero_counts}
-use Rattle.workers.specs.Work.{IsAskAnswer, IsBookOf, IsMakeAnswer, IsReadAnswer, IsRecordAnswer}
+use Rattle.workers.specs.Work.{IsBookOf}
 
 -- one step more, which is no asking
 abbrev AddsStep : Counts → Counts → Type 0

@@ -1,5 +1,5 @@
 -- What a worker's step leaves of its share, and why the worker ends.
-use Rattle.std.proofs.Common.{◌≡◌, ◌+◌, ◌↔◌, Bool, true, false, ℕ, List, Result, Ok, Err, IfOk, IfErr, OnOk, Option, None, Some, inl, inr, refl, sym, ap, subst, ◌∙◌}
+use Rattle.std.proofs.Common.{◌≡◌, ◌↔◌, Bool, true, false, ℕ, List, Result, Ok, Err, IfOk, IfErr, OnOk, Some, inl, inr, refl, sym, ap, subst, ◌∙◌}
 use Rattle.std.specs.Bool.{⊤}
 use Rattle.rv_ledger.specs.declared.job.Job.{Job}
 use Rattle.rv_step.specs.declared.ended_run.EndedRun.{EndedRun}
@@ -9,7 +9,6 @@ use Rattle.stm_core.specs.CoreState.{IsOwn, IsTaken, next_step_of, step_of}
 use Rattle.stm_core.specs.declared.next_step.NextStep.{NextStep}
 use Rattle.stm_core.specs.declared.next_step.NextStep.TheVariants as next_step
 use Rattle.stm_core.specs.declared.next_step.ReadResult.{ReadResult}
-use Rattle.stm_core.specs.declared.next_step.ReadResult.TheVariants as read_result
 use Rattle.stm_core.specs.declared.next_step.StepKind.{StepKind}
 use Rattle.workers.specs.declared.book.asked.Asked.{Asked}
 use Rattle.workers.specs.declared.book.asked.Asked.TheVariants as asks
@@ -17,7 +16,7 @@ use Rattle.workers.specs.declared.book.share.Share.{Share}
 use Rattle.workers.specs.declared.fault.RunFault.{RunFault}
 use Rattle.workers.specs.declared.worker.ended.WorkFault.{WorkFault}
 use Rattle.workers.specs.Book.{BookState, IsAsked, IsCause, IsMade, IsSpent, LeavesWritten, Owes, owed_by}
-use Rattle.workers.specs.Work.{IsAskAnswer, IsBlocked, IsBookOf, IsKept, IsMakeAnswer, IsNext, IsReadAnswer, IsRecordAnswer, IsRefusedBy, IsSameWorkers, IsStepAnswer, IsStepFault, IsWorkersEnd, Leaves, Looks, Steps, after_step, asks_first, dones_by, fault_of}
+use Rattle.workers.specs.Work.{IsAskAnswer, IsBookOf, IsKept, IsMakeAnswer, IsNext, IsReadAnswer, IsRecordAnswer, IsRefusedBy, IsSameWorkers, IsStepAnswer, IsStepFault, IsWorkersEnd, Looks, Steps, after_step, asks_first, dones_by, fault_of}
 use Rattle.workers.proofs.Askings.{no_asking}
 use Rattle.workers.proofs.Limits.{asking_made, step_made}
 

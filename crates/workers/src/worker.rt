@@ -167,7 +167,12 @@ impl<J: JobName, H: JobSource, R: Wait, G: Gate, S: Spin + Drop> Worker<'_, J, H
     }
 
     /// Makes a step of the worker's task that takes nothing else, if it may make one. Returns the step that it owes then.
-    fn make_task_step(&mut self, kind: StepKind, call: u16, incarnation: u16) -> Result<NextStep, WorkFault>
+    fn make_task_step(
+        &mut self,
+        kind: StepKind,
+        call: u16,
+        incarnation: u16,
+    ) -> Result<NextStep, WorkFault>
         ensures answer { IfOk result (λ next. IsMakeAnswer J.job kind call incarnation self.old.share self.new.share (Ok next)) }
         ensures within { IfOk result (λ next. IsWithin (length J.job.block) next) }
         ensures steps { Steps self.old.share self.new.share result }
