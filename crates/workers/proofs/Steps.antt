@@ -16,7 +16,7 @@ use Rattle.workers.specs.declared.book.share.Share.{Share}
 use Rattle.workers.specs.declared.fault.RunFault.{RunFault}
 use Rattle.workers.specs.declared.worker.ended.WorkFault.{WorkFault}
 use Rattle.workers.specs.Book.{BookState, IsAsked, IsCause, IsMade, IsSpent, LeavesWritten, Owes, owed_by}
-use Rattle.workers.specs.Work.{IsAskAnswer, IsBookOf, IsKept, IsMakeAnswer, IsNext, IsReadAnswer, IsRecordAnswer, IsRefusedBy, IsSameWorkers, IsStepAnswer, IsStepFault, IsWorkersEnd, Looks, Steps, after_step, asks_first, dones_by, fault_of}
+use Rattle.workers.specs.Work.{IsAskAnswer, IsBookOf, IsLeftShare, IsMakeAnswer, IsNext, IsReadAnswer, IsRecordAnswer, IsRefusedBy, IsSameWorkers, IsStepAnswer, IsStepFault, IsWorkersEnd, Looks, Steps, after_step, asks_first, dones_by, fault_of}
 use Rattle.workers.proofs.Askings.{no_asking}
 use Rattle.workers.proofs.Limits.{asking_made, step_made}
 
@@ -81,7 +81,7 @@ asked_dones : (job : Job) (share left : Share) (asked : Asked) → IsAskAnswer j
 asked_dones job share left (asks.Done all) h = h.3.1.2
 asked_dones job share left (asks.Owes next) h = h.3.1.1
 
-ask_leaves : (job : Job) (share left : Share) (asked : Asked) → IsAskAnswer job share left (Ok asked) → IsKept (dones_by share.dones (owed_by asked)) share left
+ask_leaves : (job : Job) (share left : Share) (asked : Asked) → IsAskAnswer job share left (Ok asked) → IsLeftShare (dones_by share.dones (owed_by asked)) share left
 ask_leaves job share left asked h = record {
   same = record { worker = h.3.0.worker; limit = h.3.0.limit };
   dones = asked_dones job share left asked h;
@@ -90,13 +90,13 @@ ask_leaves job share left asked h = record {
 
 -- ---- an ask between two looks at the cell
 
-look_kept : (share left : Share) → Looks share left → IsKept share.dones share left
-look_kept share left h = subst (λ (x : Share). IsKept share.dones share x) (sym h) (record { same = record { worker = refl; limit = refl }; dones = refl; keeps = λ kept. kept })
+look_kept : (share left : Share) → Looks share left → IsLeftShare share.dones share left
+look_kept share left h = subst (λ (x : Share). IsLeftShare share.dones share x) (sym h) (record { same = record { worker = refl; limit = refl }; dones = refl; keeps = λ kept. kept })
 
 same_after : (share mid left : Share) → IsSameWorkers share mid → IsSameWorkers mid left → IsSameWorkers share left
 same_after share mid left before after = record { worker = after.worker ∙ before.worker; limit = after.limit ∙ before.limit }
 
-kept_after : (n : ℕ) (share mid left : Share) → IsKept share.dones share mid → IsKept n mid left → IsKept n share left
+kept_after : (n : ℕ) (share mid left : Share) → IsLeftShare share.dones share mid → IsLeftShare n mid left → IsLeftShare n share left
 kept_after n share mid left before after = record {
   same = same_after share mid left before.same after.same;
   dones = after.dones;
@@ -104,18 +104,18 @@ kept_after n share mid left before after = record {
 }
 
 module _ (job : Job) (share asking told left : Share) (asked : Asked) (before : Looks share asking) (h : IsAskAnswer job asking told (Ok asked)) (after : Looks told left) where
-  pub asking_leaves : IsKept (dones_by share.dones (owed_by asked)) share left
+  pub asking_leaves : IsLeftShare (dones_by share.dones (owed_by asked)) share left
   asking_leaves =
       let n = dones_by asking.dones (owed_by asked) in
       let first = look_kept share asking before in
-      let last : IsKept told.dones told left = look_kept told left after in
+      let last : IsLeftShare told.dones told left = look_kept told left after in
       let step = ask_leaves job asking told asked h in
-      let both : IsKept n asking left = record {
+      let both : IsLeftShare n asking left = record {
         same = same_after asking told left step.same last.same;
         dones = last.dones ∙ step.dones;
         keeps = λ kept. last.keeps (step.keeps kept);
       } in
-      subst (λ (d : ℕ). IsKept (dones_by d (owed_by asked)) share left) first.dones (kept_after n share asking left first both)
+      subst (λ (d : ℕ). IsLeftShare (dones_by d (owed_by asked)) share left) first.dones (kept_after n share asking left first both)
 
 -- ---- a call that is refused
 

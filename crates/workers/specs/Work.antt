@@ -55,27 +55,27 @@ pub record IsSameWorkers (share left : Share) : Type 0 where
   pub limit : left.work_limit ≡ share.work_limit
 
 -- the same, and so many asks were answered Done; if the limit was kept, it still is
-pub record IsKept (count : ℕ) (share left : Share) : Type 0 where
+pub record IsLeftShare (count : ℕ) (share left : Share) : Type 0 where
   pub same : IsSameWorkers share left
   pub dones : left.dones ≡ count
   pub keeps : KeepsLimit share.work_limit share.counts → KeepsLimit left.work_limit left.counts
 
 -- what is left after steps, with so many asks answered Done by what they return; where they are refused, they count what they made
-abbrev pub Leaves : {X E : Type 0} → (X → ℕ) → Share → Share → Result X E → Type 0
-Leaves dones share left (Ok x) = IsKept (dones x) share left
-Leaves dones share left (Err fault) = IsSameWorkers share left
+abbrev pub LeavesShare : {X E : Type 0} → (X → ℕ) → Share → Share → Result X E → Type 0
+LeavesShare dones share left (Ok x) = IsLeftShare (dones x) share left
+LeavesShare dones share left (Err fault) = IsSameWorkers share left
 
 -- what is left after steps of which no ask is answered Done
 abbrev pub Steps : {X E : Type 0} → Share → Share → Result X E → Type 0
-Steps share left result = Leaves (λ _. share.dones) share left result
+Steps share left result = LeavesShare (λ _. share.dones) share left result
 
 -- what is left after a step that may be an ask: it is answered Done where none is owed then
 abbrev pub dones_by : ℕ → Option NextStep → ℕ
 dones_by n None = n + 1
 dones_by n (Some next) = n
 
-abbrev pub Ends : {E : Type 0} → Share → Share → Result (Option NextStep) E → Type 0
-Ends share left result = Leaves (dones_by share.dones) share left result
+abbrev pub StepsOrEnds : {E : Type 0} → Share → Share → Result (Option NextStep) E → Type 0
+StepsOrEnds share left result = LeavesShare (dones_by share.dones) share left result
 
 -- a look at the cell changes the pass alone
 abbrev pub Looks : Share → Share → Type 0

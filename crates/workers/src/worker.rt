@@ -96,7 +96,7 @@ impl<J: JobName, H: JobSource, R: Wait, G: Gate, S: Spin + Drop> Worker<'_, J, H
     ghost use Rattle.stm_core.specs.CoreState.{IsWithin};
     ghost use Rattle.stm_core.specs.declared.next_step.NextStep.TheVariants as next_step;
     ghost use Rattle.workers.specs.Book.{IsSpent};
-    ghost use Rattle.workers.specs.Work.{Ends, IsMakeAnswer, IsSameWorkers, IsStepAnswer, IsStepFault, IsStoppedBy, IsWorkersEnd, Leaves, Steps, fault_of};
+    ghost use Rattle.workers.specs.Work.{IsMakeAnswer, IsSameWorkers, IsStepAnswer, IsStepFault, IsStoppedBy, IsWorkersEnd, LeavesShare, Steps, StepsOrEnds, fault_of};
 
     /// Its share.
     fn into_share(self) -> Share
@@ -109,7 +109,7 @@ impl<J: JobName, H: JobSource, R: Wait, G: Gate, S: Spin + Drop> Worker<'_, J, H
     /// Makes steps until an ask is answered Done. Refused as `work` is.
     #[tactic(auto, using(crate::proofs::Steps::first_step, crate::proofs::Steps::step_after))]
     fn make_steps(&mut self) -> Result<(), WorkFault>
-        ensures steps { Leaves (λ _. self.old.share.dones + 1) self.old.share self.new.share result }
+        ensures steps { LeavesShare (λ _. self.old.share.dones + 1) self.old.share self.new.share result }
         ensures shown { OnOk result (cell_view self.new.share.pass ≡ 1) }
         ensures fault { IfErr result (λ e. IsWorkersEnd J.job self.old.share (fault_of e)) }
     {
@@ -130,7 +130,7 @@ impl<J: JobName, H: JobSource, R: Wait, G: Gate, S: Spin + Drop> Worker<'_, J, H
         requires within { IsWithin (length J.job.block) step }
         ensures answer { IfOk result (λ next. IsStepAnswer J.job step self.old.share self.new.share next) }
         ensures within { IfOk result (λ next. IfSome next (λ owed. IsWithin (length J.job.block) owed)) }
-        ensures steps { Ends self.old.share self.new.share result }
+        ensures steps { StepsOrEnds self.old.share self.new.share result }
         ensures shown { IfOk result (λ next. next ≡ None → cell_view self.new.share.pass ≡ 1) }
         ensures fault { IfErr result (λ e. IsStepFault J.job step self.new.share e) }
     {

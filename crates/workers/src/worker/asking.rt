@@ -13,14 +13,14 @@ impl<J: JobName, H: JobSource, R: Wait, G: Gate, S: Spin + Drop> Worker<'_, J, H
     ghost use Rattle.stm_core.specs.CoreState.{IsWithin};
     ghost use Rattle.stm_core.specs.declared.next_step.NextStep.TheVariants as next_step;
     ghost use Rattle.workers.specs.Book.{IsAskWithin, owed_by};
-    ghost use Rattle.workers.specs.Work.{Ends, IsAskAnswer, IsStepAnswer, IsStepFault, Looks};
+    ghost use Rattle.workers.specs.Work.{IsAskAnswer, IsStepAnswer, IsStepFault, Looks, StepsOrEnds};
 
     /// Asks for work, and returns the step that the worker owes then. Returns None where all is done, and then
     /// the cell shows it. A worker that gets no task looks at the cell before it asks again, and one that backs off before it asks.
     pub(super) fn ask_for_work(&mut self) -> Result<Option<NextStep>, WorkFault>
         ensures answer { IfOk result (λ next. IsStepAnswer J.job next_step.Ask self.old.share self.new.share next) }
         ensures within { IfOk result (λ next. IfSome next (λ owed. IsWithin (length J.job.block) owed)) }
-        ensures steps { Ends self.old.share self.new.share result }
+        ensures steps { StepsOrEnds self.old.share self.new.share result }
         ensures shown { IfOk result (λ next. next ≡ None → cell_view self.new.share.pass ≡ 1) }
         ensures fault { IfErr result (λ e. IsStepFault J.job next_step.Ask self.new.share e) }
     {

@@ -1,6 +1,6 @@
 use Rattle.std.proofs.Common.{inl, sym, subst, Option}
 use Rattle.stm_core.specs.declared.next_step.NextStep.{NextStep}
-use Rattle.workers.specs.Work.{IsKept, dones_by}
+use Rattle.workers.specs.Work.{IsLeftShare, dones_by}
 use Rattle.workers.proofs.Steps.{ask_refused, asking_leaves}
 use Rattle.workers.proofs.worker.Worker.ask_for_work.Goals as goal
 
@@ -8,7 +8,7 @@ pub returns-in-Ok-clause-steps : goal.returns-in-Ok-clause-steps
 returns-in-Ok-clause-steps g c =
     let share = c.args.self.now.share in
     let left = c.heed.new.self.share in
-    subst (λ (next : Option NextStep). IsKept (dones_by share.dones next) share left) (sym c.owed.ensures)
+    subst (λ (next : Option NextStep). IsLeftShare (dones_by share.dones next) share left) (sym c.owed.ensures)
     (asking_leaves (g.J.JobName.job) share c.back_off.new.self.share c.ask_under_lock.new.self.share left c.in-Ok.asked c.back_off.ensures c.in-Ok.ensures.answer c.heed.ensures.looks)
 
 pub returns-in-Err-clause-fault : goal.returns-in-Err-clause-fault
