@@ -3,6 +3,7 @@ pub mod AtMost
 pub mod CallsBehind
 mod Chains
 mod Conflicts
+mod Held
 pub mod Kept
 pub mod Lines
 mod Migrated

@@ -13,12 +13,14 @@ use Rattle.clap.specs.Words.{IsAmong, Kinds, Text, fault_of}
 use Rattle.clap.specs.declared.error.kind.ErrorKind.TheVariants as kind
 use Rattle.cmdline.specs.Line.{Asked, RunOf, SeqOf, ConflictsOf, DriveOf, AsmOf, DisOf, DebugOf, MigrateOf, ChainOf, requested, rvstm_app}
 use Rattle.debugger.specs.Session.{AppendsBeginning, MayBeCutOff}
-use Rattle.session_durability.specs.Durable.{FileMoment, IsFileAnswer, IsShutBy}
+use Rattle.session_durability.specs.Durable.{FileMoment, HoldsState, IsFileAnswer, IsShutBy}
+use Rattle.session_durability.specs.Opened.{IsFoundIn}
 use Rattle.session_serving.specs.Serving.{IsEndedBy, IsServed}
 use Rattle.session_serving.specs.declared.serving.ServeFault.{ServeFault}
 use Rattle.session_states.specs.declared.fault.StoreFault.{StoreFault}
 use Rattle.stm_core.specs.declared.driving.DriveFault.TheVariants as drive
-use Rattle.sqlite_trees.specs.View.{View}
+use Rattle.sqlite_trees.specs.Tree.{Trees}
+use Rattle.sqlite_trees.specs.View.{View, doubt}
 use Rattle.system_files.specs.Entries.{Entries, IsPut, KeepsFile, Stays}
 use Rattle.session_turns.specs.Failures.{IsAnswer}
 use Rattle.session_turns.specs.Turn.{new_session}
@@ -34,7 +36,7 @@ use Rattle.engines.specs.Drive.{driven_answer, IsScheduledFault}
 use Rattle.engines.specs.Engine.{answer_of, loaded_job, IsBlockFault, IsRefusedJob, IsRunFault}
 use Rattle.engines.specs.Faults.{refusal_line}
 use Rattle.engines.specs.Run.{IsWorkersFault}
-use Rattle.engines.specs.Stores.{AreClosed, AsksAsTold, AsksForSession, AsksInVain, StoreOrder}
+use Rattle.engines.specs.Stores.{AreClosed, AsksAsTold, AsksForSession, AsksInVain, KeepsOthers, StoreOrder, TreesAt}
 use Rattle.engines.specs.declared.counts.RunCounts.{RunCounts}
 use Rattle.engines.specs.declared.fault.FileFault.TheVariants.{Unwritable}
 use Rattle.engines.specs.declared.fault.Refusal.{Refusal}
@@ -139,6 +141,26 @@ AsksAsRefused typed old new asked e = new ≡ old
 abbrev pub ClosesStore : {F : Type 0} → (F → View → Type 0) → Asked → Type 0
 ClosesStore {F} are_folded (ChainOf workers limit gas digest brief (Some file)) = AreClosed are_folded
 ClosesStore {F} are_folded asked = ⊤
+
+-- what a session printed from a moment on, and what its files hold in the end, if that is known: the session after its last answer
+abbrev pub KeepsFrom : Settings → FileMoment → Option Trees → Option (List ℕ) → Option (List ℕ) → List ℕ → Type 0
+KeepsFrom settings first now old new bytes = (after : FileMoment) × IsServed (IsFileAnswer settings) None first bytes after old new
+    × IfSome now (λ db. (doubt after.is_clean ≡ 0) × HoldsState settings after.session db)
+
+-- It went on from the session that its files held before, or began a new one if they held no rows.
+abbrev pub KeepsSession : Settings → Option Trees → Option Trees → Option (List ℕ) → Option (List ℕ) → List ℕ → Type 0
+KeepsSession settings before now old new bytes = (first : FileMoment) × KeepsFrom settings first now old new bytes
+    × IfSome now (λ _. IfSome before (λ found. IsFoundIn settings found first.session))
+
+-- the same of the files at a path and the requests of an input, if these are known; what all others hold stays as it was
+abbrev pub KeepsSessionAt : Settings → TreesAt → TreesAt → Text → Option (List ℕ) → Option (List ℕ) → Option (List ℕ) → Type 0
+KeepsSessionAt settings before now file typed old new = KeepsOthers before now file × IfSome typed (KeepsSession settings (before file) (now file) old new)
+
+-- what the files of sessions hold after a command that is done
+abbrev pub KeepsSessions : Option (List ℕ) → TreesAt → TreesAt → Option (List ℕ) → Option (List ℕ) → Asked → Type 0
+KeepsSessions typed before now old new (ChainOf workers limit gas digest brief (Some file)) =
+    KeepsSessionAt (record (settings_of limit gas digest brief) { keeps_digest = true }) before now file typed old new
+KeepsSessions typed before now old new asked = now ≡ before
 
 -- ---- refusals
 

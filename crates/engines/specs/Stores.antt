@@ -1,7 +1,8 @@
 -- What a session over a file asks of the stores, in which order.
-use Rattle.std.specs.Prelude.{◌≡◌, ◌⊎◌, ⊤, ℕ, List, [], ◌∷◌, Option}
+use Rattle.std.specs.Prelude.{◌≡◌, ◌≢◌, ◌⊎◌, ⊤, ℕ, List, [], ◌∷◌, IsTrue, Option}
 use Rattle.session_states.specs.declared.fault.StoreFault.TheVariants.{Busy, HotJournal, NotASession, OtherVersion, OtherSettings}
-use Rattle.sqlite_trees.specs.View.{View}
+use Rattle.sqlite_trees.specs.Tree.{Trees}
+use Rattle.sqlite_trees.specs.View.{View, IsClean}
 use Rattle.engines.specs.Opened.{Asks}
 use Rattle.engines.specs.declared.fault.Refusal.{Refusal}
 use Rattle.engines.specs.declared.fault.Refusal.TheVariants.{Seq, Store}
@@ -50,3 +51,19 @@ IsOfSession fault = ⊤
 -- files have what some store showed, whatever a crash leaves: a store was closed, and that was done
 abbrev pub AreClosed : {F : Type 0} → (F → View → Type 0) → Type 0
 AreClosed {F} are_folded = (files : F) × (v : View) × are_folded files v
+
+-- ---- what the files at a path hold
+
+-- the trees that are committed in the files of a session, by their path; None where that is not known, as where a wrong answer of the disk may be taken as true
+abbrev pub TreesAt : Type 0
+TreesAt = List ℕ → Option Trees
+
+-- files hold the last commit of a store that showed this as it was closed: it was open, and no wrong answer of the disk had been taken as true
+pub record HoldsCommitted (v : View) (db : Trees) : Type 0 where
+  pub clean : IsClean v
+  pub is_open : IsTrue v.is_open
+  pub same : db ≡ v.committed
+
+-- what other paths hold stays as it was
+abbrev pub KeepsOthers : TreesAt → TreesAt → List ℕ → Type 0
+KeepsOthers old new path = (other : List ℕ) → other ≢ path → new other ≡ old other

@@ -9,7 +9,7 @@ ghost use Rattle.clap.specs.declared.error.kind.ErrorKind.TheVariants as kind;
 ghost use Rattle.cmdline.specs.Line.{asked_by};
 ghost use Rattle.engines.specs.Counts.{counts_text};
 ghost use Rattle.engines.specs.Headline.{PrintsAtMost};
-ghost use Rattle.engines.specs.Program.{AreCountsAsked, AsksAsRefused, AsksStores, ClosesStore, CutsCounts, IsRefusedAs, IsShown, IsTold, KeepsDisk, Prints, PutsFile, PutsNothing, TellsAsked, TellsText, asked_on, no_memory};
+ghost use Rattle.engines.specs.Program.{AreCountsAsked, AsksAsRefused, AsksStores, ClosesStore, CutsCounts, IsRefusedAs, IsShown, IsTold, KeepsDisk, KeepsSessions, Prints, PutsFile, PutsNothing, TellsAsked, TellsText, asked_on, no_memory};
 
 use crate::commands::answer;
 use crate::counts::{RunCounts, write_counts};
@@ -115,6 +115,7 @@ pub fn answer_words<
     ensures put { result ≡ 0 → IfSome (asked_on (map string_bytes words.now)) (PutsFile (D.content disk.old) (D.leads disk.old) (D.entries disk.old) (D.entries disk.new)) }
     ensures stored { result ≡ 0 → IfSome (asked_on (map string_bytes words.now)) (AsksStores (K.asked stores.old) (K.asked stores.new)) }
     ensures closed { result ≡ 0 → IfSome (asked_on (map string_bytes words.now)) (ClosesStore K.are_folded) }
+    ensures kept { result ≡ 0 → IfSome (asked_on (map string_bytes words.now)) (KeepsSessions (I.remaining input.old) (K.trees_at stores.old) (K.trees_at stores.new) (W.contents out.old) (W.contents out.new)) }
     // refused: as its engine is, and it is told why; or done, and its counts could not all be printed
     ensures refused { result ≡ 1 → IfSome (asked_on (map string_bytes words.now)) (λ asked. IsTold (E.may_refuse errors.old)
         (λ e. IsRefusedAs (D.content disk.old) (I.may_fail input.old) (I.remaining input.old) (W.may_refuse out.old) (W.contents out.old) (W.contents out.new) asked e
@@ -161,6 +162,7 @@ fn do_request<
     ensures put { result ≡ 0 → PutsFile (D.content disk.old) (D.leads disk.old) (D.entries disk.old) (D.entries disk.new) (asked_by request.entry) }
     ensures stored { result ≡ 0 → AsksStores (K.asked stores.old) (K.asked stores.new) (asked_by request.entry) }
     ensures closed { result ≡ 0 → ClosesStore K.are_folded (asked_by request.entry) }
+    ensures kept { result ≡ 0 → KeepsSessions (I.remaining input.old) (K.trees_at stores.old) (K.trees_at stores.new) (W.contents out.old) (W.contents out.new) (asked_by request.entry) }
     ensures refused { result ≡ 1 → IsTold (E.may_refuse errors.old)
         (λ e. IsRefusedAs (D.content disk.old) (I.may_fail input.old) (I.remaining input.old) (W.may_refuse out.old) (W.contents out.old) (W.contents out.new) (asked_by request.entry) e
         × AsksAsRefused (I.remaining input.old) (K.asked stores.old) (K.asked stores.new) (asked_by request.entry) e)

@@ -1,12 +1,12 @@
 //! What the program does for each request, over any files, input and writers.
 
-ghost use Rattle.std.specs.Prelude.{◌≡◌, ◌⊎◌, option_map, Err, IfErr, IfOk, IfSome, None, Ok, OnErr, OnOk};
+ghost use Rattle.std.specs.Prelude.{◌≡◌, ◌⊎◌, option_map, true, Err, IfErr, IfOk, IfSome, None, Ok, OnErr, OnOk};
 ghost use Rattle.block_file.specs.Migrate.{migrated};
 ghost use Rattle.cmdline.specs.Line.{AsmOf, ConflictsOf, DebugOf, DisOf, DriveOf, MigrateOf, RunOf, SeqOf, asked_by};
 ghost use Rattle.engines.specs.Dis.{IsSourceFault, file_of_source};
 ghost use Rattle.engines.specs.Engine.{IsBlockFault};
 ghost use Rattle.engines.specs.Named.{bytes_of, may_fail_of};
-ghost use Rattle.engines.specs.Program.{AreCountsAsked, AsksAsRefused, AsksStores, ClosesStore, IsRefusedAs, IsRefusedSession, KeepsDisk, Prints, PrintsSession, PutsFile, PutsNothing, settings_of};
+ghost use Rattle.engines.specs.Program.{AreCountsAsked, AsksAsRefused, AsksStores, ClosesStore, IsRefusedAs, IsRefusedSession, KeepsDisk, KeepsSessionAt, KeepsSessions, Prints, PrintsSession, PutsFile, PutsNothing, settings_of};
 ghost use Rattle.engines.specs.Stores.{AreClosed, AsksAsTold, AsksForSession, AsksInVain};
 ghost use Rattle.system_files.specs.Entries.{AreApart, IsPut, KeepsFile, Stays};
 
@@ -54,6 +54,7 @@ pub(crate) fn answer<
     ensures put { OnOk result (PutsFile (D.content disk.old) (D.leads disk.old) (D.entries disk.old) (D.entries disk.new) (asked_by request.entry)) }
     ensures stored { OnOk result (AsksStores (K.asked stores.old) (K.asked stores.new) (asked_by request.entry)) }
     ensures closed { OnOk result (ClosesStore K.are_folded (asked_by request.entry)) }
+    ensures kept { OnOk result (KeepsSessions (I.remaining input.old) (K.trees_at stores.old) (K.trees_at stores.new) (W.contents out.old) (W.contents out.new) (asked_by request.entry)) }
     ensures refused { IfErr result (IsRefusedAs (D.content disk.old) (I.may_fail input.old) (I.remaining input.old) (W.may_refuse out.old) (W.contents out.old) (W.contents out.new) (asked_by request.entry)) }
     ensures vain { IfErr result (AsksAsRefused (I.remaining input.old) (K.asked stores.old) (K.asked stores.new) (asked_by request.entry)) }
     ensures stays { OnErr result (PutsNothing (D.leads disk.old) (D.entries disk.old) (D.entries disk.new) (asked_by request.entry)) }
@@ -117,6 +118,8 @@ fn session<T: Threads + Wait + Sync, K: SessionStores, I: Source, W: Destination
 ) -> Result<(), Refusal>
     ensures printed { OnOk result (IfSome (I.remaining input.old) (PrintsSession settings (option_map (λ file. file.now) store.entry) (W.contents out.old) (W.contents out.new))) }
     ensures closed { OnOk result (IfSome store.entry (λ _. AreClosed K.are_folded)) }
+    ensures kept { OnOk result (IfSome store.entry (λ path. KeepsSessionAt (record settings { keeps_digest = true }) (K.trees_at stores.old) (K.trees_at stores.new) path.now (I.remaining input.old) (W.contents out.old) (W.contents out.new))) }
+    ensures same { store.entry ≡ None → K.trees_at stores.new ≡ K.trees_at stores.old }
     ensures refused { IfErr result (λ e. IfSome (I.remaining input.old) (λ bytes. IsRefusedSession settings (option_map (λ file. file.now) store.entry) (W.contents out.old) (W.contents out.new) bytes e)) }
     ensures none { store.entry ≡ None → K.asked stores.new ≡ K.asked stores.old }
     ensures stored { OnOk result (IfSome store.entry (λ path. AsksForSession (K.asked stores.old) (K.asked stores.new) path.now)) }

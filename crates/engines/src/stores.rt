@@ -1,13 +1,13 @@
 //! Where the stores of sessions are.
 
-ghost use Rattle.std.specs.Prelude.{◌≡◌, List, [], ◌∷◌, IfErr, IfOk, None, OnErr, OnOk, Option};
+ghost use Rattle.std.specs.Prelude.{◌≡◌, List, [], ◌∷◌, IfErr, IfOk, IfSome, None, OnErr, OnOk, Option};
 ghost use Rattle.sqlite_disk.specs.Disk.{MoreFaults};
 ghost use Rattle.sqlite_trees.specs.Tree.{Trees};
 ghost use Rattle.sqlite_trees.specs.View.{IsClean, Tells, View};
 ghost use Rattle.session_file.specs.Opening.{IsFresh};
 ghost use Rattle.engines.specs.Chain.{fault_of};
 ghost use Rattle.engines.specs.Opened.{Asks};
-ghost use Rattle.engines.specs.Stores.{Abandon, Close, Open, StoreOrder};
+ghost use Rattle.engines.specs.Stores.{Abandon, Close, HoldsCommitted, KeepsOthers, Open, StoreOrder, TreesAt};
 ghost use Rattle.session_disk.specs.Closing.{AreLeftFolded, MayFailToClose};
 
 use session_disk::{NamedDisk, NewLog, OpenFault, SystemFolder, abandon, close_files, open_path};
@@ -32,19 +32,30 @@ pub trait SessionStores {
     /// What was asked so far, the last order last, where that is known.
     ghost asked: { Self → Option (List StoreOrder) };
 
+    /// What the files at a path hold, where that is known.
+    ghost trees_at: { Self → TreesAt };
+
     /// Whatever a crash leaves, the files of a store that showed this have what was committed, and so has the database file alone.
     ghost are_folded: { Self.Files → View → Type 0 };
 
     /// Opens the store of a session at a path; where nothing is there one is made, with no rows.
     fn open_store(&mut self, path: &str) -> Result<(Self::Kept, Self::Log), OpenFault>
         ensures fresh { IfOk result (λ opened. IsClean (Self.Kept.view opened.0) → IsFresh (Self.Kept.view opened.0)) }
+        ensures found { IfOk result (λ opened. IfSome (trees_at self.old path.now) (λ db. (Self.Kept.view opened.0).trees ≡ db)) }
+        ensures others { KeepsOthers (trees_at self.old) (trees_at self.new) path.now }
         ensures asks { OnOk result (Asks (asked self.old) (asked self.new) (Open path.now ∷ [])) }
         ensures asks_nothing { OnErr result (asked self.new ≡ asked self.old) };
 
-    /// Closes a store, and gives its files back. Where this is done the database file alone has what was committed. Where it fails
-    /// the store is given back, and a crash leaves nothing new.
-    fn close_store(&mut self, store: Self::Kept) -> Result<Self::Files, (StoreError, Self::Kept)>
+    /// Closes the store that was opened at a path, and gives its files back. Where this is done the database file alone has what was
+    /// committed. Where it fails the store is given back, and a crash leaves nothing new.
+    fn close_store(
+        &mut self,
+        path: &str,
+        store: Self::Kept,
+    ) -> Result<Self::Files, (StoreError, Self::Kept)>
         ensures folded { IfOk result (λ files. are_folded files (Self.Kept.view store)) }
+        ensures kept { OnOk result (IfSome (trees_at self.new path.now) (HoldsCommitted (Self.Kept.view store))) }
+        ensures others { KeepsOthers (trees_at self.old) (trees_at self.new) path.now }
         ensures err { IfErr result (λ e. (db : Trees) → Self.Kept.recovers e.1 db → Self.Kept.recovers store db) }
         ensures cause { IfErr result (λ e. IsClean (Self.Kept.view e.1) → MayFailToClose (MoreFaults (Self.Kept.faults store) (Self.Kept.faults e.1)) (Self.Kept.view e.1) e.0) }
         ensures told { IfErr result (λ e. Tells (Self.Kept.blamed e.1) e.0) }
@@ -80,6 +91,8 @@ impl SessionStores for SystemStores {
 
     ghost asked = { λ _. None };
 
+    ghost trees_at = { λ _ _. None };
+
     ghost are_folded = { AreLeftFolded ⟦<StoreFile as StoreDisk>⟧ };
 
     fn open_store(&mut self, path: &str) -> Result<(FileStore<StoreFile>, NewLog), OpenFault> {
@@ -89,6 +102,7 @@ impl SessionStores for SystemStores {
 
     fn close_store(
         &mut self,
+        _path: &str,
         store: FileStore<StoreFile>,
     ) -> Result<Files<StoreFile>, (StoreError, FileStore<StoreFile>)> {
         close_files(store)

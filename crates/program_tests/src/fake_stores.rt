@@ -149,6 +149,8 @@ impl SessionStores for FakeStores {
 
     ghost asked = { λ _. None };
 
+    ghost trees_at = { λ _ _. None };
+
     ghost are_folded = { AreLeftFolded ⟦<Memory as Disk>⟧ };
 
     fn open_store(&mut self, path: &str) -> Result<(FileStore<Memory>, ()), OpenFault> {
@@ -164,6 +166,7 @@ impl SessionStores for FakeStores {
     /// Where the close fails, the bytes of before the session stay.
     fn close_store(
         &mut self,
+        _path: &str,
         store: FileStore<Memory>,
     ) -> Result<Files<Memory>, (StoreError, FileStore<Memory>)> {
         if self.note("close", "").is_err() {

@@ -31,6 +31,8 @@ mod fake_stores;
 #[cfg(test)]
 mod known_disk;
 #[cfg(test)]
+mod known_stores;
+#[cfg(test)]
 mod migrated;
 #[cfg(test)]
 mod reports;

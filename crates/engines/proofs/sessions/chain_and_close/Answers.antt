@@ -1,7 +1,10 @@
-use Rattle.std.proofs.Common.{inl, inr}
+use Rattle.std.proofs.Common.{inl, inr, subst}
 use Rattle.std.proofs.lemmas.Result.{IfErr-weaker}
 use Rattle.std.proofs.lemmas.Option.{IfSome_then}
+use Rattle.std.specs.Prelude.{IfSome, OnOk}
 use Rattle.engines.proofs.Orders.{if_any, if_done, of_session}
+use Rattle.engines.proofs.Held.{served_and_closed}
+use Rattle.engines.specs.Stores.{HoldsCommitted}
 use Rattle.engines.proofs.sessions.chain_and_close.Goals as goal
 
 -- the session was ended by a fault
@@ -27,3 +30,10 @@ returns-clause-refused g c =
 pub returns-in-Ok-clause-refused : goal.returns-in-Ok-clause-refused
 returns-in-Ok-clause-refused g c =
     IfErr-weaker c.close-closed.result _ _ (λ _ told. IfSome_then (g.R.Read.remaining c.args.requests.now) c.in-Ok.ensures.ok (λ _ served. inr (inr ((_, _, served), told)))) c.close-closed.ensures.refused
+
+-- what the files hold then
+pub returns-in-Ok-clause-kept : goal.returns-in-Ok-clause-kept
+returns-in-Ok-clause-kept g c =
+    let now = g.K.SessionStores.trees_at c.close-closed.new.stores c.args.path.now in
+    served_and_closed c.close-closed.result c.args.settings _ _ (g.K.Kept.Store.view c.durable_chain_to.new.session.file) _ now (g.R.Read.remaining c.args.requests.now) _ _ c.durable_chain_to.ensures.kept
+    (subst (λ store. OnOk c.close-closed.result (IfSome now (HoldsCommitted (g.K.Kept.Store.view store)))) c.into_store.ensures.store c.close-closed.ensures.kept) c.in-Ok.ensures.ok
