@@ -142,7 +142,8 @@ abbrev pub ClosesStore : {F : Type 0} → (F → View → Type 0) → Asked → 
 ClosesStore {F} are_folded (ChainOf workers limit gas digest brief (Some file)) = AreClosed are_folded
 ClosesStore {F} are_folded asked = ⊤
 
--- what a session printed from a moment on, and what its files hold in the end, if that is known: the session after its last answer
+-- what a session printed from a moment on, and what its files hold in the end, if that is known: the session after its last answer;
+-- and no wrong answer of the disk was taken as true
 abbrev pub KeepsFrom : Settings → FileMoment → Option Trees → Option (List ℕ) → Option (List ℕ) → List ℕ → Type 0
 KeepsFrom settings first now old new bytes = (after : FileMoment) × IsServed (IsFileAnswer settings) None first bytes after old new
     × IfSome now (λ db. (doubt after.is_clean ≡ 0) × HoldsState settings after.session db)

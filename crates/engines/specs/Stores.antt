@@ -54,11 +54,13 @@ AreClosed {F} are_folded = (files : F) × (v : View) × are_folded files v
 
 -- ---- what the files at a path hold
 
--- the trees that are committed in the files of a session, by their path; None where that is not known, as where a wrong answer of the disk may be taken as true
+-- the trees that the files at a path hold; None where that is not known, as it is not if a wrong answer of the disk may be taken as
+-- true
 abbrev pub TreesAt : Type 0
 TreesAt = List ℕ → Option Trees
 
--- files hold the last commit of a store that showed this as it was closed: it was open, and no wrong answer of the disk had been taken as true
+-- files hold the last commit of a store that showed this as it was closed: it was open, and no wrong answer of the disk was taken as
+-- true by then
 pub record HoldsCommitted (v : View) (db : Trees) : Type 0 where
   pub clean : IsClean v
   pub is_open : IsTrue v.is_open

@@ -32,7 +32,7 @@ pub trait SessionStores {
     /// What was asked so far, the last order last, where that is known.
     ghost asked: { Self → Option (List StoreOrder) };
 
-    /// What the files at a path hold, where that is known.
+    /// What the files at a path hold, if that is known. It is not if a wrong answer of the disk may be taken as true.
     ghost trees_at: { Self → TreesAt };
 
     /// Whatever a crash leaves, the files of a store that showed this have what was committed, and so has the database file alone.
