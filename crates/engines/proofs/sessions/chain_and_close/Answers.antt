@@ -35,5 +35,5 @@ returns-in-Ok-clause-refused g c =
 pub returns-in-Ok-clause-kept : goal.returns-in-Ok-clause-kept
 returns-in-Ok-clause-kept g c =
     let now = g.K.SessionStores.trees_at c.close-closed.new.stores c.args.path.now in
-    served_and_closed c.close-closed.result c.args.settings _ _ (g.K.Kept.Store.view c.durable_chain_to.new.session.file) _ now (g.R.Read.remaining c.args.requests.now) _ _ c.durable_chain_to.ensures.kept
+    served_and_closed c.close-closed.result c.args.settings _ _ (g.K.Kept.Store.view c.durable_chain_to-ended.new.session.file) _ now (g.R.Read.remaining c.args.requests.now) _ _ c.durable_chain_to-ended.ensures.kept
     (subst (λ store. OnOk c.close-closed.result (IfSome now (HoldsCommitted (g.K.Kept.Store.view store)))) c.into_store.ensures.store c.close-closed.ensures.kept) c.in-Ok.ensures.ok
