@@ -1,7 +1,6 @@
 -- Stores in memory, of which it is known what they hold.
-use Rattle.std.proofs.Common.{◌≡◌, ◌≢◌, ◌∙◌, ℕ, Bool, true, false, List, ap, bytes_eq, refl, sym}
-use Rattle.std.proofs.lemmas.Slice.Eq.{bytes_eq-Decides}
-use Rattle.std.specs.Prelude.{Option, None, if◌then◌else◌}
+use Rattle.std.proofs.Common.{◌≡◌, ◌∙◌, Bool, true, false, ap, refl, sym}
+use Rattle.std.specs.Prelude.{Some, None, IfSome, if◌then◌else◌}
 use Rattle.engines.specs.Stores.{HoldsCommitted}
 use Rattle.session_file.specs.Opening.{IsFresh}
 use Rattle.sqlite_trees.proofs.Doubt.{no_doubt}
@@ -20,14 +19,7 @@ pub given_up : (old new : MemStore) → IsRolledBack (memory_view old) (memory_v
 given_up old new back =
     let undone = back.undone refl in let kept = back.kept (no_doubt true refl) in as_committed new undone.1 (undone.0 ∙ sym (kept.committed refl))
 
--- one that is closed holds its last commit
-pub holds_commit : (s : MemStore) → HoldsCommitted (memory_view s) (memory_view s).committed
-holds_commit s = record { clean = no_doubt true refl; is_open = refl; same = refl }
-
--- another path than the known one holds nothing that is known
-of_other : {A : Type 0} (is_known : Bool) (x y : Option A) → ¬ (is_known ≡ true) → (if is_known then x else None) ≡ (if is_known then y else None)
-of_other true x y other = absurd (other refl)
-of_other false x y other = refl
-
-pub at_other : {A : Type 0} (known path other : List ℕ) (x y : Option A) → bytes_eq path known ≡ true → other ≢ path → (if bytes_eq other known then x else None) ≡ (if bytes_eq other known then y else None)
-at_other known path other x y is apart = of_other (bytes_eq other known) x y (λ same. apart ((bytes_eq-Decides other known).0 same ∙ sym ((bytes_eq-Decides path known).0 is)))
+-- one that is closed holds its last commit, if it is known what its path holds
+pub if_known : (is_known : Bool) (s : MemStore) → IfSome (if is_known then Some (memory_view s).committed else None) (HoldsCommitted (memory_view s))
+if_known true s = record { clean = no_doubt true refl; is_open = refl; same = refl }
+if_known false s = tt
