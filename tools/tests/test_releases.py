@@ -88,7 +88,8 @@ class OfArchives(InFolder):
 @unittest.skipUnless(HAS_PACKER, "there is no dpkg-deb")
 class OfPackages(InFolder):
     def run_packer(self, *words: str) -> str:
-        return subprocess.run(["dpkg-deb", *words], capture_output=True, encoding="utf-8", check=True).stdout
+        """What dpkg-deb prints. Its dates are those of the zone."""
+        return subprocess.run(["dpkg-deb", *words], capture_output=True, encoding="utf-8", check=True, env={**os.environ, "TZ": "UTC"}).stdout
 
     def test_what_is_read_is_what_was_written(self) -> None:
         self.assertEqual(archives.files_in(deb()), ENTRIES)
