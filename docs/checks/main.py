@@ -14,8 +14,9 @@ from rvstm_tools.errors import MisuseError
 DESCRIPTION = """\
 Checks that the calls, clauses, files, links, commands and numbers of lines that the pages name are there, that docs/rule_calls.txt,
 docs/crates.svg and the refusals of docs/messages.md agree with the sources, that crates.txt has each crate after those that it uses,
-and that all places say one version. Prints what is missing, the checksum of the sources of the program, and 'N names, M missing'. The
-status is 1 if something is missing.
+that each definition is written once and has a name of its own or a reason in docs/shared_names.txt, and that all places say one
+version. Prints what is missing, the checksum of the sources of the program, and 'N names, M missing'. The status is 1 if something is
+missing.
 
 With an option it prints what is in the sources, and no page repeats it."""
 EXAMPLE = """\
@@ -75,6 +76,7 @@ def faults() -> Iterator[str]:
     yield from layers.misplaced()
     yield from layers.differences()
     yield from rule_calls.differences()
+    yield from names.faults()
     yield from refusals.differences()
     for page in pages.page_files():
         yield from pages.faults_of(page, page.read_text(encoding="utf-8"), pages.options_of(parser()))

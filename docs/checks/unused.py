@@ -15,7 +15,7 @@ from pathlib import Path
 
 from checks import calls, citations, items, pages, public_names, rule_calls, sources
 from checks.calls import Call
-from rvstm_tools.errors import MisuseError
+from checks.reasons import reasons
 
 LIST = "docs/unused_names.txt"
 """The names that stay though nothing uses them, each with its reason."""
@@ -157,19 +157,9 @@ def unused_names(crate: str) -> Iterator[Unused]:
 # ---- what --unused prints
 
 
-def exceptions() -> list[str]:
-    path = sources.TOP / LIST
-    lines = path.read_text(encoding="utf-8").splitlines() if path.is_file() else []
-    rows = [line.partition("  # ") for line in lines if line and not line.startswith("#")]
-    for name, _, reason in rows:
-        if not reason:
-            raise MisuseError(f"{LIST}: {name} has no reason")
-    return [name for name, _, _ in rows]
-
-
 def listed(crates: Sequence[str]) -> Iterator[str]:
     """The lines that --unused prints: the unused names by crate and kind, how many there are, and the exceptions that are used."""
-    spared, counts, seen = exceptions(), Counter[Kind](), set[str]()
+    spared, counts, seen = reasons(LIST), Counter[Kind](), set[str]()
     for crate in calls.chosen_crates(crates):
         found = [*unused_names(crate), *unused_places(crate)]
         seen.update(entry.name for entry in found)

@@ -21,8 +21,8 @@ use Rattle.stm_state.specs.declared.state.Status.TheVariants.{Ready, Executing, 
 use Rattle.stm_state.specs.declared.state.CallState.{CallState}
 use Rattle.stm_state.specs.declared.state.Task.{Task}
 use Rattle.stm_state.specs.declared.state.Task.TheVariants.{Idle, Running, Moving, Validating, Marking}
-use Rattle.stm_state.specs.State.{State, fresh, start, call_at, task_at, with_call, with_task, is_aborting, is_done, is_executed, is_ready}
-use Rattle.stm_state.specs.Steps.{Block, Step, MoveKey, FinishExecution, MarkEstimate, counted, one_asking, one_execution, one_step, one_validation, next_incarnation, ask_validation, ask_execution, after_ask, answered_with, after_read_key, after_park, after_record, after_move_key, after_finish_execution, after_check_read, after_decide, after_finish_abort, has_new_key, is_executed_at, is_parked_on, is_some_of, keys_of, keys_to_move, next_stands, read_of, reads_of, recorded_run, resume_dependents, to_validate, version_of, written_by}
+use Rattle.stm_state.specs.State.{State, fresh, start_state, call_at, task_at, with_call, with_task, is_aborting, is_done, is_executed, is_ready}
+use Rattle.stm_state.specs.Steps.{Block, Step, MoveKey, FinishExecution, MarkEstimate, counted, one_asking, one_execution, one_step, one_validation, next_incarnation, ask_validation, ask_execution, after_ask, answered_with, after_read_key, after_park, after_record, after_move_key, after_finish_execution, after_check_read, after_decide, after_finish_abort, has_new_key, is_executed_at, is_parked_on, is_some_of, keys_of, keys_to_move, next_stands, read_of, recorded_reads, recorded_run, resume_dependents, to_validate, version_of, written_by}
 use Rattle.stm_state.specs.Done.{started}
 use Rattle.stm_state.specs.Parts.{has_key}
 use Rattle.stm_state.proofs.Invariant.{view_of, Invariant, IsMoved, IsUnmovedEntry, named_by, owned_by, run_by}
@@ -44,12 +44,12 @@ use Rattle.always_ends.proofs.UsedUp.{named_in, there, w_there}
 use Rattle.always_ends.proofs.Prices.{unchanged, one_more, below, comes_reached}
 use Rattle.always_ends.proofs.Changes.{of_changes, ChangesTo, changes}
 
--- where lower calls keep their entries, reads of call i stand as before
+-- if lower calls keep their entries, reads of call i stand as before
 stand_below : (before after : Versions) (i : ℕ) → ((key : List ℕ) (j : ℕ) → j < i → entry_at after key j ≡ entry_at before key j) → (reads : List Read) → AllStand before i reads → AllStand after i reads
 stand_below before after i same reads stand =
     all_same (stands after i) (stands before i) (λ read. ap (is_origin read.origin) (seen_same (entry_at after read.key) (entry_at before read.key) i (λ j less. same read.key j less))) reads ∙ stand
 
--- and where entries change at estimates alone: no read that stands has passed one
+-- and if entries change only at estimates: no read that stands has passed one
 stand_over : (s t : State) (i : ℕ) → ((key : List ℕ) (j : ℕ) → (entry_at t.versions key j ≡ entry_at s.versions key j) ⊎ (entry_at s.versions key j ≡ Some Estimate)) → (reads : List Read) → AllStand s.versions i reads → AllStand t.versions i reads
 stand_over s t i same [] stand = refl
 stand_over s t i same (read ∷ reads) stand =
@@ -68,28 +68,28 @@ parked_names j call h = go call.parked refl (and_parts (is_aborting call.status)
     go None at k = cc
     go (Some k) at e = at ∙ ap Some (equal_says k j e)
 
--- what holds of a task where no read of call i that is at hand fails: a run has answers that stand, keys are moved of a run
--- whose reads stand, no check of the call failed at its incarnation, and nobody takes it back
+-- what holds of a task if no read of call i that is at hand fails: the answers of a run stand, the reads of a run whose keys are
+-- moved stand, no check of the call failed at its incarnation, and nobody takes it back
 abbrev pub IsCleanTask : ℕ → CallState → Versions → Task → Type 0
 IsCleanTask i call versions Idle = Unit {0}
 IsCleanTask i call versions (Running j answers waits) = j ≡ i → AllStand versions i (map read_of answers)
-IsCleanTask i call versions (Moving j keys new) = j ≡ i → AllStand versions i (reads_of call.last)
+IsCleanTask i call versions (Moving j keys new) = j ≡ i → AllStand versions i (recorded_reads call.last)
 IsCleanTask i call versions (Validating j n more true) = j ≡ i → n ≢ call.incarnation
 IsCleanTask i call versions (Validating j n more false) = Unit {0}
 IsCleanTask i call versions (Marking j keys) = j ≢ i
 
 -- no read of call i that is at hand fails
 pub record IsClean (i : ℕ) (s : State) : Type 0 where
-  pub executed : (call_at s i).status ≡ Executed → AllStand s.versions i (reads_of (call_at s i).last)
+  pub executed : (call_at s i).status ≡ Executed → AllStand s.versions i (recorded_reads (call_at s i).last)
   pub tasks : (x : ℕ) → IsCleanTask i (call_at s i) s.versions (task_at s x)
 
--- a clean task is so where its incarnation and its recorded reads stay, and reads that stand go on so
-task_still : (i : ℕ) (c d : CallState) (before after : Versions) → d.incarnation ≡ c.incarnation → StandOn before after i → (task : Task) → ((keys : List (List ℕ)) (new : Bool) → task ≡ Moving i keys new → reads_of d.last ≡ reads_of c.last)
+-- a clean task stays clean if the call's incarnation and recorded reads stay, and reads that stand still stand
+task_still : (i : ℕ) (c d : CallState) (before after : Versions) → d.incarnation ≡ c.incarnation → StandOn before after i → (task : Task) → ((keys : List (List ℕ)) (new : Bool) → task ≡ Moving i keys new → recorded_reads d.last ≡ recorded_reads c.last)
     → IsCleanTask i c before task → IsCleanTask i d after task
 task_still i c d before after same on Idle last h = tt
 task_still i c d before after same on (Running j answers waits) last h = λ e. on (map read_of answers) (h e)
 task_still i c d before after same on (Moving j keys new) last h = λ e.
-    on (reads_of d.last) (subst (λ reads. AllStand before i reads) (sym (last keys new (ap (λ k. Moving k keys new) e))) (h e))
+    on (recorded_reads d.last) (subst (λ reads. AllStand before i reads) (sym (last keys new (ap (λ k. Moving k keys new) e))) (h e))
 task_still i c d before after same on (Validating j n more true) last h = λ e at. h e (at ∙ same)
 task_still i c d before after same on (Validating j n more false) last h = tt
 task_still i c d before after same on (Marking j keys) last h = h
@@ -133,7 +133,7 @@ module _ (i w : ℕ) (s : State) (step : Step) (t : State) where
     aborted : (call_at t i).incarnation ≡ (call_at s i).incarnation + 1 → IsClean i t → Rises
 
 module _ (b : Bounds) (i w : ℕ) (s : State) (inv : Invariant b.block b.workers s) (w_in : w < b.workers) where
-  -- a call stays where another one changes
+  -- a call stays if another one changes
   other_stays : (j : ℕ) (own : CallState) (t : State) → ChangesAt (call_at s) (call_at t) j own → own.incarnation ≡ (call_at s j).incarnation → (call_at t i).incarnation ≡ (call_at s i).incarnation
   other_stays j own t calls same = each_at (call_at s) (call_at t) j own calls i (λ c. c.incarnation ≡ (call_at s i).incarnation) (λ e. same ∙ ap (λ x. (call_at s x).incarnation) (sym e)) (λ ne. refl)
 
@@ -150,7 +150,7 @@ module _ (b : Bounds) (i w : ℕ) (s : State) (inv : Invariant b.block b.workers
     ]
   ]
 
-  -- call i after call j is EXECUTED: it is as before, but for its status where it is call j; or it was parked on it
+  -- call i after call j is EXECUTED: it is as before, except for its status if it is call j; or it was parked on call j
   data AfterEnd (j : ℕ) (call : CallState) : Type 0 where
     is_ended : i ≡ j → call ≡ ended s i → AfterEnd j call
     is_same : i ≢ j → call ≡ call_at s i → AfterEnd j call
@@ -247,14 +247,14 @@ module _ (b : Bounds) (i w : ℕ) (s : State) (inv : Invariant b.block b.workers
   made_rises step t (by_mark j key keys at) inv_t = stays refl
   made_rises step t (by_abort j at) inv_t = abort_rises j step (in_calls (Marking j []) j at refl) inv_t
 
-  -- ---- what a step does where no read of call i fails
+  -- ---- what a step does if no read of call i fails
 
   module _ (clean : IsClean i s) where
     clean_on : (task : Task) (t : State) → ChangesAt (task_at s) (task_at t) w task → StandOn s.versions t.versions i → (call_at t i).incarnation ≡ (call_at s i).incarnation
-        → ((x : ℕ) → x ≢ w → (keys : List (List ℕ)) (new : Bool) → task_at s x ≡ Moving i keys new → reads_of (call_at t i).last ≡ reads_of (call_at s i).last) → ((call_at t i).status ≡ Executed → AllStand s.versions i (reads_of (call_at t i).last))
+        → ((x : ℕ) → x ≢ w → (keys : List (List ℕ)) (new : Bool) → task_at s x ≡ Moving i keys new → recorded_reads (call_at t i).last ≡ recorded_reads (call_at s i).last) → ((call_at t i).status ≡ Executed → AllStand s.versions i (recorded_reads (call_at t i).last))
         → IsCleanTask i (call_at t i) t.versions task → IsClean i t
     clean_on task t tasks on same last executed own = record {
-      executed = λ h. on (reads_of (call_at t i).last) (executed h);
+      executed = λ h. on (recorded_reads (call_at t i).last) (executed h);
       tasks = λ x. each_at (task_at s) (task_at t) w task tasks x (λ k. IsCleanTask i (call_at t i) t.versions k) (λ e. own)
           (λ ne. task_still i (call_at s i) (call_at t i) s.versions t.versions same on (task_at s x) (last x ne) (clean.tasks x));
     }
@@ -265,14 +265,14 @@ module _ (b : Bounds) (i w : ℕ) (s : State) (inv : Invariant b.block b.workers
 
     -- the worker's task and the status of a call change
     keeps_call : (j : ℕ) (own : CallState) (task : Task) (t : State) (step : Step) → ChangesAt (call_at s) (call_at t) j own → ChangesAt (task_at s) (task_at t) w task → StandOn s.versions t.versions i
-        → own.incarnation ≡ (call_at s j).incarnation → reads_of own.last ≡ reads_of (call_at s j).last → (own.status ≡ Executed → (call_at s j).status ≡ Executed) → IsCleanTask i (call_at t i) t.versions task → Keeps step t
+        → own.incarnation ≡ (call_at s j).incarnation → recorded_reads own.last ≡ recorded_reads (call_at s j).last → (own.status ≡ Executed → (call_at s j).status ≡ Executed) → IsCleanTask i (call_at t i) t.versions task → Keeps step t
     keeps_call j own task t step calls tasks on same reads still fine =
         let incarnation = other_stays j own t calls same in
-        let last : reads_of (call_at t i).last ≡ reads_of (call_at s i).last = each_at (call_at s) (call_at t) j own calls i (λ c. reads_of c.last ≡ reads_of (call_at s i).last) (λ e. reads ∙ ap (λ x. reads_of (call_at s x).last) (sym e)) (λ ne. refl) in
+        let last : recorded_reads (call_at t i).last ≡ recorded_reads (call_at s i).last = each_at (call_at s) (call_at t) j own calls i (λ c. recorded_reads c.last ≡ recorded_reads (call_at s i).last) (λ e. reads ∙ ap (λ x. recorded_reads (call_at s x).last) (sym e)) (λ ne. refl) in
         let was : (call_at t i).status ≡ Executed → (call_at s i).status ≡ Executed = each_at (call_at s) (call_at t) j own calls i (λ c. c.status ≡ Executed → (call_at s i).status ≡ Executed) (λ e h. ap (λ x. (call_at s x).status) e ∙ still h) (λ ne h. h) in
         inr (clean_on task t tasks on incarnation (λ x ne keys new at. last) (λ h. subst (λ r. AllStand s.versions i r) (sym last) (clean.executed (was h))) fine, incarnation)
 
-    -- the worker's task alone changes
+    -- only the worker's task changes
     keeps_task : (task : Task) (add : Counts → Counts) (step : Step) → IsCleanTask i (call_at s i) s.versions task → Keeps step (counted add w (with_task w task s))
     keeps_task task add step fine = keeps_call i (call_at s i) task _ step (stays_at (call_at s) i) (set_at s.tasks w task Idle (w_there b w s inv w_in)) (λ reads h. h) refl refl (λ h. h) fine
 
@@ -283,7 +283,7 @@ module _ (b : Bounds) (i w : ℕ) (s : State) (inv : Invariant b.block b.workers
     validation_keeps : (step : Step) → Keeps step (counted one_asking w (ask_validation w s))
     unfolding ask_validation
     validation_keeps step = cond_both (is_executed (call_at s s.validation).status) _ _ (λ t. Keeps step (counted one_asking w t))
-        (λ _. keeps_call i (call_at s i) (Validating s.validation (call_at s s.validation).incarnation (length (reads_of (call_at s s.validation).last)) false) _ step (stays_at (call_at s) i) (set_at s.tasks w _ Idle (w_there b w s inv w_in)) (λ reads h. h) refl refl (λ h. h) tt)
+        (λ _. keeps_call i (call_at s i) (Validating s.validation (call_at s s.validation).incarnation (length (recorded_reads (call_at s s.validation).last)) false) _ step (stays_at (call_at s) i) (set_at s.tasks w _ Idle (w_there b w s inv w_in)) (λ reads h. h) refl refl (λ h. h) tt)
         (λ _. inr (record { executed = clean.executed; tasks = clean.tasks }, refl))
 
     execution_keeps : (step : Step) → s.execution < length s.calls → Keeps step (counted one_asking w (ask_execution w s))
@@ -324,7 +324,7 @@ module _ (b : Bounds) (i w : ℕ) (s : State) (inv : Invariant b.block b.workers
           clean_on (Moving j (keys_to_move (call_at s j).last receipt.writes) (has_new_key (call_at s j).last receipt.writes)) t (set_at s.tasks w _ Idle (w_there b w s inv w_in)) (λ reads h. h) incarnation
               (λ x ne keys new moves. elim (cases_eq i j) [
                 | inl e ↦ absurd (ne (inv.facts.alone x w i (ap owned_by moves) (ap owned_by at ∙ ap Some (sym e))))
-                | inr other ↦ ap (λ (c : CallState). reads_of c.last) (calls.other i other)
+                | inr other ↦ ap (λ (c : CallState). recorded_reads c.last) (calls.other i other)
               ])
               (λ h. elim (cases_eq i j) [
                 | inl e ↦
@@ -332,10 +332,10 @@ module _ (b : Bounds) (i w : ℕ) (s : State) (inv : Invariant b.block b.workers
                     let now : (call_at t i).status ≡ (call_at s j).status = ap (λ x. (call_at t x).status) e ∙ ap (λ (c : CallState). c.status) calls.there in cc
                 | inr other ↦
                     let same = calls.other i other in
-                    subst (λ (c : CallState). AllStand s.versions i (reads_of c.last)) (sym same) (clean.executed (ap (λ (c : CallState). c.status) (sym same) ∙ h))
+                    subst (λ (c : CallState). AllStand s.versions i (recorded_reads c.last)) (sym same) (clean.executed (ap (λ (c : CallState). c.status) (sym same) ∙ h))
               ])
               (λ e.
-              let now : reads_of (call_at t i).last ≡ map read_of answers = ap (λ x. reads_of (call_at t x).last) (sym e) ∙ ap (λ (c : CallState). reads_of c.last) calls.there in
+              let now : recorded_reads (call_at t i).last ≡ map read_of answers = ap (λ x. recorded_reads (call_at t x).last) (sym e) ∙ ap (λ (c : CallState). recorded_reads c.last) calls.there in
               subst (λ r. AllStand s.versions i r) (sym now) (own_task (Running j answers None) at e)),
           incarnation,
         )
@@ -354,7 +354,7 @@ module _ (b : Bounds) (i w : ℕ) (s : State) (inv : Invariant b.block b.workers
           entry_stands j key entry task step (stand_below s.versions (changed s.versions (key, j) entry) i entries) fine
     ]
 
-    -- a key is moved: where the call has an estimate, reads that stand go on so
+    -- a key is moved: if the call has an estimate there, reads that stand still stand
     move_keeps : (j : ℕ) (key : List ℕ) (keys : List (List ℕ)) (new : Bool) → task_at s w ≡ Moving j (key ∷ keys) new → Keeps MoveKey (counted one_step w (after_move_key w j key keys new s))
     move_keeps j key keys new at = go (moved.unmoved key (both_or (tied_itself nat_list_cmp_total key)))
       where
@@ -381,7 +381,7 @@ module _ (b : Bounds) (i w : ℕ) (s : State) (inv : Invariant b.block b.workers
         (λ _. keeps_task (Validating j n more false) one_step step tt)
         (λ fails. keeps_task (Validating j n (suc more) true) one_step step (λ e at.
         let done : (call_at s i).status ≡ Executed = ap (λ x. (call_at s x).status) (sym e) ∙ (executed_at_says n (call_at s j) there).0 in
-        let good = each_stands s.versions i (reads_of (call_at s i).last) (length (reads_of (call_at s i).last) - suc more) (clean.executed done) in
+        let good = each_stands s.versions i (recorded_reads (call_at s i).last) (length (recorded_reads (call_at s i).last) - suc more) (clean.executed done) in
         let bad = ap (λ x. next_stands x (suc more) s) (sym e) ∙ fails in cc)))
         (λ _. keeps_task Idle one_step step tt)
 
@@ -411,8 +411,8 @@ module _ (b : Bounds) (i w : ℕ) (s : State) (inv : Invariant b.block b.workers
             let same : call_at t i ≡ call_at s i = get_or-set_other s.calls j i own fresh ne in
             let incarnation = ap (λ (c : CallState). c.incarnation) same in
             inr (
-              clean_on task t (set_at s.tasks w task Idle (w_there b w s inv w_in)) (λ reads h. h) incarnation (λ x other keys new moves. ap (λ (c : CallState). reads_of c.last) same)
-                  (λ h. subst (λ (c : CallState). AllStand s.versions i (reads_of c.last)) (sym same) (clean.executed (ap (λ (c : CallState). c.status) (sym same) ∙ h)))
+              clean_on task t (set_at s.tasks w task Idle (w_there b w s inv w_in)) (λ reads h. h) incarnation (λ x other keys new moves. ap (λ (c : CallState). recorded_reads c.last) same)
+                  (λ h. subst (λ (c : CallState). AllStand s.versions i (recorded_reads c.last)) (sym same) (clean.executed (ap (λ (c : CallState). c.status) (sym same) ∙ h)))
                   (subst (λ c. IsCleanTask i c s.versions task) (sym same) fine),
               incarnation,
             )
@@ -430,10 +430,10 @@ module _ (b : Bounds) (i w : ℕ) (s : State) (inv : Invariant b.block b.workers
           other = λ x ne. ap (λ (ts : List Task). get_or ts x Idle) tasks ∙ get_or-set_other s.tasks w x task Idle ne;
         }
 
-        keeps : (c : CallState) → call_at t i ≡ c → c.incarnation ≡ (call_at s i).incarnation → reads_of c.last ≡ reads_of (call_at s i).last → (c.status ≡ Executed → AllStand s.versions i (reads_of (call_at s i).last)) → Keeps FinishExecution t
+        keeps : (c : CallState) → call_at t i ≡ c → c.incarnation ≡ (call_at s i).incarnation → recorded_reads c.last ≡ recorded_reads (call_at s i).last → (c.status ≡ Executed → AllStand s.versions i (recorded_reads (call_at s i).last)) → Keeps FinishExecution t
         keeps c now same reads stand =
             let incarnation : (call_at t i).incarnation ≡ (call_at s i).incarnation = ap (λ (d : CallState). d.incarnation) now ∙ same in
-            let last : reads_of (call_at t i).last ≡ reads_of (call_at s i).last = ap (λ (d : CallState). reads_of d.last) now ∙ reads in
+            let last : recorded_reads (call_at t i).last ≡ recorded_reads (call_at s i).last = ap (λ (d : CallState). recorded_reads d.last) now ∙ reads in
             inr (
               clean_on task t tasks_now (λ reads h. subst (λ v. AllStand v i reads) (sym versions) h) incarnation (λ x ne keys more moves. last)
                   (λ h. subst (λ r. AllStand s.versions i r) (sym last) (stand (ap (λ (d : CallState). d.status) (sym now) ∙ h))) (fine (call_at t i) t.versions),
@@ -449,7 +449,7 @@ module _ (b : Bounds) (i w : ℕ) (s : State) (inv : Invariant b.block b.workers
     unfolding to_validate resume_dependents
     finish_keeps j new at j_in = cond_both (nat_lt j s.validation) _ _ (λ t. Keeps FinishExecution (counted one_step w t))
         (λ _. cond_both new _ _ (λ t. Keeps FinishExecution (counted one_step w t))
-        (λ _. end_keeps j new Idle _ at j_in refl refl refl (λ c v. tt)) (λ _. end_keeps j new (Validating j (call_at s j).incarnation (length (reads_of (call_at s j).last)) false) _ at j_in refl refl refl (λ c v. tt)))
+        (λ _. end_keeps j new Idle _ at j_in refl refl refl (λ c v. tt)) (λ _. end_keeps j new (Validating j (call_at s j).incarnation (length (recorded_reads (call_at s j).last)) false) _ at j_in refl refl refl (λ c v. tt)))
         (λ _. end_keeps j new Idle _ at j_in refl refl refl (λ c v. tt))
 
     made_keeps : (step : Step) (t : State) → IsMade b.block w s step t → Keeps step t
@@ -487,7 +487,7 @@ module _ (b : Bounds) (i : ℕ) where
       by (inr k) rises = let low = most in let same = k.1 in inr (omega (arith, low, same), k.0)
 
   caused : (n : ℕ) (s : State) → ChangesTo b i n s → IsCaused i n s
-  caused n s unchanged = inr (let none = ap (λ (c : CallState). c.incarnation) (replicated b.block.count i fresh) in omega (arith, none), ready_clean b.block b.workers (start b.block.count b.workers) (invariant_kept b.block b.workers (start b.block.count b.workers) started) i (ap (λ (c : CallState). c.status) (replicated b.block.count i fresh)))
+  caused n s unchanged = inr (let none = ap (λ (c : CallState). c.incarnation) (replicated b.block.count i fresh) in omega (arith, none), ready_clean b.block b.workers (start_state b.block.count b.workers) (invariant_kept b.block b.workers (start_state b.block.count b.workers) started) i (ap (λ (c : CallState). c.status) (replicated b.block.count i fresh)))
   caused n t (one_more {n = before_n} {s = s} w step before w_in k) =
       let inv = invariant_kept b.block b.workers s (comes_reached b of_changes i before_n s before) in
       let inv_t = worker_kept b.block b.workers w s t inv w_in step k in

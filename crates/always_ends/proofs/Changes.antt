@@ -8,7 +8,8 @@ use Rattle.always_ends.proofs.Sums.{sum_to}
 use Rattle.always_ends.proofs.Measure.{Bounds}
 use Rattle.always_ends.proofs.Prices.{Prices, price, ComesTo, comes_few, most, most_is, executed_is, run_is}
 
--- one for each key of a lower call that is marked, or is moved where the call has no entry, and one for the end of its execution
+-- one for each key of a lower call that is marked, or is moved if the call has no entry there, and one for the end of its
+-- execution
 abbrev pub of_changes : Prices
 of_changes = record { of_record = 0; of_key = 1; of_end = 1; of_mark = 1 }
 

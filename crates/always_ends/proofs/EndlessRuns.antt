@@ -1,10 +1,10 @@
--- An endless run of steps, whatever keys its runs read, comes to where each worker was told Done.
+-- An endless run of steps, whatever keys its runs read, reaches a state in which each worker has been answered Done.
 use Rattle.std.proofs.Common.{◌≡◌, ◌<◌, ◌≤◌, ◌⊎◌, ◌+◌, ◌-◌, ◌*◌, ℕ, zero, suc, Bool, true, false, if◌then◌else◌, List, length, Option, None, Some, Ok, arith, refl, sym, ap, subst, ◌∙◌, inl, inr}
 use Rattle.std.proofs.lemmas.Bool.{cases_eq, cases_lt, cond-true}
 use Rattle.std.proofs.lemmas.List.{get_or_past}
 use Rattle.rv_step.specs.declared.answer.StorageAnswer.{StorageAnswer}
 use Rattle.stm_state.specs.declared.state.Task.TheVariants.{Idle, Running}
-use Rattle.stm_state.specs.State.{State, start, task_at, is_done}
+use Rattle.stm_state.specs.State.{State, start_state, task_at, is_done}
 use Rattle.stm_state.specs.Steps.{Block, Step, Ask, ReadKey, Park, Record, MoveKey, FinishExecution, CheckRead, Decide, MarkEstimate, FinishAbort, worker_step}
 use Rattle.stm_state.specs.Done.{Reached, started, stepped}
 use Rattle.stm_state.specs.Dones.{dones_of}
@@ -23,7 +23,7 @@ use Rattle.always_ends.proofs.IdleWorkers.{are_past, past_says}
 use Rattle.always_ends.proofs.Walks.{Agrees, agrees_on, idle_agrees}
 use Rattle.always_ends.proofs.Stretches.{next_of, later, later_at, next_fair, Covers, covers}
 
--- a worker without a task, where both indices are past the last call
+-- a worker has no task, and both indices are past the last call
 abbrev IsAsleep : State → ℕ → Type 0
 IsAsleep s w = (task_at s w ≡ Idle) × (are_past s ≡ true)
 
@@ -88,7 +88,7 @@ module _ (b : Bounds) (some : 0 < b.workers) (counts : b.counts_reads ≡ true) 
 
   -- ---- a stretch
 
-  -- in so many steps there was work, or each worker that made one of them was asleep
+  -- in m steps there was work, or each worker that made one of them was asleep
   data Goes (m : ℕ) (steps : ℕ → ℕ × Step) (states : ℕ → State) : Type 0 where
     works : Uses b 1 (states 0) (states m) → Goes m steps states
     rests : Agrees (states 0) (states m) → ((j : ℕ) → j < m → IsAsleep (states 0) (steps j).0) → Goes m steps states
@@ -110,7 +110,7 @@ module _ (b : Bounds) (some : 0 < b.workers) (counts : b.counts_reads ≡ true) 
   stretch zero steps states h = rests (record { counts = (states 0).counts; dones = (states 0).dones; is = refl }) (λ j less. absurd (omega (arith, less)))
   stretch (suc m) steps states h = goes_then m steps states (first_goes steps states h) (stretch m (next_of steps) (next_of states) (next_run steps states h))
 
-  -- where all are asleep workers are done
+  -- if all are asleep, workers are done
   all_asleep : (s : State) → Reached b.block b.workers s → ((w : ℕ) → w < b.workers → IsAsleep s w) → is_done s ≡ true
   all_asleep s reached asleep =
       let inv = invariant_kept b.block b.workers s reached in
@@ -124,13 +124,13 @@ module _ (b : Bounds) (some : 0 < b.workers) (counts : b.counts_reads ≡ true) 
         | inr over ↦ let tasks = inv.sized.tasks in get_or_past s.tasks x Idle (omega (arith, over, tasks))
       ])
 
-  -- a stretch in which each worker comes works, where workers are not done
+  -- if workers are not done, there is work in a stretch in which each worker comes
   stretch_works : (steps : ℕ → ℕ × Step) (states : ℕ → State) → IsRunOn steps states → is_done (states 0) ≡ false → (c : Covers b.workers (λ k. (steps k).0) b.workers) → Goes c.number steps states → Uses b 1 (states 0) (states c.number)
   stretch_works steps states h not_yet c (works used) = used
   stretch_works steps states h not_yet c (rests same asleep) =
       let over = all_asleep (states 0) h.reached (λ w w_in. let at = c.each w w_in in subst (IsAsleep (states 0)) at.2 (asleep at.0 at.1)) in cc
 
-  -- ---- it comes to done
+  -- ---- it reaches a state in which workers are done
 
   abbrev top : ℕ
   top = most_incarnations b.block.count b.writes * cost b
@@ -164,7 +164,7 @@ module _ (b : Bounds) (some : 0 < b.workers) (counts : b.counts_reads ≡ true) 
   reaches_done (suc bound) fuel steps states h enough long =
       comes_by bound fuel steps states h enough long (λ n more left_more fewer. reaches_done bound more (later n steps) (later n states) (later_run n steps states h) left_more fewer) (is_done (states 0)) refl
 
-  -- ---- where workers are done each is told so
+  -- ---- if workers are done, each is answered Done
 
   asks : (steps : ℕ → ℕ × Step) (states : ℕ → State) → IsRunOn steps states → is_done (states 0) ≡ true → (is_done (states 1) ≡ true) × ((w : ℕ) → dones_of w (states 0) ≤ dones_of w (states 1)) × (0 < dones_of (steps 0).0 (states 1))
   asks steps states h done =
@@ -204,7 +204,7 @@ module _ (b : Bounds) (some : 0 < b.workers) (counts : b.counts_reads ≡ true) 
       let c = covers b.workers b.workers (λ k. (steps k).0) h.fair (omega arith) in
       (c.number, λ w w_in. let at = c.each w w_in in subst (λ x. 0 < dones_of x (states c.number)) at.2 (told c.number at.0 steps states h done at.1))
 
-  comes_and_tells : (steps : ℕ → ℕ × Step) (states : ℕ → State) → IsRunOn steps states → states 0 ≡ start b.block.count b.workers → (k : ℕ) × ((w : ℕ) → w < b.workers → 0 < dones_of w (states k))
+  comes_and_tells : (steps : ℕ → ℕ × Step) (states : ℕ → State) → IsRunOn steps states → states 0 ≡ start_state b.block.count b.workers → (k : ℕ) × ((w : ℕ) → w < b.workers → 0 < dones_of w (states k))
   comes_and_tells steps states h first =
       let enough = start_left b in
       let comes = reaches_done (suc top) top steps states h (subst (λ s. left b s + top ≤ top + (begins_with + brought b s)) (sym first) (omega (arith, enough))) (omega arith) in

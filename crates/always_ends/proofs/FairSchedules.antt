@@ -7,7 +7,7 @@ use Rattle.std.proofs.lemmas.Bool.Decides.{nat_tests}
 use Rattle.std.proofs.Math.Nat.{mul-le-mul_right}
 use Rattle.rv_ledger.specs.Key.{Storage}
 use Rattle.rv_ledger.specs.Call.{Invocation}
-use Rattle.stm_state.specs.State.{State, start, is_done}
+use Rattle.stm_state.specs.State.{State, start_state, is_done}
 use Rattle.stm_state.specs.Steps.{Limit}
 use Rattle.stm_state.specs.Dones.{dones_of}
 use Rattle.stm_state.specs.Drive.{DrivenTo, at_start, DriveRefusal, Limited, driven, drive_of}
@@ -35,7 +35,7 @@ held P [] x all found = let at = found.1 in absurd (omega (arith, at))
 held P (y ∷ ys) x all (zero, at, is) = subst P is all.0
 held P (y ∷ ys) x all (suc k, at, is) = held P ys x all.1 (k, omega (arith, at), is)
 
--- what a list contains it contains with others behind it
+-- what a list contains it contains with others after it
 contained : (xs ys : List ℕ) (x : ℕ) → Contains xs x → Contains (xs ++ ys) x
 contained [] ys x found = let at = found.1 in absurd (omega (arith, at))
 contained (z ∷ zs) ys x (zero, at, is) = (0, omega arith, is)
@@ -52,7 +52,7 @@ module _ (calls : List Invocation) (store : Storage) (workers gas : ℕ) (some :
   abbrev begins_with : ℕ
   begins_with = length calls * cost bounds
 
-  -- what a list comes to from a state on
+  -- a list leads to the end, and each worker has been answered Done; or it meets a limit
   abbrev IsAtEnd : Result State DriveRefusal → Type 0
   IsAtEnd r = ((t : State) × (r ≡ Ok t) × ((w : ℕ) → w < workers → 0 < dones_of w t)) ⊎ ((limit : Limit) × (r ≡ Err (Limited limit)))
 
@@ -65,7 +65,7 @@ module _ (calls : List Invocation) (store : Storage) (workers gas : ℕ) (some :
 
   -- ---- one round
 
-  -- a list that names each worker meets a limit, or leads on with some work, where workers are not done
+  -- if workers are not done, a list that names each worker meets a limit, or leads on with some work
   round_works : (list : List ℕ) (s t : State) → DrivenTo calls store workers s → IsRound workers list → is_done s ≡ false → Goes calls store workers gas most list s t → Uses bounds 1 s t
   round_works list s t led round not_yet (works used) = used
   round_works list s t led round not_yet (rests same idle) =
@@ -85,7 +85,7 @@ module _ (calls : List Invocation) (store : Storage) (workers gas : ℕ) (some :
       let bound = brought_most bounds t (reached_where_led calls store workers t after) in
       comes_by (round ++ concat rounds) s (driven calls store workers (concat rounds) t) (h (concat rounds)) (rest (fuel - 1) t after (omega (arith, used, enough, bound)) (omega (arith, used, enough, bound, long)))
 
-  -- where workers are done, and where they are not
+  -- if workers are done, and if they are not
   rounds_by : (round : List ℕ) (rounds : List (List ℕ)) (fuel : ℕ) (s : State) → DrivenTo calls store workers s → AllByRecursion (IsRound workers) (round ∷ rounds) → left bounds s + top ≤ fuel + (begins_with + brought bounds s) → fuel < suc (length rounds)
       → ((more : ℕ) (t : State) → DrivenTo calls store workers t → left bounds t + top ≤ more + (begins_with + brought bounds t) → more < length rounds → Comes (concat rounds) t) → (over : Bool) → is_done s ≡ over → Comes (round ++ concat rounds) s
   rounds_by round rounds fuel s led all enough long rest true over =
@@ -101,7 +101,7 @@ module _ (calls : List Invocation) (store : Storage) (workers gas : ℕ) (some :
   -- ---- from the start
 
   abbrev first : State
-  first = start (length calls) workers
+  first = start_state (length calls) workers
 
   -- enough rounds
   start_enough : left bounds first + top ≤ most_work workers (length calls) gas + (begins_with + brought bounds first)

@@ -1,4 +1,4 @@
--- How many of the keys that a run is to move its call has no entry at.
+-- The number of the keys that a run must move at which its call has no entry.
 use Rattle.std.proofs.Common.{◌≡◌, ◌≢◌, ◌≤◌, ◌+◌, not, ℕ, Bool, false, cond, List, [], ◌∷◌, ◌++◌, length, Option, None, Some, option_map, arith, refl, ap, ◌∙◌}
 use Rattle.std.specs.List.{AllByRecursion, filter}
 use Rattle.std.specs.Ordering.{eq_by_cmp}
@@ -15,7 +15,7 @@ use Rattle.stm_state.specs.Parts.{has_key}
 use Rattle.stm_state.specs.Steps.{keys_of, keys_to_move, left_over, write_of, written_by}
 use Rattle.stm_state.proofs.Writes.{changed_at, changed_other, entries_found}
 
--- one where there is no entry
+-- one if there is no entry
 abbrev pub if_new : Option Entry → ℕ
 if_new None = 1
 if_new (Some entry) = 0
@@ -25,7 +25,7 @@ abbrev pub new_keys : Versions → ℕ → List (List ℕ) → ℕ
 new_keys v i [] = 0
 new_keys v i (key ∷ keys) = if_new (entry_at v key i) + new_keys v i keys
 
--- ---- where an entry changes
+-- ---- an entry changes
 
 -- of another writer
 pub new_keys_other : (v : Versions) (key : List ℕ) (i : ℕ) (o : Option Entry) (j : ℕ) → j ≢ i → (keys : List (List ℕ)) → new_keys (changed v (key, i) o) j keys ≡ new_keys v j keys
@@ -62,7 +62,7 @@ written_found : (last : Option Recorded) → AllByRecursion (λ write. write_of 
 written_found None = tt
 written_found (Some run) = entries_found run.receipt.writes
 
--- where the call has estimates at the keys of its last run, none of those is new
+-- if the call has estimates at the keys of its last run, none of those keys is new
 new_keys_none : (v : Versions) (i : ℕ) (last : Option Recorded) → ((key : List ℕ) → entry_at v key i ≡ option_map (λ change. Estimate) (write_of last key)) → (p : List ℕ × ContentChange → Bool) (writes : List (List ℕ × ContentChange))
     → AllByRecursion (λ write. write_of last write.0 ≡ Some write.1) writes → new_keys v i (keys_of (filter p writes)) ≡ 0
 new_keys_none v i last at p [] h = refl

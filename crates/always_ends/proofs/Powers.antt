@@ -33,7 +33,7 @@ module _ (b : Bounds) where
   has_changes top s started = record { number = 0; made = unchanged }
   has_changes top t (stepped {s} w step before w_in k) = let rest = has_changes top s before in record { number = rest.number + changes top step (task_at s w) s.versions; made = one_more w step rest.made w_in k }
 
-  -- the incarnation of a call is at most so many times those of the lower ones, with one more for each
+  -- the incarnation of a call is at most 2 * writes + 1 times the sum of those of the lower ones, with one more for each
   pub incarnation_caused : (s : State) → Reached b.block b.workers s → (i : ℕ) → (call_at s i).incarnation ≤ (2 * b.writes + 1) * sum_to i (λ j. (call_at s j).incarnation + 1)
   incarnation_caused s reached i =
       let h = has_changes i s reached in
@@ -78,7 +78,7 @@ module _ (b : Bounds) where
       let all = mul-le-mul_left (cost b) few in
       omega (arith, is, all)
 
--- a block with its bounds, where reads are not counted
+-- a block with its bounds, if reads are not counted
 abbrev pub bounds_of : (block : Block) (workers reads writes : ℕ) → HasAtMost reads writes block → Bounds
 bounds_of block workers reads writes small = record { block = block; workers = workers; reads = reads; writes = writes; small = small; counts_reads = false }
 

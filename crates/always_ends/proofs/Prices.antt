@@ -1,4 +1,4 @@
--- What steps come to by prices: at most so much for each incarnation of a call.
+-- What steps add up to by their prices: a bounded amount for each incarnation of a call.
 use Rattle.std.proofs.Common.{◌≡◌, ◌≢◌, ◌<◌, ◌≤◌, ◌+◌, ◌*◌, ◌&&◌, nat_lt, ℕ, suc, Bool, true, false, if◌then◌else◌, List, [], ◌∷◌, length, set, get_or, Option, None, Some, Ok, option_map, arith, refl, sym, ap, subst, ◌∙◌, inl, inr}
 use Rattle.std.proofs.Math.Nat.{mul-le-mul_left}
 use Rattle.std.proofs.lemmas.Bool.{and_parts, cases_eq, cases_lt, cond_both, cond-true, cond-false}
@@ -14,8 +14,8 @@ use Rattle.stm_state.specs.declared.state.Status.TheVariants.{Ready, Executing, 
 use Rattle.stm_state.specs.declared.state.CallState.{CallState}
 use Rattle.stm_state.specs.declared.state.Task.{Task}
 use Rattle.stm_state.specs.declared.state.Task.TheVariants.{Idle, Running, Moving, Validating, Marking}
-use Rattle.stm_state.specs.State.{State, fresh, start, call_at, task_at, is_done, is_executed, is_ready, with_call, with_task}
-use Rattle.stm_state.specs.Steps.{Step, Record, MoveKey, FinishExecution, MarkEstimate, counted, one_asking, one_execution, one_step, one_validation, next_incarnation, ask_validation, ask_execution, after_ask, answered_with, after_read_key, after_park, after_record, after_move_key, after_finish_execution, after_check_read, after_decide, after_mark_estimate, after_finish_abort, has_new_key, is_executed_at, keys_of, keys_to_move, next_stands, reads_of, recorded_run, resume_dependents, resume_if_parked, to_validate, version_of, write_of, written_by, worker_step}
+use Rattle.stm_state.specs.State.{State, fresh, start_state, call_at, task_at, is_done, is_executed, is_ready, with_call, with_task}
+use Rattle.stm_state.specs.Steps.{Step, Record, MoveKey, FinishExecution, MarkEstimate, counted, one_asking, one_execution, one_step, one_validation, next_incarnation, ask_validation, ask_execution, after_ask, answered_with, after_read_key, after_park, after_record, after_move_key, after_finish_execution, after_check_read, after_decide, after_mark_estimate, after_finish_abort, has_new_key, is_executed_at, keys_of, keys_to_move, next_stands, recorded_reads, recorded_run, resume_dependents, resume_if_parked, to_validate, version_of, write_of, written_by, worker_step}
 use Rattle.stm_state.specs.Done.{Reached, started, stepped}
 use Rattle.stm_state.proofs.Invariant.{Invariant, entry_by, named_by, owned_by, run_by, turned_by, view_of}
 use Rattle.stm_state.proofs.Lists.{ChangesAt, replicated, stays_at, set_at}
@@ -42,7 +42,7 @@ abbrev pub below_of : ℕ → ℕ → Option ℕ → ℕ
 below_of top n None = 0
 below_of top n (Some j) = below top j n
 
--- prices of steps: of a record, of each key that is moved where the call has no entry, of the end of an execution, and of each
+-- prices of steps: of a record, of each key that is moved if the call has no entry there, of the end of an execution, and of each
 -- key that is marked
 pub record Prices : Type 0 where
   pub of_record : ℕ
@@ -50,12 +50,12 @@ pub record Prices : Type 0 where
   pub of_end : ℕ
   pub of_mark : ℕ
 
--- what the move of a key comes to
+-- the price of the move of a key
 abbrev pub price_of_move : Prices → ℕ → Task → Versions → ℕ
 price_of_move p top (Moving i (key ∷ keys) new) versions = below top i (p.of_key * if_new (entry_at versions key i))
 price_of_move p top task versions = 0
 
--- what a step comes to, if it is one of a call below call `top`
+-- the price of a step, if it is one of a call below call `top`
 abbrev pub price : Prices → ℕ → Step → Task → Versions → ℕ
 price p top Record task versions = below_of top p.of_record (named_by task)
 price p top MoveKey task versions = price_of_move p top task versions
@@ -63,14 +63,14 @@ price p top FinishExecution task versions = below_of top p.of_end (named_by task
 price p top MarkEstimate task versions = below_of top p.of_mark (named_by task)
 price p top step task versions = 0
 
--- the states that steps lead to, and what the steps on the way come to
+-- the states that steps lead to, and the sum of the prices of the steps on the way
 pub data ComesTo (b : Bounds) (p : Prices) (top : ℕ) : ℕ → State → Type 0 where
-  unchanged : ComesTo b p top 0 (start b.block.count b.workers)
+  unchanged : ComesTo b p top 0 (start_state b.block.count b.workers)
   one_more : {n : ℕ} {s t : State} (w : ℕ) (step : Step) → ComesTo b p top n s → w < b.workers → worker_step b.block w step s ≡ Some (Ok t) → ComesTo b p top (n + price p top step (task_at s w) s.versions) t
 
 module _ (b : Bounds) (p : Prices) (top : ℕ) where
-  -- what is kept with a run: its record, and the new keys that it moves; with a call that is EXECUTED, the marks of its keys; with one that
-  -- is EXECUTING, its end beside that; and for an incarnation, all that
+  -- what is kept with a run: its record, and the new keys that it moves; with a call that is EXECUTED, the marks of its keys;
+  -- with one that is EXECUTING, also its end; and for an incarnation, all of that
   pub run : ℕ
   run = p.of_record + p.of_key * b.writes
 
@@ -123,7 +123,7 @@ module _ (b : Bounds) (p : Prices) (top : ℕ) where
   below_none : (j : ℕ) → below top j 0 ≡ 0
   below_none j = elim (cases_lt j top) [ inl less ↦ below_yes j 0 less | inr more ↦ below_no j 0 more ]
 
-  -- tasks of other calls come to the same where an entry of call i changes
+  -- the amount of a task of another call stays if an entry of call i changes
   other_amount : (v : Versions) (key : List ℕ) (i : ℕ) (o : Option Entry) (task : Task) → owned_by task ≢ Some i → amount (changed v (key, i) o) task ≡ amount v task
   other_amount v key i o Idle ne = refl
   other_amount v key i o (Running j answers waits) ne = refl
@@ -132,11 +132,11 @@ module _ (b : Bounds) (p : Prices) (top : ℕ) where
   other_amount v key i o (Marking j keys) ne = refl
 
   module _ (w : ℕ) (s : State) (inv : Invariant b.block b.workers s) (w_in : w < b.workers) where
-    -- the tasks of other workers come to the same
+    -- the amounts of the tasks of other workers stay
     abbrev OthersStill : Versions → Type 0
     OthersStill versions = (y : ℕ) → y ≢ w → amount versions (task_at s y) ≡ amount s.versions (task_at s y)
 
-    -- as where an entry of this worker's call changes
+    -- they do if an entry of this worker's call changes
     others_still : (key : List ℕ) (i : ℕ) (o : Option Entry) → owned_by (task_at s w) ≡ Some i → OthersStill (changed s.versions (key, i) o)
     others_still key i o own y ne = other_amount s.versions key i o (task_at s y) (λ h. ne (inv.facts.alone y w i h own))
 
@@ -202,7 +202,7 @@ module _ (b : Bounds) (p : Prices) (top : ℕ) where
       validation_changes : Changes 0 s (counted one_asking w (ask_validation w s))
       unfolding ask_validation
       validation_changes = cond_both (is_executed (call_at s s.validation).status) _ _ (λ t. Changes 0 s (counted one_asking w t))
-          (λ _. silent_task s.validation 0 0 (Validating s.validation (call_at s s.validation).incarnation (length (reads_of (call_at s s.validation).last)) false) (before_asking s.validation) (sym (below_none s.validation)) (omega arith))
+          (λ _. silent_task s.validation 0 0 (Validating s.validation (call_at s s.validation).incarnation (length (recorded_reads (call_at s s.validation).last)) false) (before_asking s.validation) (sym (below_none s.validation)) (omega arith))
           (λ _. omega arith)
 
       execution_changes : s.execution < length s.calls → Changes 0 s (counted one_asking w (ask_execution w s))
@@ -261,7 +261,7 @@ module _ (b : Bounds) (p : Prices) (top : ℕ) where
     mark_changes : (i : ℕ) (key : List ℕ) (keys : List (List ℕ)) → task_at s w ≡ Marking i (key ∷ keys) → Changes (below top i p.of_mark) s (counted one_step w (after_mark_estimate w i key keys s))
     mark_changes i key keys at = key_task i p.of_mark (p.of_mark * suc (length keys)) (p.of_mark * length keys) (Marking i keys) key (Some Estimate) (ap owned_by at) (ap (amount s.versions) at) refl (omega arith)
 
-    -- a validation goes on or ends
+    -- a validation continues or ends
     checked_changes : (i n more : ℕ) (failed : Bool) (task : Task) (add : Counts → Counts) → task_at s w ≡ Validating i n more failed → amount s.versions task ≡ 0 → Changes 0 s (counted add w (with_task w task s))
     checked_changes i n more failed task add at none = silent_task i 0 0 task (ap (amount s.versions) at ∙ sym (below_none i)) (none ∙ sym (below_none i)) (omega arith)
 
@@ -311,7 +311,7 @@ module _ (b : Bounds) (p : Prices) (top : ℕ) where
       was = ap stage (inv.facts.running w i (ap run_by at))
 
       module _ (task : Task) (none : amount s.versions task ≡ 0) where
-        -- the state afterwards, but for the indices
+        -- the state afterwards, except for the indices
         abbrev t : State
         t = with_task w task (record s { calls = resumed s i })
 
@@ -349,7 +349,7 @@ module _ (b : Bounds) (p : Prices) (top : ℕ) where
       unfolding to_validate resume_dependents
       finish_changes = cond_both (nat_lt i s.validation) _ _ (λ t. Changes (below top i p.of_end) s (counted one_step w t))
           (λ _. cond_both new _ _ (λ t. Changes (below top i p.of_end) s (counted one_step w t))
-          (λ _. finished_changes Idle refl) (λ _. finished_changes (Validating i (call_at s i).incarnation (length (reads_of (call_at s i).last)) false) refl))
+          (λ _. finished_changes Idle refl) (λ _. finished_changes (Validating i (call_at s i).incarnation (length (recorded_reads (call_at s i).last)) false) refl))
           (λ _. finished_changes Idle refl)
 
     -- ---- each step
@@ -373,9 +373,9 @@ module _ (b : Bounds) (p : Prices) (top : ℕ) where
   comes_reached n t (one_more {s = s} w step before w_in k) = stepped w step (comes_reached _ s before) w_in k
 
   -- at the start
-  start_changes : left (start b.block.count b.workers) ≤ top * most
+  start_changes : left (start_state b.block.count b.workers) ≤ top * most
   start_changes =
-      let first = start b.block.count b.workers in
+      let first = start_state b.block.count b.workers in
       let calls = sum_le top (λ j. stage (call_at first j).status) (λ j. most) (λ j less. let e = ap (λ (c : CallState). stage c.status) (replicated b.block.count j fresh) in omega (arith, e)) in
       let all = sum_same top most in
       let tasks = sum_le b.workers (λ x. amount first.versions (task_at first x)) (λ x. 0) (λ x less. let e = ap (amount first.versions) (replicated b.workers x Idle) in omega (arith, e)) in
@@ -389,7 +389,7 @@ module _ (b : Bounds) (p : Prices) (top : ℕ) where
       let more = made_changes w s inv w_in step t (made b.block w s t step k) in
       let rest = comes_left before_n s before in omega (arith, more, rest)
 
-  -- so it is at most so much for each incarnation, and less where something is left
+  -- so it is at most `most` for each incarnation, and less if something is left
   pub comes_few_with : (n : ℕ) (s : State) → ComesTo b p top n s → (x : ℕ) → x ≤ left s → n + x ≤ most * sum_to top (λ j. (call_at s j).incarnation + 1)
   comes_few_with n s h x more =
       let all = comes_left n s h in

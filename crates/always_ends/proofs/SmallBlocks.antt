@@ -133,7 +133,7 @@ module _ (b : Bounds) (w : ℕ) (s : State) (inv : Invariant b.block b.workers s
   made_fits step t (by_mark i key keys at) = omega arith
   made_fits step t (by_abort i at) = abort_fits i
 
--- records of so many writes fit, so one more does
+-- if `most` records of `writes` writes each fit, so does one more record
 no_room : (writes number most placed more : ℕ) → placed ≤ writes * number → more ≤ writes → writes * (number + 1) ≤ writes * most → writes * most ≤ record_limit → record_limit < placed + more → ⊥
 no_room writes number most placed more fits few times room over = omega (arith, fits, few, times, room, over)
 
@@ -156,7 +156,7 @@ module _ (b : Bounds) where
       let fit = rest.fits in
       record { number = rest.number + price of_records b.block.count step (task_at s w) s.versions; made = one_more w step rest.made w_in k; fits = omega (arith, more, fit) }
 
-  -- while a run is going on, its record is still to come
+  -- while a run is not over, its record is still to come
   one_left : (s : State) → Reached b.block b.workers s → (w i : ℕ) (answers : List StorageAnswer) (waits : Option ℕ) → w < b.workers → task_at s w ≡ Running i answers waits → (h : HasRecords s) → h.number + 1 ≤ b.block.count + incarnations s
   one_left s reached w i answers waits w_in at h =
       let inv = invariant_kept b.block b.workers s reached in

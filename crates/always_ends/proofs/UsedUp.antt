@@ -1,4 +1,4 @@
--- Each step that is not an idle asking uses up some of what is left, but for what an incarnation brings.
+-- Each step that is not an idle asking uses up some of what is left, except for what an incarnation brings.
 use Rattle.std.proofs.Common.{◌≡◌, ◌≢◌, ◌<◌, ◌≤◌, ◌+◌, ◌*◌, ◌==◌, ◌&&◌, ◌++◌, min, nat_lt, not, ℕ, suc, Bool, true, false, cond, List, [], ◌∷◌, length, set, Option, None, Some, arith, refl, sym, ap, subst, ◌∙◌, inl, inr, length-append}
 use Rattle.std.specs.FinMap.{contains_key, entries, len, len-entries}
 use Rattle.std.proofs.lemmas.Bool.{and_parts, cond_both}
@@ -19,7 +19,7 @@ use Rattle.stm_state.specs.declared.state.Recorded.{Recorded}
 use Rattle.stm_state.specs.declared.state.Task.{Task}
 use Rattle.stm_state.specs.declared.state.Task.TheVariants.{Idle, Running, Moving, Validating, Marking}
 use Rattle.stm_state.specs.State.{State, fresh, call_at, task_at, with_call, with_task, is_done, is_executed, is_idle, is_ready}
-use Rattle.stm_state.specs.Steps.{Step, Ask, ReadKey, counted, one_asking, one_execution, one_step, one_validation, next_incarnation, ask_validation, ask_execution, after_ask, answered_with, after_read_key, after_park, after_record, after_move_key, after_finish_execution, after_check_read, after_decide, after_mark_estimate, after_finish_abort, has_new_key, is_executed_at, keys_of, keys_to_move, least_parked_call, left_over, next_stands, read_of, reads_of, recorded_run, resume_dependents, resume_if_parked, to_validate, written_by}
+use Rattle.stm_state.specs.Steps.{Step, Ask, ReadKey, counted, one_asking, one_execution, one_step, one_validation, next_incarnation, ask_validation, ask_execution, after_ask, answered_with, after_read_key, after_park, after_record, after_move_key, after_finish_execution, after_check_read, after_decide, after_mark_estimate, after_finish_abort, has_new_key, is_executed_at, keys_of, keys_to_move, least_parked_call, left_over, next_stands, read_of, recorded_reads, recorded_run, resume_dependents, resume_if_parked, to_validate, written_by}
 use Rattle.stm_state.proofs.Invariant.{Invariant, named_by, run_by}
 use Rattle.stm_state.proofs.Lists.{ChangesAt, each_at, stays_at, set_at}
 use Rattle.stm_state.proofs.StepsByTask.{IsMade, by_ask, by_read, by_park, by_record, by_move, by_finish, by_check, by_decide, by_mark, by_abort}
@@ -32,7 +32,7 @@ use Rattle.always_ends.proofs.Sums.{sum_pair_at, sum_more_at, sum_none}
 use Rattle.always_ends.proofs.Finished.{ended, resumed, resumed_at, resumed_other}
 use Rattle.always_ends.proofs.Measure.{Bounds, check, run, executed, executing, cost, check_is, executed_is, executing_is, ready_is, cost_is, stage, waiting_left, reads_left, task_left, indices_left, is_executed_in, calls_left, tasks_left, brought, Uses, first_run, task_grows, task_most, validation_passes, execution_passes, indices_most, execution_lowered}
 
--- the keys that a run is to move are at most those that it wrote and those that the run before it wrote
+-- the keys that a run must move are at most those that it wrote and those that the run before it wrote
 keys_few : (most : ℕ) (last : Option Recorded) (writes : WriteMap) → len writes ≤ most → length (keys_of (written_by last)) ≤ most → length (keys_to_move last writes) ≤ 2 * most
 keys_few most last writes few before =
     let p : List ℕ × ContentChange → Bool = λ write. not (contains_key writes write.0) in
@@ -75,7 +75,7 @@ module _ (b : Bounds) (w : ℕ) (s : State) (inv : Invariant b.block b.workers s
         (λ j less ne. each_at (call_at s) (call_at t) i own calls j (λ c. stage b c.status + cost b * (call_at s j).incarnation ≤ stage b (call_at s j).status + cost b * c.incarnation) (λ e. absurd (ne e)) (λ other. omega arith))
         (subst (λ (c : CallState). stage b c.status + cost b * (call_at s i).incarnation + (stage b (call_at s i).status + cost b * own.incarnation) ≤ stage b (call_at s i).status + cost b * c.incarnation + (stage b own.status + cost b * (call_at s i).incarnation)) (sym calls.there) (omega arith))
 
-    -- what is left of the tasks, where no call becomes EXECUTED
+    -- what is left of the tasks, if no call becomes EXECUTED
     module _ (still : is_executed own.status ≡ true → is_executed (call_at s i).status ≡ true) where
       none_more : (j : ℕ) → is_executed_in b t j ≡ true → is_executed_in b s j ≡ true
       none_more j = each_at (call_at s) (call_at t) i own calls j (λ c. is_executed c.status ≡ true → is_executed (call_at s j).status ≡ true) (λ e h. ap (λ y. is_executed (call_at s y).status) e ∙ still h) (λ ne h. h)
@@ -114,7 +114,7 @@ module _ (b : Bounds) (w : ℕ) (s : State) (inv : Invariant b.block b.workers s
     nothing_left : task_left b (is_executed_in b s) (task_at s w) ≡ 0
     nothing_left = ap (task_left b (is_executed_in b s)) at
 
-    ask_validation_uses : (reads_in : (i : ℕ) → length (reads_of (call_at s i).last) ≤ b.reads) → s.validation < s.execution → Uses b 1 s (counted one_asking w (ask_validation w s))
+    ask_validation_uses : (reads_in : (i : ℕ) → length (recorded_reads (call_at s i).last) ≤ b.reads) → s.validation < s.execution → Uses b 1 s (counted one_asking w (ask_validation w s))
     unfolding ask_validation
     ask_validation_uses reads_in behind =
         let within = inv.facts.execution_within in
@@ -123,7 +123,7 @@ module _ (b : Bounds) (w : ℕ) (s : State) (inv : Invariant b.block b.workers s
         let none = nothing_left in
         let checks = check_is b in
         cond_both (is_executed (call_at s s.validation).status) _ _ (λ t. Uses b 1 s (counted one_asking w t))
-        (λ h. let few = reads_in s.validation in uses_task s.validation 1 (Validating s.validation (call_at s s.validation).incarnation (length (reads_of (call_at s s.validation).last)) false) (s.validation + 1) s.execution i_in (omega (arith, passes, none, checks, few)))
+        (λ h. let few = reads_in s.validation in uses_task s.validation 1 (Validating s.validation (call_at s s.validation).incarnation (length (recorded_reads (call_at s s.validation).last)) false) (s.validation + 1) s.execution i_in (omega (arith, passes, none, checks, few)))
         (λ h. omega (arith, passes, checks))
 
     ask_execution_uses : s.execution < b.block.count → Uses b 1 s (counted one_asking w (ask_execution w s))
@@ -162,7 +162,7 @@ module _ (b : Bounds) (w : ℕ) (s : State) (inv : Invariant b.block b.workers s
         (λ _. omega arith)))
 
     -- one that is not
-    asking_uses : (reads_in : (i : ℕ) → length (reads_of (call_at s i).last) ≤ b.reads) → are_past ≡ false → Uses b 1 s (counted one_asking w (after_ask w s))
+    asking_uses : (reads_in : (i : ℕ) → length (recorded_reads (call_at s i).last) ≤ b.reads) → are_past ≡ false → Uses b 1 s (counted one_asking w (after_ask w s))
     asking_uses reads_in short =
         let size = inv.sized.calls in
         let e_in = inv.facts.execution_within in
@@ -175,12 +175,12 @@ module _ (b : Bounds) (w : ℕ) (s : State) (inv : Invariant b.block b.workers s
         let over = not_lt_says s.execution (length s.calls) ends in
         let past = past_is (omega (arith, over, e_in, size)) (omega (arith, over, above, v_in, size)) in cc)))
 
-    pub ask_uses : (reads_in : (i : ℕ) → length (reads_of (call_at s i).last) ≤ b.reads) → Uses b (work_of Ask s) s (counted one_asking w (after_ask w s))
+    pub ask_uses : (reads_in : (i : ℕ) → length (recorded_reads (call_at s i).last) ≤ b.reads) → Uses b (work_of Ask s) s (counted one_asking w (after_ask w s))
     ask_uses reads_in = cond_both are_past _ _ (λ x. Uses b x s (counted one_asking w (after_ask w s))) (λ past. idle_uses past) (λ short. asking_uses reads_in short)
 
   -- ---- sizes of what is recorded
 
-  reads_by : (i : ℕ) (last : Option Recorded) → (call_at s i).last ≡ last → (length (reads_of last) ≤ b.reads) × (length (keys_of (written_by last)) ≤ b.writes)
+  reads_by : (i : ℕ) (last : Option Recorded) → (call_at s i).last ≡ last → (length (recorded_reads last) ≤ b.reads) × (length (keys_of (written_by last)) ≤ b.writes)
   reads_by i None at = (omega arith, omega arith)
   reads_by i (Some run) at =
       let bears = inv.facts.recorded i run at in
@@ -191,7 +191,7 @@ module _ (b : Bounds) (w : ℕ) (s : State) (inv : Invariant b.block b.workers s
       let size = len-entries run.receipt.writes in
       (omega (arith, short, reads), omega (arith, few, size, length-map (entries run.receipt.writes) (λ write. write.0)))
 
-  reads_short : (i : ℕ) → length (reads_of (call_at s i).last) ≤ b.reads
+  reads_short : (i : ℕ) → length (recorded_reads (call_at s i).last) ≤ b.reads
   reads_short i = (reads_by i (call_at s i).last refl).0
 
   pub written_few : (i : ℕ) → length (keys_of (written_by (call_at s i).last)) ≤ b.writes
@@ -365,7 +365,7 @@ module _ (b : Bounds) (w : ℕ) (s : State) (inv : Invariant b.block b.workers s
     checks_in : check b ≤ check b * b.block.count
     checks_in = let one : 1 ≤ b.block.count = omega (arith, ended_in) in let all = mul-le-mul_left (check b) one in omega (arith, all)
 
-    -- with a new key the validation index is lowered, and else the worker has a call to check, or nothing
+    -- with a new key the validation index is lowered; otherwise the worker has a call to check, or nothing
     finish_uses : Uses b 1 s (counted one_step w (after_finish_execution w i new s))
     unfolding to_validate resume_dependents
     finish_uses =
@@ -377,7 +377,7 @@ module _ (b : Bounds) (w : ℕ) (s : State) (inv : Invariant b.block b.workers s
         cond_both (nat_lt i s.validation) _ _ (λ t. Uses b 1 s (counted one_step w t))
         (λ _. cond_both new _ _ (λ t. Uses b 1 s (counted one_step w t))
         (λ _. let most = indices_most b i e in ended_uses Idle i e (λ c d. refl) (omega (arith, most)))
-        (λ _. ended_uses (Validating i (call_at s i).incarnation (length (reads_of (call_at s i).last)) false) s.validation e (λ c d. refl) (omega (arith, lowered, first, short, checks))))
+        (λ _. ended_uses (Validating i (call_at s i).incarnation (length (recorded_reads (call_at s i).last)) false) s.validation e (λ c d. refl) (omega (arith, lowered, first, short, checks))))
         (λ _. ended_uses Idle s.validation e (λ c d. refl) (omega (arith, lowered)))
 
   -- ---- each step

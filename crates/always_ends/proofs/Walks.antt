@@ -1,4 +1,4 @@
--- What a list of worker numbers comes to: it works, or each of its workers owes an idle asking all along.
+-- What a list of worker numbers does: it works, or each of its workers owes an idle asking all along.
 use Rattle.std.proofs.Common.{◌≡◌, ◌≢◌, ◌<◌, ◌≤◌, ◌⊎◌, ◌+◌, ◌++◌, nat_lt, ℕ, zero, suc, Bool, true, false, if◌then◌else◌, List, [], ◌∷◌, length, Option, None, Some, IsSome, Result, Ok, Err, slice_index_or, arith, refl, sym, ap, subst, ◌∙◌, inl, inr}
 use Rattle.std.specs.List.{AllByRecursion, Contains}
 use Rattle.std.proofs.lemmas.Bool.{cases_eq, cond_both, cond-true}
@@ -21,7 +21,7 @@ use Rattle.always_ends.proofs.Measure.{Bounds, left, Uses}
 use Rattle.always_ends.proofs.WorkOfLists.{job, due_uses, led_invariant}
 use Rattle.always_ends.proofs.IdleWorkers.{OwesIdle, are_past, past_says}
 
--- two states agree but for what is counted
+-- two states agree except for what is counted
 pub record Agrees (s t : State) : Type 0 where
   pub counts : List Counts
   pub dones : List ℕ
@@ -29,7 +29,7 @@ pub record Agrees (s t : State) : Type 0 where
 
 -- ---- an idle asking
 
--- it changes nothing but what is counted
+-- it changes only what is counted
 asked_agrees : (w : ℕ) (s : State) → are_past s ≡ true → Agrees s (counted one_asking w (after_ask w s))
 asked_agrees w s past =
     let at = past_says s past in
@@ -74,7 +74,7 @@ module _ (calls : List Invocation) (store : Storage) (workers gas : ℕ) (most :
     works : Uses bounds 1 s t → Goes list s t
     rests : Agrees s t → AllByRecursion (OwesIdle calls s) list → Goes list s t
 
-  -- a list meets a limit, or leads to a state, from which whatever follows it goes on
+  -- a list meets a limit, or leads to a state, and whatever follows the list starts from there
   pub data Walks (list : List ℕ) (s : State) : Type 0 where
     refused : (limit : Limit) → ((more : List ℕ) → comes_to (list ++ more) s ≡ Err (Limited limit)) → Walks list s
     walked : (t : State) → DrivenTo calls store workers t → ((more : List ℕ) → comes_to (list ++ more) s ≡ comes_to more t) → Goes list s t → Walks list s
@@ -99,7 +99,7 @@ module _ (calls : List Invocation) (store : Storage) (workers gas : ℕ) (most :
 
   -- ---- a list
 
-  -- what is counted is nothing to what is owed
+  -- what is counted does not change what is owed
   same_idle : (s : State) (counts : List Counts) (dones : List ℕ) (step : Step) → is_idle_asking step (record s { counts = counts; dones = dones }) ≡ is_idle_asking step s
   same_idle s counts dones Ask = refl
   same_idle s counts dones step = refl
@@ -128,9 +128,9 @@ module _ (calls : List Invocation) (store : Storage) (workers gas : ℕ) (most :
   walks [] s led within = walked s led (λ more. refl) (rests (record { counts = s.counts; dones = s.dones; is = refl }) tt)
   walks (w ∷ list) s led within = walks_by w list s led within.0 (λ t after. walks list t after within.1) (due_result calls store w s) refl (due_where_led calls store workers s w led within.0)
 
-  -- ---- where workers are done
+  -- ---- if workers are done
 
-  -- a worker asks, and is told so
+  -- a worker asks, and is answered Done
   abbrev asked : ℕ → State → State
   asked w s = counted one_asking w (after_ask w s)
 
@@ -147,7 +147,7 @@ module _ (calls : List Invocation) (store : Storage) (workers gas : ℕ) (most :
   others_dones : (w x : ℕ) (s : State) → is_done s ≡ true → x ≢ w → dones_of x (asked w s) ≡ dones_of x s
   others_dones w x s done ne = others_stay (block_of calls store) w (due_step calls (task_at s w)) s (asked w s) (done_asks w s done) x ne
 
-  -- a list from there on ends there, and each worker that it names is told so
+  -- a list from there on ends there, and each worker that it names is answered Done
   pub record Told (list : List ℕ) (s : State) : Type 0 where
     pub state : State
     pub comes : comes_to list s ≡ Ok state

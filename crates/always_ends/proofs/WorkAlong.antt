@@ -2,7 +2,7 @@
 use Rattle.std.proofs.Common.{◌≡◌, ◌<◌, ◌+◌, ◌*◌, ◌/◌, ℕ, List, [], ◌∷◌, length, Some, Ok, arith, ap, refl, subst}
 use Rattle.std.specs.List.{AllByRecursion}
 use Rattle.std.proofs.Math.Nat.{mul-le-mul_right}
-use Rattle.stm_state.specs.State.{State, start}
+use Rattle.stm_state.specs.State.{State, start_state}
 use Rattle.stm_state.specs.Steps.{Block, Step, worker_step}
 use Rattle.stm_state.specs.Done.{block_of}
 use Rattle.stm_state.specs.Walk.{walk}
@@ -42,9 +42,9 @@ pub work_of_lists_is_bounded : WorkOfListsIsBounded
 work_of_lists_is_bounded calls store workers gas entries s most leads =
     let block = block_of calls store in
     let small = small_job calls store workers gas most in
-    let work = work_along block entries (start (length calls) workers) in
+    let work = work_along block entries (start_state (length calls) workers) in
     let none : 0 + work ≡ work = omega arith in
-    let works = subst (λ n. WorksButReadsTo block workers n s) none (works_on block workers entries 0 (start (length calls) workers) s at_start leads.within leads.comes) in
+    let works = subst (λ n. WorksButReadsTo block workers n s) none (works_on block workers entries 0 (start_state (length calls) workers) s at_start leads.within leads.comes) in
     let by_incarnations = work_but_reads_is_bounded block workers (gas / 200 + 1) 256 work s small works in
     let few = all_incarnations_are_bounded block workers (gas / 200 + 1) 256 s small ((reached_by_list block workers s).1 (entries, leads)) in (
       by_incarnations,

@@ -7,7 +7,7 @@ use Rattle.rv_step.specs.Replies.{reply_of, replies_of}
 use Rattle.rv_step.specs.declared.answer.StorageAnswer.{StorageAnswer}
 use Rattle.stm_state.specs.declared.state.CallState.{CallState}
 use Rattle.stm_state.specs.declared.state.Task.TheVariants.{Idle}
-use Rattle.stm_state.specs.State.{State, fresh, start, call_at, task_at}
+use Rattle.stm_state.specs.State.{State, fresh, start_state, call_at, task_at}
 use Rattle.stm_state.specs.Steps.{Step, Ask, ReadKey, Park, Record, MoveKey, FinishExecution, CheckRead, Decide, MarkEstimate, FinishAbort}
 use Rattle.stm_state.specs.Done.{Reached, started, stepped, block_of}
 use Rattle.stm_state.specs.Drive.{DrivenTo, at_start, made_step, due_result, due_step, due_step_of_run, asked_at}
@@ -28,21 +28,21 @@ use Rattle.always_ends.proofs.UsedUp.{made_uses, work_in}
 
 -- ---- the start
 
--- what is kept with all calls, and both indices, is no more than so many incarnations bring
+-- what is kept with n calls, and with both indices, is no more than n incarnations bring
 enough : (n r c : ℕ) → n * r + (c * n + n) ≤ n * (r + (c * n + n))
 enough zero r c = omega arith
 enough (suc n) r c = omega arith
 
 module _ (b : Bounds) where
-  fresh_at : (j : ℕ) → call_at (start b.block.count b.workers) j ≡ fresh
+  fresh_at : (j : ℕ) → call_at (start_state b.block.count b.workers) j ≡ fresh
   fresh_at j = replicated b.block.count j fresh
 
-  idle_at : (x : ℕ) → task_at (start b.block.count b.workers) x ≡ Idle
+  idle_at : (x : ℕ) → task_at (start_state b.block.count b.workers) x ≡ Idle
   idle_at x = replicated b.workers x Idle
 
-  pub start_left : left b (start b.block.count b.workers) ≤ b.block.count * cost b
+  pub start_left : left b (start_state b.block.count b.workers) ≤ b.block.count * cost b
   start_left =
-      let first = start b.block.count b.workers in
+      let first = start_state b.block.count b.workers in
       let calls = sum_le b.block.count (λ j. stage b (call_at first j).status) (λ j. ready b) (λ j less. let e = ap (λ (c : CallState). stage b c.status) (fresh_at j) in omega (arith, e)) in
       let all = sum_same b.block.count (ready b) in
       let tasks = sum_le b.workers (λ x. task_left b (is_executed_in b first) (task_at first x)) (λ x. 0) (λ x less. let e = ap (task_left b (is_executed_in b first)) (idle_at x) in omega (arith, e)) in

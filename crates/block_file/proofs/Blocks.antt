@@ -10,7 +10,7 @@ use Rattle.rv_ledger.specs.declared.rules.Rules.{Rules}
 use Rattle.block_file.specs.declared.fault.Cause.TheVariants.{BadHeader, BadLine}
 use Rattle.block_file.specs.declared.fault.BlockFault.{BlockFault}
 use Rattle.block_file.specs.Line.{cut, on_line}
-use Rattle.block_file.specs.Block.{Parsed, BlockValue, start, with_line, body_of, behind, rules_of, first_format, second_format, block_of_parts}
+use Rattle.block_file.specs.Block.{Parsed, BlockValue, nothing_parsed, with_line, lines_from, parts_after, rules_of, first_format, second_format, block_of_parts}
 use Rattle.block_file.proofs.Lines.{later}
 
 abbrev FromFirst : Result BlockValue BlockFault → Type 0
@@ -22,14 +22,14 @@ from_body n true body low h = low
 from_body n false (Ok s) low h = tt
 from_body n false (Err fault) low h = omega arith
 
-from_behind : (n : ℕ) (rules : Rules) (parts : List (List ℕ)) → 1 ≤ n → FromFirst (behind n rules parts)
-from_behind n rules parts low = from_body n (length parts == 0) (body_of (n + 1) rules parts) low (later with_line BadLine (n + 1) (start rules) parts)
+from_behind : (n : ℕ) (rules : Rules) (parts : List (List ℕ)) → 1 ≤ n → FromFirst (parts_after n rules parts)
+from_behind n rules parts low = from_body n (length parts == 0) (lines_from (n + 1) rules parts) low (later with_line BadLine (n + 1) (nothing_parsed rules) parts)
 
 from_second : (parts : List (List ℕ)) → FromFirst (second_format parts)
 from_second [] = lit≤ tt
 from_second (line ∷ rest) = by (rules_of line)
   where
-    by : (o : Option Rules) → FromFirst (on_line 2 (ok_or o BadLine) (λ rules. behind 2 rules rest))
+    by : (o : Option Rules) → FromFirst (on_line 2 (ok_or o BadLine) (λ rules. parts_after 2 rules rest))
     by (Some rules) = from_behind 2 rules rest (lit≤ tt)
     by None = lit≤ tt
 
@@ -46,7 +46,7 @@ from_first (header ∷ rest) =
     (from_behind 1 _ rest (lit≤ tt)) (from_second rest)
 
 -- a text has a line
-pub behind_some : (n : ℕ) (rules : Rules) (text : List ℕ) → behind n rules (cut 10 text) ≡ result_map_both (λ s. s.block) (λ fault. fault) (body_of (n + 1) rules (cut 10 text))
+pub behind_some : (n : ℕ) (rules : Rules) (text : List ℕ) → parts_after n rules (cut 10 text) ≡ result_map_both (λ s. s.block) (λ fault. fault) (lines_from (n + 1) rules (cut 10 text))
 behind_some n rules text =
     let some : (length (cut 10 text) == 0) ≡ false = ne_eqb _ _ (λ (none : length (cut 10 text) ≡ 0). omega (arith, length-slice_split (λ b. b == 10) text)) in
-    ap (λ none. if none then Err (record { line = n; cause = BadLine }) else result_map_both (λ s. s.block) (λ fault. fault) (body_of (n + 1) rules (cut 10 text))) some
+    ap (λ none. if none then Err (record { line = n; cause = BadLine }) else result_map_both (λ s. s.block) (λ fault. fault) (lines_from (n + 1) rules (cut 10 text))) some

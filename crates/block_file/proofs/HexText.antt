@@ -10,7 +10,7 @@ use Rattle.std.proofs.lemmas.List.{get_or_default}
 use Rattle.std.proofs.lemmas.List.Sums.{AllPass-from_list_all, list_all-from_AllPass}
 use Rattle.hex.specs.Hex.{decode_of, decode_pairs, digit_or_error, hex_digit_value, is_hex_digit, pair_value}
 use Rattle.hex.proofs.HexLemmas.{decode_of-even, decode_of-digits, decode_of-ok}
-use Rattle.block_file.specs.Line.{hex_of, bytes_of, is_lower_digit}
+use Rattle.block_file.specs.Line.{hex_of, field_bytes, is_lower_digit}
 
 -- the number of a digit in lower case
 abbrev lower_value : ℕ → Option ℕ
@@ -80,7 +80,7 @@ read_whole text bytes even digits h =
 is_hex : (byte : ℕ) → is_lower_digit byte ≡ true → is_hex_digit byte ≡ true
 is_hex byte h = grind (arith, nat_tests)
 
--- the bytes of a text of which each byte is a digit, at least n where it has 2 * n digits
+-- the bytes of a text in which each byte is a digit: more than n bytes if the text has more than 2 * n digits
 pub read_long : (text : List ℕ) (n : ℕ) → length text % 2 ≡ 0 → list_all is_lower_digit text ≡ true → 2 * n < length text
     → (bytes : List ℕ) × (hex_of text ≡ Ok bytes) × (n < length bytes)
 read_long text n even all long =
@@ -90,8 +90,8 @@ read_long text n even all long =
     (read.0, rw (all, read.1) refl, omega (arith, sizes.2))
 
 pub long_bytes : (text : List ℕ) (n : ℕ) → bytes_eq text (codes "-") ≡ false → (bytes : List ℕ) × (hex_of text ≡ Ok bytes) × (n < length bytes)
-    → Ok None ≡ result_map_both (λ bytes. if nat_lt n (length bytes) then None else Some bytes) (λ cause. cause) (bytes_of text)
+    → Ok None ≡ result_map_both (λ bytes. if nat_lt n (length bytes) then None else Some bytes) (λ cause. cause) (field_bytes text)
 long_bytes text n other read =
     let long : nat_lt n (length read.0) ≡ true = lt-ltb _ _ read.2 in
-    let same : bytes_of text ≡ Ok read.0 = rw other read.1 in
+    let same : field_bytes text ≡ Ok read.0 = rw other read.1 in
     rw (same, long) refl

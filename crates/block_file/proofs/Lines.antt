@@ -12,7 +12,7 @@ use Rattle.block_file.specs.Line.{read_parts, on_line}
 abbrev pub texts : List (Bor (List ℕ)) → List (List ℕ)
 texts parts = map (λ part. part.now) parts
 
--- a line with a part behind it
+-- a line with a part after it
 pub goes_on : {S : Type 0} (read : S → List ℕ → Result S Cause) (unended : Cause) (n : ℕ) (s t : S) (line : List ℕ) (rest : List (List ℕ)) → 0 < length rest → read s line ≡ Ok t → read_parts read unended n s (line ∷ rest) ≡ read_parts read unended (n + 1) t rest
 goes_on read unended n s t line [] h e = absurd (omega arith)
 goes_on read unended n s t line (next ∷ more) h e = ap (λ r. on_line n r (λ u. read_parts read unended (n + 1) u (next ∷ more))) e
@@ -46,7 +46,7 @@ read_from {S} read unended n m s t (line ∷ next ∷ more) h = by (read s line)
     by (Ok u) again h = again u h
     by (Err cause) again h = cc
 
--- a line is taken, where wanted is what all parts give
+-- a line is taken; `wanted` is what all parts give
 pub read_on : {S : Type 0} (read : S → List ℕ → Result S Cause) (unended : Cause) (n : ℕ) (s t : S) (parts : List (List ℕ)) (line : List ℕ) (rest : List (List ℕ)) (wanted : Result S BlockFault)
     → parts ≡ line ∷ rest → 0 < length rest → read s line ≡ Ok t
     → read_parts read unended n s parts ≡ wanted → read_parts read unended (n + 1) t rest ≡ wanted
@@ -63,7 +63,7 @@ refused_on read unended n s cause parts line rest wanted cut more (inl memory) h
 refused_on read unended n s cause parts line rest wanted cut more (inr e) h =
     inl (sym h ∙ ap (read_parts read unended n s) cut ∙ stops read unended n s cause line rest more e)
 
--- the part at an index, and the parts behind it
+-- the part at an index, and the parts after it
 drop-texts : (parts : List (Bor (List ℕ))) (i : ℕ) (d : Bor (List ℕ)) → i < length parts → drop i (texts parts) ≡ (get_or parts i d).now ∷ drop (i + 1) (texts parts)
 drop-texts parts i d h =
     drop-map (λ part. part.now) i parts ∙ ap texts (drop-cons parts i d h)
@@ -72,7 +72,7 @@ drop-texts parts i d h =
 length-rest : (parts : List (Bor (List ℕ))) (i : ℕ) → length (drop i (texts parts)) ≡ length parts - i
 length-rest parts i = length-drop i (texts parts) ∙ ap (λ n. n - i) (length-map parts (λ part. part.now))
 
--- the steps of a loop over the parts, where wanted is what all of them give
+-- the steps of a loop over the parts; `wanted` is what all of them give
 
 pub taken : {S : Type 0} (read : S → List ℕ → Result S Cause) (unended : Cause) (n m : ℕ) (s t : S) (parts : List (Bor (List ℕ))) (i : ℕ) (d : Bor (List ℕ)) (wanted : Result S BlockFault)
     → m ≡ n + 1 → i < length parts → i + 1 ≢ length parts → read s (get_or parts i d).now ≡ Ok t

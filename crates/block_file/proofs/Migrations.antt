@@ -13,7 +13,7 @@ use Rattle.rv_ledger.specs.declared.rules.Rules.TheVariants.{One}
 use Rattle.block_file.specs.declared.fault.Cause.TheVariants.{BadHeader, BadLine}
 use Rattle.block_file.specs.declared.fault.BlockFault.{BlockFault}
 use Rattle.block_file.specs.Line.{cut}
-use Rattle.block_file.specs.Block.{BlockValue, Parsed, start, with_line, body_of, behind, block_of_parts, block_of}
+use Rattle.block_file.specs.Block.{BlockValue, Parsed, nothing_parsed, with_line, lines_from, parts_after, block_of_parts, parsed_block}
 use Rattle.block_file.specs.Migrate.{is_first_format, in_second_format, migrated}
 use Rattle.block_file.proofs.Lines.{read_from}
 
@@ -50,13 +50,13 @@ ends_nowhere bytes h = by (nat_lt (end_of bytes) (length bytes)) refl h
     by false e h = ap (λ line. bytes_eq line (codes "rvblock 1")) (sym (no_end bytes e))
 
 -- a file of format 1 that is read has the first line of format 1, its LF, and the body
-opened : (bytes : List ℕ) (value : BlockValue) → is_first_format bytes ≡ true → block_of bytes ≡ Ok value → cut 10 bytes ≡ codes "rvblock 1" ∷ cut 10 (drop 10 bytes)
+opened : (bytes : List ℕ) (value : BlockValue) → is_first_format bytes ≡ true → parsed_block bytes ≡ Ok value → cut 10 bytes ≡ codes "rvblock 1" ∷ cut 10 (drop 10 bytes)
 opened bytes value first read = by (nat_lt (end_of bytes) (length bytes)) refl
   where
     header : before_first (λ b. b == 10) bytes ≡ codes "rvblock 1"
     header = (bytes_eq-Decides (before_first (λ b. b == 10) bytes) (codes "rvblock 1")).0 first
 
-    alone : block_of (codes "rvblock 1") ≡ Ok value → ⊥
+    alone : parsed_block (codes "rvblock 1") ≡ Ok value → ⊥
     alone h = cc
 
     by : (b : Bool) → nat_lt (end_of bytes) (length bytes) ≡ b → cut 10 bytes ≡ codes "rvblock 1" ∷ cut 10 (drop 10 bytes)
@@ -65,33 +65,33 @@ opened bytes value first read = by (nat_lt (end_of bytes) (length bytes)) refl
         let nine : end_of bytes ≡ 9 = sym (length-take-le (end_of bytes) bytes (omega (arith, lt))) ∙ ap length header in
         slice_split_first (λ b. b == 10) bytes 0 lt ∙ ap (λ line. line ∷ cut 10 (drop (end_of bytes + 1) bytes)) header
         ∙ ap (λ n. codes "rvblock 1" ∷ cut 10 (drop (n + 1) bytes)) nine
-    by false e = absurd (alone (ap block_of (sym (sym (no_end bytes e) ∙ header)) ∙ read))
+    by false e = absurd (alone (ap parsed_block (sym (sym (no_end bytes e) ∙ header)) ∙ read))
 
 -- ---- the body
 
--- what is read behind one line is read so behind another
-behind_other : (n m : ℕ) (rules : Rules) (parts : List (List ℕ)) (value : BlockValue) → behind n rules parts ≡ Ok value → behind m rules parts ≡ Ok value
-behind_other n m rules parts value h = by (length parts == 0) (body_of (n + 1) rules parts) (λ s e. read_from with_line BadLine (n + 1) (m + 1) (start rules) s parts e) h
+-- what is read after line n is read the same way after line m
+behind_other : (n m : ℕ) (rules : Rules) (parts : List (List ℕ)) (value : BlockValue) → parts_after n rules parts ≡ Ok value → parts_after m rules parts ≡ Ok value
+behind_other n m rules parts value h = by (length parts == 0) (lines_from (n + 1) rules parts) (λ s e. read_from with_line BadLine (n + 1) (m + 1) (nothing_parsed rules) s parts e) h
   where
-    by : (none : Bool) (body : Result Parsed BlockFault) → ((s : Parsed) → body ≡ Ok s → body_of (m + 1) rules parts ≡ Ok s)
+    by : (none : Bool) (body : Result Parsed BlockFault) → ((s : Parsed) → body ≡ Ok s → lines_from (m + 1) rules parts ≡ Ok s)
         → (if none then Err (record { line = n; cause = BadLine }) else result_map_both (λ s. s.block) (λ fault. fault) body) ≡ Ok value
-        → (if none then Err (record { line = m; cause = BadLine }) else result_map_both (λ s. s.block) (λ fault. fault) (body_of (m + 1) rules parts)) ≡ Ok value
+        → (if none then Err (record { line = m; cause = BadLine }) else result_map_both (λ s. s.block) (λ fault. fault) (lines_from (m + 1) rules parts)) ≡ Ok value
     by true body other h = cc
     by false (Ok s) other h = ap (result_map_both (λ s. s.block) (λ fault. fault)) (other s refl) ∙ h
     by false (Err fault) other h = cc
 
-read_as_before : (bytes : List ℕ) (value : BlockValue) → is_first_format bytes ≡ true → block_of bytes ≡ Ok value → block_of (in_second_format bytes) ≡ Ok value
+read_as_before : (bytes : List ℕ) (value : BlockValue) → is_first_format bytes ≡ true → parsed_block bytes ≡ Ok value → parsed_block (in_second_format bytes) ≡ Ok value
 read_as_before bytes value first read =
     behind_other 1 2 One (cut 10 (drop 10 bytes)) value (sym (ap block_of_parts (opened bytes value first read)) ∙ read)
 
-pub says_the_same : (bytes text : List ℕ) → migrated bytes ≡ Ok text → block_of text ≡ block_of bytes
-says_the_same bytes text h = by (is_first_format bytes) (block_of bytes) refl refl h
+pub says_the_same : (bytes text : List ℕ) → migrated bytes ≡ Ok text → parsed_block text ≡ parsed_block bytes
+says_the_same bytes text h = by (is_first_format bytes) (parsed_block bytes) refl refl h
   where
-    by : (first : Bool) (said : Result BlockValue BlockFault) → is_first_format bytes ≡ first → block_of bytes ≡ said
+    by : (first : Bool) (said : Result BlockValue BlockFault) → is_first_format bytes ≡ first → parsed_block bytes ≡ said
         → (if first then result_map_both (λ _. in_second_format bytes) (λ fault. fault) said else Err (record { line = 1; cause = BadHeader })) ≡ Ok text
-        → block_of text ≡ block_of bytes
+        → parsed_block text ≡ parsed_block bytes
     by true (Ok value) first read h =
         let same : in_second_format bytes ≡ text = cc in
-        ap block_of (sym same) ∙ read_as_before bytes value first read ∙ sym read
+        ap parsed_block (sym same) ∙ read_as_before bytes value first read ∙ sym read
     by true (Err fault) first read h = cc
     by false said first read h = cc

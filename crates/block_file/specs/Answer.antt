@@ -5,15 +5,15 @@ use Rattle.block_file.specs.declared.fault.Cause.{Cause}
 use Rattle.block_file.specs.declared.fault.Cause.TheVariants.{Memory}
 use Rattle.block_file.specs.declared.fault.BlockFault.{BlockFault}
 
--- for a line: the value or the cause that is wanted, or else Memory
-abbrev pub Gives : {X Y : Type 0} → (X → Y) → Result X Cause → Result Y Cause → Type 0
-Gives view (Ok x) wanted = wanted ≡ Ok (view x)
-Gives view (Err cause) wanted = (cause ≡ Memory) ⊎ (wanted ≡ Err cause)
+-- for a line: the value or the cause that is wanted, or Memory
+abbrev pub GivesValue : {X Y : Type 0} → (X → Y) → Result X Cause → Result Y Cause → Type 0
+GivesValue view (Ok x) wanted = wanted ≡ Ok (view x)
+GivesValue view (Err cause) wanted = (cause ≡ Memory) ⊎ (wanted ≡ Err cause)
 
--- for a file: the value or the fault that is wanted, or else Memory on a line with no fault before it
-abbrev pub Reads : {X Y : Type 0} → (X → Y) → Result X BlockFault → Result Y BlockFault → Type 0
-Reads view (Ok x) wanted = wanted ≡ Ok (view x)
-Reads view (Err fault) wanted = (wanted ≡ Err fault) ⊎ ((fault.cause ≡ Memory) × IfErr wanted (λ first. fault.line ≤ first.line))
+-- for a file: the value or the fault that is wanted, or Memory on a line with no fault before it
+abbrev pub ReadsFile : {X Y : Type 0} → (X → Y) → Result X BlockFault → Result Y BlockFault → Type 0
+ReadsFile view (Ok x) wanted = wanted ≡ Ok (view x)
+ReadsFile view (Err fault) wanted = (wanted ≡ Err fault) ⊎ ((fault.cause ≡ Memory) × IfErr wanted (λ first. fault.line ≤ first.line))
 
 -- what an answer says: a value, or the fault
 abbrev pub said : {X Y : Type 0} → (X → Y) → Result X BlockFault → Result Y BlockFault

@@ -16,7 +16,7 @@ use Rattle.block_file.specs.declared.block_text.CallLine.{CallLine}
 use Rattle.block_file.specs.declared.fault.Cause.{Cause}
 use Rattle.block_file.specs.declared.fault.Cause.TheVariants.{BadHeader, BadLine, BadNumber, KeyOrder, UnknownProgram, Limit}
 use Rattle.block_file.specs.declared.fault.BlockFault.{BlockFault}
-use Rattle.block_file.specs.Line.{◌>>=◌, cut, decimal_of, path_of, bytes_of, key_of, on_line, read_parts}
+use Rattle.block_file.specs.Line.{◌>>=◌, cut, decimal_of, path_of, field_bytes, field_key, on_line, read_parts}
 
 -- a call: the number of its program, its gas limit and its input
 pub record CallValue : Type 0 where
@@ -45,10 +45,10 @@ pub record Parsed : Type 0 where
   pub last : Option (List ℕ)
 
 -- before the first line
-abbrev pub start : Rules → Parsed
-start rules = record { block = record { rules = rules; programs = []; store = finite.empty; calls = [] }; last = None }
+abbrev pub nothing_parsed : Rules → Parsed
+nothing_parsed rules = record { block = record { rules = rules; programs = []; store = finite.empty; calls = [] }; last = None }
 
--- the PATH of a line `program N PATH` behind n others
+-- the PATH of a line `program N PATH` that follows n others
 abbrev pub program_path : ℕ → List ℕ → List ℕ → Result (List ℕ) Cause
 program_path n number path = do
   p ← path_of path
@@ -61,27 +61,27 @@ abbrev pub is_above : Option (List ℕ) → List ℕ → Bool
 is_above None key = true
 is_above (Some last) key = is_lt (key_cmp last key)
 
--- the key and the value of a line `store KEY VALUE` behind the key `last`
+-- the key and the value of a line `store KEY VALUE` that follows the key `last`
 abbrev pub stored_of : Rules → Option (List ℕ) → List ℕ → List ℕ → Result (List ℕ × List ℕ) Cause
 stored_of rules last key value = do
-  k ← key_of key
-  v ← bytes_of value
+  k ← field_key key
+  v ← field_bytes value
   if not (is_above last k) then Err KeyOrder else
       if nat_lt (longest_value rules) (length v) then Err Limit else Ok (k, v)
 
--- the call of a line `call PROGRAM GAS INPUT` behind `programs` programs and `calls` calls
+-- the call of a line `call PROGRAM GAS INPUT` that follows `programs` programs and `calls` calls
 abbrev pub line_call : ℕ → ℕ → List ℕ → List ℕ → List ℕ → Result CallValue Cause
 line_call programs calls program gas input = do
   p ← ok_or (decimal_of program) BadNumber
   g ← ok_or (decimal_of gas) BadNumber
-  bytes ← bytes_of input
+  bytes ← field_bytes input
   if not (nat_lt p programs) then Err UnknownProgram else
       if (nat_le 1024 calls || g == 0 || nat_lt 10000000 g || nat_lt 4096 (length bytes)) then Err Limit else
       Ok (record { program = p; gas = g; input = bytes })
 
 -- what each kind of line adds
-abbrev pub with_program : Parsed → List ℕ → List ℕ → Result Parsed Cause
-with_program s number path = do
+abbrev pub with_program_line : Parsed → List ℕ → List ℕ → Result Parsed Cause
+with_program_line s number path = do
   p ← program_path (length s.block.programs) number path
   Ok (record s { block = record s.block { programs = s.block.programs ++ p ∷ [] } })
 
@@ -90,8 +90,8 @@ with_stored s key value = do
   entry ← stored_of s.block.rules s.last key value
   Ok (record { block = record s.block { store = finite.insert s.block.store entry.0 entry.1 }; last = Some entry.0 })
 
-abbrev pub with_call : Parsed → List ℕ → List ℕ → List ℕ → Result Parsed Cause
-with_call s program gas input = do
+abbrev pub with_call_line : Parsed → List ℕ → List ℕ → List ℕ → Result Parsed Cause
+with_call_line s program gas input = do
   call ← line_call (length s.block.programs) (length s.block.calls) program gas input
   Ok (record s { block = record s.block { calls = s.block.calls ++ call ∷ [] } })
 
@@ -99,9 +99,9 @@ with_call s program gas input = do
 -- store, call
 abbrev pub with_kind : Parsed → List (List ℕ) → Result Parsed Cause
 with_kind s (kind ∷ a ∷ b ∷ []) =
-    if bytes_eq kind (codes "program") && is_none s.last && length s.block.calls == 0 then with_program s a b else
+    if bytes_eq kind (codes "program") && is_none s.last && length s.block.calls == 0 then with_program_line s a b else
     if bytes_eq kind (codes "store") && length s.block.calls == 0 then with_stored s a b else Err BadLine
-with_kind s (kind ∷ a ∷ b ∷ c ∷ []) = if bytes_eq kind (codes "call") then with_call s a b c else Err BadLine
+with_kind s (kind ∷ a ∷ b ∷ c ∷ []) = if bytes_eq kind (codes "call") then with_call_line s a b c else Err BadLine
 with_kind s _ = Err BadLine
 
 -- what a line adds: no field is empty, and one space separates two fields
@@ -112,18 +112,18 @@ abbrev pub with_line : Parsed → List ℕ → Result Parsed Cause
 with_line s line = with_fields s (cut 32 line)
 
 -- what the lines from line n on add
-abbrev pub body_of : ℕ → Rules → List (List ℕ) → Result Parsed BlockFault
-body_of n rules parts = read_parts with_line BadLine n (start rules) parts
+abbrev pub lines_from : ℕ → Rules → List (List ℕ) → Result Parsed BlockFault
+lines_from n rules parts = read_parts with_line BadLine n (nothing_parsed rules) parts
 
--- what the parts behind line n say, where the lines up to line n name the rules
-abbrev pub behind : ℕ → Rules → List (List ℕ) → Result BlockValue BlockFault
-behind n rules parts =
+-- what the parts after line n say, if the lines up to line n name the rules
+abbrev pub parts_after : ℕ → Rules → List (List ℕ) → Result BlockValue BlockFault
+parts_after n rules parts =
     if length parts == 0 then Err (record { line = n; cause = BadLine }) else
-    result_map_both (λ s. s.block) (λ fault. fault) (body_of (n + 1) rules parts)
+    result_map_both (λ s. s.block) (λ fault. fault) (lines_from (n + 1) rules parts)
 
--- what the parts behind the line `rvblock 1` say
+-- what the parts after the line `rvblock 1` say
 abbrev pub first_format : List (List ℕ) → Result BlockValue BlockFault
-first_format parts = behind 1 One parts
+first_format parts = parts_after 1 One parts
 
 -- the rules that a `gas` line names
 abbrev pub rules_of : List ℕ → Option Rules
@@ -132,10 +132,10 @@ rules_of line =
     if bytes_eq line (codes "gas 2") then Some Two else
     if bytes_eq line (codes "gas 3") then Some Three else None
 
--- what the parts behind the line `rvblock 2` say: the first one names the rules
+-- what the parts after the line `rvblock 2` say: the first one names the rules
 abbrev pub second_format : List (List ℕ) → Result BlockValue BlockFault
 second_format [] = Err (record { line = 1; cause = BadLine })
-second_format (line ∷ rest) = on_line 2 (ok_or (rules_of line) BadLine) (λ rules. behind 2 rules rest)
+second_format (line ∷ rest) = on_line 2 (ok_or (rules_of line) BadLine) (λ rules. parts_after 2 rules rest)
 
 -- what the parts between the LFs say
 abbrev pub block_of_parts : List (List ℕ) → Result BlockValue BlockFault
@@ -145,5 +145,5 @@ block_of_parts (header ∷ rest) =
     if bytes_eq header (codes "rvblock 2") then second_format rest else Err (record { line = 1; cause = BadHeader })
 
 -- what a block file says, or its first fault
-abbrev pub block_of : List ℕ → Result BlockValue BlockFault
-block_of bytes = block_of_parts (cut 10 bytes)
+abbrev pub parsed_block : List ℕ → Result BlockValue BlockFault
+parsed_block bytes = block_of_parts (cut 10 bytes)

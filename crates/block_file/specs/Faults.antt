@@ -5,7 +5,6 @@ use Rattle.block_file.specs.declared.fault.BlockFault.{BlockFault}
 use Rattle.block_file.specs.declared.fault.Cause.{Cause}
 use Rattle.block_file.specs.declared.fault.Cause.TheVariants.{BadHeader, BadLine, BadNumber, BadHex, KeyOrder, UnknownProgram, Limit, Memory}
 
--- the number of a refusal
 abbrev pub number_of : Cause → ℕ
 number_of BadHeader = 1
 number_of BadLine = 2
@@ -16,7 +15,6 @@ number_of UnknownProgram = 6
 number_of Limit = 7
 number_of Memory = 8
 
--- its name
 abbrev pub name_of : Cause → List ℕ
 name_of BadHeader = codes "BadHeader"
 name_of BadLine = codes "BadLine"
@@ -31,7 +29,7 @@ name_of Memory = codes "Memory"
 unfoldable pub cause_text : Cause → List ℕ
 cause_text cause = name_of cause ++ codes " " ++ decimal (number_of cause)
 
--- the same behind the line's number; running out of memory has no line
+-- the same after the line's number; running out of memory has no line
 abbrev pub line_text : ℕ → Cause → List ℕ
 line_text line Memory = cause_text Memory
 line_text line cause = decimal line ++ codes " " ++ cause_text cause

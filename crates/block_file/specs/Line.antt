@@ -10,7 +10,7 @@ use Rattle.block_file.specs.declared.fault.Cause.{Cause}
 use Rattle.block_file.specs.declared.fault.Cause.TheVariants.{BadLine, BadHex}
 use Rattle.block_file.specs.declared.fault.BlockFault.{BlockFault}
 
--- the second step where the first gave a value, else the first one's cause
+-- the second step if the first gave a value, otherwise the first one's cause
 infixl 10 ◌>>=◌
 abbrev pub ◌>>=◌ : {A B : Type 0} → Result A Cause → (A → Result B Cause) → Result B Cause
 (Ok x) >>= f = f x
@@ -47,15 +47,15 @@ is_lower_digit b = is_ascii_digit b || (nat_le 97 b && nat_le b 102)
 abbrev pub hex_of : List ℕ → Result (List ℕ) Cause
 hex_of text = if list_all is_lower_digit text then ok_or (result_ok (decode_of text)) BadHex else Err BadHex
 
--- bytes: lower-case hex, `-` where there are none
-abbrev pub bytes_of : List ℕ → Result (List ℕ) Cause
-bytes_of text = if bytes_eq text (codes "-") then Ok [] else hex_of text
+-- bytes: lower-case hex, `-` if there are none
+abbrev pub field_bytes : List ℕ → Result (List ℕ) Cause
+field_bytes text = if bytes_eq text (codes "-") then Ok [] else hex_of text
 
 -- a key has 64 digits
-abbrev pub key_of : List ℕ → Result (List ℕ) Cause
-key_of text = if length text == 64 then hex_of text else Err BadHex
+abbrev pub field_key : List ℕ → Result (List ℕ) Cause
+field_key text = if length text == 64 then hex_of text else Err BadHex
 
--- the second step, where the first gave a value, else the cause on line n
+-- the second step if the first gave a value, otherwise the cause on line n
 abbrev pub on_line : {A B : Type 0} → ℕ → Result A Cause → (A → Result B BlockFault) → Result B BlockFault
 on_line n (Ok x) f = f x
 on_line n (Err cause) f = Err (record { line = n; cause = cause })

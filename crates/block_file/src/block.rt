@@ -3,8 +3,8 @@
 ghost use Rattle.std.specs.Prelude.{◌≡◌, ◌≤◌, ◌∷◌, []};
 ghost use Rattle.std.specs.Option.{option_map_or};
 ghost use Rattle.std.specs.Result.{result_map_both};
-ghost use Rattle.block_file.specs.Answer.{Reads};
-ghost use Rattle.block_file.specs.Block.{block_value, behind, block_of, body_of, rules_of, second_format};
+ghost use Rattle.block_file.specs.Answer.{ReadsFile};
+ghost use Rattle.block_file.specs.Block.{block_value, parts_after, parsed_block, lines_from, rules_of, second_format};
 ghost use Rattle.block_file.specs.Line.{cut};
 ghost use Rattle.block_file.specs.Reader.{parsed};
 
@@ -15,10 +15,10 @@ use crate::reader::Reader;
 use rv_ledger::Rules;
 use std::alloc::Global;
 
-/// What a block file of format 1 or 2 says, or its first faulty line with the least cause on it
-/// (BadHeader to Limit). Refused as Memory where memory runs out; then no earlier line has a fault.
+/// What a block file of format 1 or 2 says, or its first faulty line with the least cause on it (BadHeader to Limit).
+/// Refused as Memory if memory runs out; then no earlier line has a fault.
 pub fn parse(alloc: Global, bytes: &[u8]) -> Result<BlockText, BlockFault>
-    ensures { Reads block_value result (block_of bytes.now) }
+    ensures { ReadsFile block_value result (parsed_block bytes.now) }
 {
     let (header, body) = first_line(bytes);
     if header == b"rvblock 1".as_slice() {
@@ -30,7 +30,7 @@ pub fn parse(alloc: Global, bytes: &[u8]) -> Result<BlockText, BlockFault>
     Err(fault(1, Cause::BadHeader))
 }
 
-/// The first line without its line feed, and what is behind it. None where it has no line feed.
+/// The first line without its line feed, and what comes after the line feed. None if there is no line feed.
 fn first_line(text: &[u8]) -> (&[u8], Option<&[u8]>)
     ensures { cut 10 text.now ≡ result.0.now ∷ option_map_or (λ rest. cut 10 rest.now) result.1 [] }
 {
@@ -40,9 +40,9 @@ fn first_line(text: &[u8]) -> (&[u8], Option<&[u8]>)
     }
 }
 
-/// What a text says behind the line `rvblock 2`.
+/// What a text after the line `rvblock 2` says.
 fn second_format(alloc: Global, text: Option<&[u8]>) -> Result<BlockText, BlockFault>
-    ensures { Reads block_value result (second_format (option_map_or (λ rest. cut 10 rest.now) text.entry [])) }
+    ensures { ReadsFile block_value result (second_format (option_map_or (λ rest. cut 10 rest.now) text.entry [])) }
 {
     let Some(text) = text else {
         return Err(fault(1, Cause::BadLine));
@@ -70,7 +70,7 @@ fn rules_of(line: &[u8]) -> Option<Rules>
     None
 }
 
-/// What a text says behind a line, 1 or 2, which is the last one before the body.
+/// What a text says that follows line 1 or 2, the last line before the body.
 fn behind(
     alloc: Global,
     line: usize,
@@ -78,7 +78,7 @@ fn behind(
     text: Option<&[u8]>,
 ) -> Result<BlockText, BlockFault>
     requires { line ≤ 2 }
-    ensures { Reads block_value result (behind line rules (option_map_or (λ rest. cut 10 rest.now) text.entry [])) }
+    ensures { ReadsFile block_value result (parts_after line rules (option_map_or (λ rest. cut 10 rest.now) text.entry [])) }
 {
     match text {
         Some(text) => body(alloc, line + 1, rules, text),
@@ -86,11 +86,11 @@ fn behind(
     }
 }
 
-/// What a body says, the first line of which is line `first`. Where memory for the storage's tree runs out, that
-/// line is refused as Memory.
+/// What a body says, the first line of which is line `first`. If memory for the storage's tree runs out, that line is
+/// refused as Memory.
 fn body(alloc: Global, first: usize, rules: Rules, text: &[u8]) -> Result<BlockText, BlockFault>
     requires { first ≤ 3 }
-    ensures { Reads block_value result (result_map_both (λ s. s.block) (λ fault. fault) (body_of first rules (cut 10 text.now))) }
+    ensures { ReadsFile block_value result (result_map_both (λ s. s.block) (λ fault. fault) (lines_from first rules (cut 10 text.now))) }
 {
     let reader = body_of(alloc, first, rules, text)?;
     match reader.finish() {
@@ -102,7 +102,7 @@ fn body(alloc: Global, first: usize, rules: Rules, text: &[u8]) -> Result<BlockT
 /// What the lines of a text say, the first of which is line `first`.
 fn body_of(alloc: Global, first: usize, rules: Rules, text: &[u8]) -> Result<Reader, BlockFault>
     requires { first ≤ 3 }
-    ensures { Reads parsed result (body_of first rules (cut 10 text.now)) }
+    ensures { ReadsFile parsed result (lines_from first rules (cut 10 text.now)) }
 {
     let mut reader = Reader::new(alloc, rules);
     let mut line = first;

@@ -89,7 +89,7 @@ impl<T: Drop> From<AllocFailed<T>> for Cause {
 /// The first faulty line, counted from 1, and the least cause on it.
 #[derive(Clone, Copy, Debug, PartialEq, Eq)]
 pub struct BlockFault {
-    /// The line's number, counted from 1. Where memory ran out, no line before this one has a fault.
+    /// The line's number, counted from 1. If memory ran out, no line before this one has a fault.
     pub line: usize,
     /// What is wrong with it.
     pub cause: Cause,

@@ -4,9 +4,9 @@ ghost use Rattle.std.specs.Prelude.{◌≡◌, ◌<◌, ◌≤◌, ◌%◌, [], 
 ghost use Rattle.std.specs.Result.{result_map_both};
 ghost use Rattle.std.specs.String.{string_bytes};
 ghost use Rattle.std.specs.List.{list_all};
-ghost use Rattle.block_file.specs.Line.{cut, sum_of_digits, decimal_of, bytes_of, hex_of, key_of, path_of, is_path_byte, is_lower_digit};
+ghost use Rattle.block_file.specs.Line.{cut, sum_of_digits, decimal_of, field_bytes, hex_of, field_key, path_of, is_path_byte, is_lower_digit};
 ghost use Rattle.std.specs.Char.{is_ascii_digit};
-ghost use Rattle.block_file.specs.Answer.{Gives};
+ghost use Rattle.block_file.specs.Answer.{GivesValue};
 
 use crate::fault::Cause;
 use crate::hex_text;
@@ -18,15 +18,14 @@ use std::str;
 /// The greatest number of digits of a decimal.
 const DIGITS: usize = 10;
 
-/// The parts of a text between the occurrences of a byte; refused where memory ran out.
+/// The parts of a text between the occurrences of a byte; refused if memory ran out.
 pub fn parts(alloc: Global, text: &[u8], byte: u8) -> Result<Vec<&[u8]>, AllocError>
     ensures { IfOk result (λ v. map (λ part. part.now) v.items ≡ cut byte text.now) }
 {
     text.split(|b| *b == byte).collect(alloc)
 }
 
-/// What a text has before the first occurrence of a byte, and what it has behind it. None where the
-/// byte does not occur.
+/// What a text has before the first occurrence of a byte, and what it has after it. None if the byte does not occur.
 pub fn cut_once(text: &[u8], byte: u8) -> Option<(&[u8], &[u8])>
     ensures parts { MatchOption result (cut byte text.now ≡ text.now ∷ []) (λ parts. cut byte text.now ≡ parts.0.now ∷ cut byte parts.1.now) }
     ensures shorter { IfSome result (λ parts. length parts.1.now < length text.now) }
@@ -47,7 +46,7 @@ pub fn decimal(text: &[u8]) -> Option<u64>
     number(text)
 }
 
-/// The number that at most 10 digits write, None where a byte is no digit.
+/// The number that at most 10 digits write, None if a byte is no digit.
 fn number(text: &[u8]) -> Option<u64>
     requires { length text.now ≤ 10 }
     ensures { result ≡ (if list_all is_ascii_digit text.now then Some (sum_of_digits text.now) else None) }
@@ -62,16 +61,16 @@ fn number(text: &[u8]) -> Option<u64>
     Some(number)
 }
 
-/// Whether each byte may stand in a path.
+/// Whether each byte is allowed in a path.
 fn is_path(text: &[u8]) -> bool
     ensures { result ≡ list_all is_path_byte text.now }
 {
     text.iter().all(|byte| 0x21 <= *byte && *byte <= 0x7e)
 }
 
-/// A path of bytes 0x21 to 0x7e; else BadLine, or Memory where memory ran out.
+/// A path of bytes 0x21 to 0x7e. Otherwise BadLine, or Memory if memory ran out.
 pub fn path(alloc: Global, text: &[u8]) -> Result<String, Cause>
-    ensures { Gives string_bytes result (path_of text.now) }
+    ensures { GivesValue string_bytes result (path_of text.now) }
 {
     if !is_path(text) {
         return Err(Cause::BadLine);
@@ -89,10 +88,9 @@ pub fn is_lower_hex(text: &[u8]) -> bool
     text.iter().all(|byte| byte.is_ascii_digit() || (b'a' <= *byte && *byte <= b'f'))
 }
 
-/// The bytes that a text gives in lower-case hex; `-` gives none. Else BadHex, or Memory where
-/// memory ran out.
+/// The bytes that a text gives in lower-case hex; `-` gives none. Otherwise BadHex, or Memory if memory ran out.
 pub fn hex_bytes(alloc: Global, text: &[u8]) -> Result<Vec<u8>, Cause>
-    ensures { Gives (λ v. v.items) result (bytes_of text.now) }
+    ensures { GivesValue (λ v. v.items) result (field_bytes text.now) }
 {
     if text == b"-".as_slice() {
         return Ok(Vec::new(alloc));
@@ -107,10 +105,10 @@ pub fn hex_bytes(alloc: Global, text: &[u8]) -> Result<Vec<u8>, Cause>
     Ok(bytes)
 }
 
-/// The value that a text gives in lower-case hex; `-` gives the empty one, and None stands for more
-/// than 256 bytes. Else BadHex.
+/// The value that a text gives in lower-case hex; `-` gives the empty one, and None stands for more than 256 bytes.
+/// BadHex if the text is no such hex.
 pub fn value(text: &[u8]) -> Result<Option<Value>, Cause>
-    ensures { result ≡ result_map_both (λ bytes. if nat_lt 256 (length bytes) then None else Some bytes) (λ cause. cause) (bytes_of text.now) }
+    ensures { result ≡ result_map_both (λ bytes. if nat_lt 256 (length bytes) then None else Some bytes) (λ cause. cause) (field_bytes text.now) }
 {
     if text == b"-".as_slice() {
         return Ok(Some(Value::empty()));
@@ -127,7 +125,7 @@ pub fn value(text: &[u8]) -> Result<Option<Value>, Cause>
     Ok(None)
 }
 
-/// The value of at most 256 bytes that pairs of lower-case hex digits give, else BadHex.
+/// The value of at most 256 bytes that pairs of lower-case hex digits give, BadHex if a byte is no such digit.
 fn short_value(text: &[u8]) -> Result<Option<Value>, Cause>
     requires even { length text.now % 2 ≡ 0 }
     requires short { length text.now ≤ 512 }
@@ -142,9 +140,9 @@ fn short_value(text: &[u8]) -> Result<Option<Value>, Cause>
     Ok(Value::of(&room[..count]))
 }
 
-/// The key that 64 lower-case hex digits give, else BadHex.
+/// The key that 64 lower-case hex digits give, BadHex for any other text.
 pub fn key(text: &[u8]) -> Result<Key, Cause>
-    ensures { result ≡ key_of text.now }
+    ensures { result ≡ field_key text.now }
 {
     let mut bytes = [0; 32];
     if text.len() != 64 || !hex_text::decode(text, &mut bytes) {

@@ -8,7 +8,7 @@ ghost use Rattle.block_file.specs.declared.fault.Cause.TheVariants.{BadHex};
 /// The greatest number that a digit stands for.
 const GREATEST: u8 = 15;
 
-/// For each byte the number that it stands for as a digit, 255 where it is no digit in lower case.
+/// For each byte the number that it stands for as a digit, 255 if it is no digit in lower case.
 static NUMBERS: [u8; 256] = [
     255, 255, 255, 255, 255, 255, 255, 255, 255, 255, 255, 255, 255, 255, 255, 255, 255, 255, 255,
     255, 255, 255, 255, 255, 255, 255, 255, 255, 255, 255, 255, 255, 255, 255, 255, 255, 255, 255,
@@ -34,8 +34,8 @@ fn number(byte: u8) -> u8
     NUMBERS[byte as usize]
 }
 
-/// Writes the bytes of pairs of lower-case hex digits. False where a byte of the text is no such
-/// digit; then what `out` holds is not said.
+/// Writes the bytes of pairs of lower-case hex digits. False if a byte of the text is no such digit; then nothing is
+/// said about what `out` holds.
 pub fn decode(text: &[u8], out: &mut [u8]) -> bool
     requires { length text.now ≡ 2 * length out.old }
     ensures { hex_of text.now ≡ (if result then Ok out.new else Err BadHex) }

@@ -1,7 +1,7 @@
 //! From format 1 to format 2.
 
 ghost use Rattle.std.specs.Prelude.{◌≡◌, ◌++◌, codes, IfOk};
-ghost use Rattle.block_file.specs.Answer.{Reads};
+ghost use Rattle.block_file.specs.Answer.{ReadsFile};
 ghost use Rattle.block_file.specs.Migrate.{is_first_format, migrated};
 
 use crate::block::parse;
@@ -14,12 +14,11 @@ const FIRST_HEADER: &[u8] = b"rvblock 1";
 /// The first two lines of format 2 under rules one.
 const SECOND_HEADER: &[u8] = b"rvblock 2\ngas 1\n";
 
-/// The same block in format 2: the first line becomes `rvblock 2` and `gas 1`, and the other lines
-/// stay. A file whose first line is not that of format 1 is refused as BadHeader, and any other
-/// fault is the one that `parse` reports. Refused as Memory where memory runs out; then no earlier
-/// line has a fault.
+/// The same block in format 2: the first line becomes `rvblock 2` and `gas 1`, and the other lines stay. A file whose
+/// first line is not that of format 1 is refused as BadHeader, and any other fault is the one that `parse` reports.
+/// Refused as Memory if memory runs out; then no earlier line has a fault.
 pub fn migrate(alloc: Global, bytes: &[u8]) -> Result<Vec<u8>, BlockFault>
-    ensures { Reads (λ text. text.items) result (migrated bytes.now) }
+    ensures { ReadsFile (λ text. text.items) result (migrated bytes.now) }
 {
     if !is_first_format(bytes) {
         return Err(BlockFault {
@@ -50,7 +49,7 @@ fn is_first_format(bytes: &[u8]) -> bool
     }
 }
 
-/// The first two lines of format 2, and these bytes behind them.
+/// The first two lines of format 2, and these bytes after them.
 fn in_second_format(alloc: Global, body: &[u8]) -> Result<Vec<u8>, AllocError>
     ensures { IfOk result (λ text. text.items ≡ codes "rvblock 2\ngas 1\n" ++ body.now) }
 {

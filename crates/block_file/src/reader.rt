@@ -1,9 +1,9 @@
-//! The lines of a block file behind its header.
+//! The lines of a block file after its header.
 
 ghost use Rattle.std.specs.Prelude.{◌≡◌, ◌<◌, [], ◌∷◌, IfOk};
 ghost use Rattle.std.specs.String.{string_bytes};
-ghost use Rattle.block_file.specs.Answer.{Gives};
-ghost use Rattle.block_file.specs.Block.{block_value, call_value, program_path, stored_of, line_call, is_above, with_program, with_stored, with_call, with_fields, with_line, start};
+ghost use Rattle.block_file.specs.Answer.{GivesValue};
+ghost use Rattle.block_file.specs.Block.{block_value, call_value, program_path, stored_of, line_call, is_above, with_program_line, with_stored, with_call_line, with_fields, with_line, nothing_parsed};
 ghost use Rattle.block_file.specs.Reader.{parsed};
 
 use crate::block_text::{BlockText, CallLine, PROGRAM_LIMIT};
@@ -15,7 +15,7 @@ use std::alloc::{AllocError, Global};
 /// What the lines so far say.
 #[derive(Drop)]
 pub struct Reader {
-    /// What they say of the block, but for its storage, which is empty here.
+    /// What they say of the block, except for its storage, which is empty here.
     pub text: BlockText,
     /// What they say of its storage.
     pub stored: StoreBuilder,
@@ -26,7 +26,7 @@ pub struct Reader {
 impl Reader {
     /// A reader that has read no line yet.
     pub fn new(alloc: Global, rules: Rules) -> Reader
-        ensures { parsed result ≡ start rules }
+        ensures { parsed result ≡ nothing_parsed rules }
     {
         Reader {
             text: BlockText {
@@ -42,7 +42,7 @@ impl Reader {
 
     /// Takes the next line. Refused with what is wrong with it, or as Memory.
     pub fn read(&mut self, alloc: Global, line: &[u8]) -> Result<(), Cause>
-        ensures { Gives (λ _. parsed self.new) result (with_line (parsed self.old) line.now) }
+        ensures { GivesValue (λ _. parsed self.new) result (with_line (parsed self.old) line.now) }
     {
         let Some((kind, rest)) = fields::cut_once(line, b' ') else {
             return Err(Cause::BadLine);
@@ -67,7 +67,7 @@ impl Reader {
         first: &[u8],
         second: &[u8],
     ) -> Result<(), Cause>
-        ensures { Gives (λ _. parsed self.new) result (with_fields (parsed self.old) (kind.now ∷ first.now ∷ second.now ∷ [])) }
+        ensures { GivesValue (λ _. parsed self.new) result (with_fields (parsed self.old) (kind.now ∷ first.now ∷ second.now ∷ [])) }
     {
         if kind.is_empty() || first.is_empty() || second.is_empty() {
             return Err(Cause::BadLine);
@@ -91,7 +91,7 @@ impl Reader {
         second: &[u8],
         third: &[u8],
     ) -> Result<(), Cause>
-        ensures { Gives (λ _. parsed self.new) result (with_fields (parsed self.old) (kind.now ∷ first.now ∷ second.now ∷ third.now ∷ [])) }
+        ensures { GivesValue (λ _. parsed self.new) result (with_fields (parsed self.old) (kind.now ∷ first.now ∷ second.now ∷ third.now ∷ [])) }
     {
         if first.is_empty() || second.is_empty() || third.is_empty() {
             return Err(Cause::BadLine);
@@ -104,7 +104,7 @@ impl Reader {
 
     /// Takes the fields of a `program` line.
     fn program(&mut self, alloc: Global, number: &[u8], path: &[u8]) -> Result<(), Cause>
-        ensures { Gives (λ _. parsed self.new) result (with_program (parsed self.old) number.now path.now) }
+        ensures { GivesValue (λ _. parsed self.new) result (with_program_line (parsed self.old) number.now path.now) }
     {
         let path = program_path(alloc, self.text.programs.len(), number, path)?;
         self.text.programs.push(path)?;
@@ -113,7 +113,7 @@ impl Reader {
 
     /// Takes the fields of a `store` line.
     fn store(&mut self, alloc: Global, key: &[u8], value: &[u8]) -> Result<(), Cause>
-        ensures { Gives (λ _. parsed self.new) result (with_stored (parsed self.old) key.now value.now) }
+        ensures { GivesValue (λ _. parsed self.new) result (with_stored (parsed self.old) key.now value.now) }
     {
         let (key, value) = stored_of(self.text.rules, self.last, key, value)?;
         self.stored.insert(key, &value)?;
@@ -123,7 +123,7 @@ impl Reader {
 
     /// Takes the fields of a `call` line.
     fn call(&mut self, alloc: Global, program: &[u8], gas: &[u8], input: &[u8]) -> Result<(), Cause>
-        ensures { Gives (λ _. parsed self.new) result (with_call (parsed self.old) program.now gas.now input.now) }
+        ensures { GivesValue (λ _. parsed self.new) result (with_call_line (parsed self.old) program.now gas.now input.now) }
     {
         let programs = self.text.programs.len();
         let calls = self.text.calls.len();
@@ -132,7 +132,7 @@ impl Reader {
         Ok(())
     }
 
-    /// What the lines say of the block; refused where memory ran out.
+    /// What the lines say of the block; refused if memory ran out.
     pub fn finish(self) -> Result<BlockText, AllocError>
         ensures { IfOk result (λ text. block_value text ≡ (parsed self).block) }
     {
@@ -158,7 +158,7 @@ fn is_above(last: Option<Key>, key: &Key) -> bool
 
 /// The path of a `program` line that follows `count` others.
 fn program_path(alloc: Global, count: usize, number: &[u8], path: &[u8]) -> Result<String, Cause>
-    ensures path { Gives string_bytes result (program_path count number.now path.now) }
+    ensures path { GivesValue string_bytes result (program_path count number.now path.now) }
     ensures few { IfOk result (λ _. count < 64) }
 {
     let path = fields::path(alloc, path)?;
@@ -179,7 +179,7 @@ fn stored_of(
     key: &[u8],
     value: &[u8],
 ) -> Result<(Key, Value), Cause>
-    ensures { Gives (λ entry. entry) result (stored_of rules last key.now value.now) }
+    ensures { GivesValue (λ entry. entry) result (stored_of rules last key.now value.now) }
 {
     let key = fields::key(key)?;
     let value = fields::value(value)?;
@@ -201,7 +201,7 @@ fn line_call(
     gas: &[u8],
     input: &[u8],
 ) -> Result<CallLine, Cause>
-    ensures line { Gives call_value result (line_call programs calls program.now gas.now input.now) }
+    ensures line { GivesValue call_value result (line_call programs calls program.now gas.now input.now) }
     ensures limits { IfOk result (λ call. (call.program < programs) × (calls < 1024)) }
 {
     let program = fields::decimal(program).ok_or(Cause::BadNumber)?;

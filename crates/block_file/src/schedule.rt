@@ -1,19 +1,19 @@
 //! Schedule files.
 
 ghost use Rattle.std.specs.Prelude.{◌≡◌, [], map};
-ghost use Rattle.block_file.specs.Answer.{Gives, Reads};
+ghost use Rattle.block_file.specs.Answer.{GivesValue, ReadsFile};
 ghost use Rattle.block_file.specs.Line.{read_parts};
-ghost use Rattle.block_file.specs.Schedule.{entry_of, with_entry, schedule_of};
+ghost use Rattle.block_file.specs.Schedule.{schedule_entry, with_entry, parsed_schedule};
 
 use crate::fault::{BlockFault, Cause};
 use crate::fields;
 use std::alloc::{AllocError, Global};
 
-/// The entries of a schedule file in order. Each is the number of a worker: one decimal of at most
-/// 65,535 per line, and a line feed at the end of each line. Refused as BadNumber at the first line
-/// that is not such a decimal or has no line feed, and as Memory where memory runs out.
+/// The entries of a schedule file in order. Each is the number of a worker: one decimal of at most 65,535 per line,
+/// and a line feed at the end of each line. Refused as BadNumber at the first line that is not such a decimal or has
+/// no line feed, and as Memory if memory runs out.
 pub fn parse_schedule(alloc: Global, bytes: &[u8]) -> Result<Vec<u16>, BlockFault>
-    ensures { Reads (λ entries. entries.items) result (schedule_of bytes.now) }
+    ensures { ReadsFile (λ entries. entries.items) result (parsed_schedule bytes.now) }
 {
     match fields::parts(alloc, bytes, b'\n') {
         Ok(parts) => entries_of(alloc, parts.as_slice()),
@@ -26,7 +26,7 @@ pub fn parse_schedule(alloc: Global, bytes: &[u8]) -> Result<Vec<u16>, BlockFaul
 
 /// The entries of the parts between the line feeds.
 fn entries_of(alloc: Global, parts: &[&[u8]]) -> Result<Vec<u16>, BlockFault>
-    ensures { Reads (λ entries. entries.items) result (read_parts with_entry Cause.BadNumber 1 [] (map (λ part. part.now) parts.now)) }
+    ensures { ReadsFile (λ entries. entries.items) result (read_parts with_entry Cause.BadNumber 1 [] (map (λ part. part.now) parts.now)) }
 {
     let mut entries = Vec::new(alloc);
     for (index, part) in parts.iter().enumerate() {
@@ -47,16 +47,16 @@ fn entries_of(alloc: Global, parts: &[&[u8]]) -> Result<Vec<u16>, BlockFault>
 
 /// Takes the entry of the next line. Refused as BadNumber or Memory.
 fn take(entries: &mut Vec<u16>, line: &[u8]) -> Result<(), Cause>
-    ensures { Gives (λ _. entries.new.items) result (with_entry entries.old.items line.now) }
+    ensures { GivesValue (λ _. entries.new.items) result (with_entry entries.old.items line.now) }
 {
     let entry = entry(line)?;
     entries.push(entry)?;
     Ok(())
 }
 
-/// The entry of a line, else BadNumber.
+/// The entry of a line, BadNumber if it is no such decimal.
 fn entry(line: &[u8]) -> Result<u16, Cause>
-    ensures { result ≡ entry_of line.now }
+    ensures { result ≡ schedule_entry line.now }
 {
     match fields::decimal(line) {
         Some(number) if number <= u64::from(u16::MAX) => Ok(number as u16),

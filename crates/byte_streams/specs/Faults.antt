@@ -4,13 +4,11 @@ use Rattle.std.specs.Fmt.{decimal}
 use Rattle.byte_streams.specs.declared.fault.WriteFault.{WriteFault}
 use Rattle.byte_streams.specs.declared.fault.WriteFault.TheVariants.{Io, WroteNothing, Memory}
 
--- the number of a refusal
 abbrev pub number_of : WriteFault → ℕ
 number_of Io = 1
 number_of WroteNothing = 2
 number_of Memory = 3
 
--- its name
 abbrev pub name_of : WriteFault → List ℕ
 name_of Io = codes "Io"
 name_of WroteNothing = codes "WroteNothing"

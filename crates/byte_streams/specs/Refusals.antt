@@ -3,7 +3,7 @@ use Rattle.std.specs.Prelude.{List, [], ℕ, ◌++◌, Option, Some, None, codes
 use Rattle.std.specs.Fmt.{decimal}
 use Rattle.byte_streams.specs.declared.line_parts.LineParts.{LineParts}
 
--- the area, the number of the line where it has one, the name and the number
+-- the area, the number of the line if it has one, the name and the number
 pub record Parts : Type 0 where
   pub area : List ℕ
   pub line : Option ℕ
@@ -27,6 +27,6 @@ number_text (Some line) = decimal line ++ codes " "
 abbrev pub parts_text : Parts → List ℕ
 parts_text parts = parts.area ++ codes " " ++ number_text parts.line ++ parts.name ++ codes " " ++ decimal parts.number
 
--- a line that prints it behind a beginning
+-- a line that prints it after a beginning
 abbrev pub line_text : List ℕ → Parts → List ℕ
 line_text beginning parts = beginning ++ parts_text parts ++ codes "\n"

@@ -8,12 +8,12 @@ use Rattle.byte_streams.specs.declared.fault.WriteFault.TheVariants.{Io, WroteNo
 abbrev pub AppendsPart : Option (List ℕ) → Option (List ℕ) → List ℕ → Type 0
 AppendsPart old new bs = (n : ℕ) × (n < length bs) × Appends old new (take n bs)
 
--- whatever may be refused so might be refused so before
+-- each refusal that is possible now was possible before
 abbrev pub AtMostAs : (WriteFault → Type 0) → (WriteFault → Type 0) → Type 0
 AtMostAs may_refuse before = (fault : WriteFault) → may_refuse fault → before fault
 
--- a text was written; or it was refused as it might be, and a beginning of it was written, and not all. Whatever may be refused
--- behind it might be refused before it
+-- a text was written; or a refusal that was possible came, and a beginning of the text was written, and not all of
+-- it. Each refusal that is possible after it was possible before it
 pub record WritesText {S X : Type 0} (contents : S → Option (List ℕ)) (may_refuse : S → WriteFault → Type 0) (result : Result X WriteFault) (old new : S) (text : List ℕ) : Type 0 where
   pub ok : OnOk result (Appends (contents old) (contents new) text)
   pub err : OnErr result (AppendsPart (contents old) (contents new) text)

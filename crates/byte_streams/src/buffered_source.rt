@@ -1,4 +1,4 @@
-//! Where the bytes of a stream come from, by its buffer.
+//! The source of a stream's bytes, which gives them by its buffer.
 
 ghost use Rattle.std.specs.Prelude.{◌≡◌, ⊤, true, length, [], IfOk, IfSome, OnErr};
 ghost use Rattle.std.specs.Borrow.{sem};
@@ -14,7 +14,7 @@ pub trait BufferedSource: BufRead {
     /// Whether a read may fail.
     ghost may_fail: { Self → Type 0 };
 
-    /// Shows the next bytes as `fill_buf` does, none only at the end. Fails only where a read may fail.
+    /// Shows the next bytes as `fill_buf` does, none only at the end. Fails only if a read may fail.
     fn fill_part(&mut self) -> io::Result<&[u8]>
         ensures front { IfSome (Self.remaining self.old) (λ xs. IfOk result (λ s. StartsWith xs s.now)) }
         ensures end { IfSome (Self.remaining self.old) (λ xs. IfOk result (λ s. length s.now ≡ 0 → xs ≡ [])) }

@@ -1,4 +1,4 @@
-//! Where bytes are written to.
+//! The destination that bytes are written to.
 
 ghost use Rattle.std.specs.Prelude.{⊤, ◌≡◌, ◌≢◌, ◌<◌, length, IfOk, OnErr, OnOk, refl};
 ghost use Rattle.std.specs.Io.{WritesAtMost};
@@ -13,13 +13,15 @@ use std::io::{Sink, Write};
 
 /// What takes bytes, and says how a write of it may be refused.
 pub trait Destination: Write {
-    /// How a write or a flush may be refused: as Io where one may fail, as WroteNothing where a write of some bytes may take none of them.
+    /// How a write or a flush may be refused: as Io if one may fail, as WroteNothing if a write of some bytes may
+    /// take none of them.
     ghost may_refuse: { Self → WriteFault → Type 0 };
 
-    /// Whether nothing that was written waits, as a flush leaves it. Of a writer that does not say when, this holds at any time.
+    /// Whether nothing that was written still waits, as is so after a flush. For a writer that does not define it,
+    /// this always holds.
     ghost is_flushed: { Self → Type 0 } = { λ _. Unit {0} };
 
-    /// Writes as `write` does. Fails only where a write may fail, and takes none of some bytes only where that may be.
+    /// Writes as `write` does. Fails only if a write may fail, and takes none of some bytes only if that may happen.
     fn write_part(&mut self, bytes: &[u8]) -> io::Result<usize>
         ensures bound { WritesAtMost result bytes.now }
         ensures bytes { WriteAppends (Self.contents self.old) (Self.contents self.new) result bytes.now }
@@ -27,7 +29,7 @@ pub trait Destination: Write {
         ensures nothing { IfOk result (λ n. n ≡ 0 → 0 < length bytes.now → may_refuse self.old WroteNothing) }
         ensures same { AtMostAs (may_refuse self.new) (may_refuse self.old) };
 
-    /// Flushes as `flush` does. Fails only where a flush may fail.
+    /// Flushes as `flush` does. Fails only if a flush may fail.
     fn flush_written(&mut self) -> io::Result<()>
         ensures bytes { Keeps (Self.contents self.old) (Self.contents self.new) }
         ensures fails { OnErr result (may_refuse self.old Io) }
@@ -38,7 +40,7 @@ pub trait Destination: Write {
     ghost memory: { (writer : Self) → may_refuse writer Memory };
 }
 
-/// Bytes in memory. A write fails only where memory ran out, and takes all the bytes where it does not.
+/// Bytes in memory. A write fails only if memory ran out, and otherwise takes all the bytes.
 impl Destination for Vec<u8> {
     ghost may_refuse = { λ _ fault. fault ≢ WroteNothing };
 

@@ -1,4 +1,4 @@
-//! Where bytes come from and where they are written to, why a write is refused, and the line that a refusal prints.
+//! The sources and the destinations of bytes, why a write is refused, and the line that a refusal prints.
 #![tactic(auto)]
 
 mod buffered_source;

@@ -7,7 +7,7 @@ ghost use Rattle.std.specs.Prelude.{◌≤◌, length};
 pub struct LineParts {
     /// What refuses: at most 8 bytes.
     pub area: &'static str,
-    /// The number of the line that has a fault, from 1; None where the refusal is of no line.
+    /// The number of the line that has a fault, from 1; None if the refusal is of no line.
     pub line: Option<usize>,
     /// The name: at most 16 bytes.
     pub name: &'static str,

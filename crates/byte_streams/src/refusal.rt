@@ -26,7 +26,7 @@ impl LineParts {
     }
 }
 
-/// The line of a refusal: a beginning, and the parts behind it. Takes no memory.
+/// The line of a refusal: a beginning, and the parts after it. Takes no memory.
 pub fn refusal_line(beginning: &str, parts: LineParts) -> ArrayString<LINE_ROOM>
     requires { length beginning.now ≤ 8 }
     ensures { result.bytes ≡ line_text beginning.now (parts_in parts) }
@@ -43,7 +43,7 @@ pub fn refusal_line(beginning: &str, parts: LineParts) -> ArrayString<LINE_ROOM>
     line
 }
 
-/// Appends the number of a line and a blank, where there is one.
+/// Appends the number of a line and a blank, if there is a number.
 fn push_number(line: &mut ArrayString<LINE_ROOM>, number: Option<usize>)
     requires { array_string_len line.old ≤ 17 }
     ensures bytes { line.new.bytes ≡ line.old.bytes ++ number_text number }

@@ -1,4 +1,4 @@
-//! Where the bytes of a file come from.
+//! The source of a file's bytes.
 
 ghost use Rattle.std.specs.Prelude.{⊤, OnErr};
 ghost use Rattle.std.specs.Io.{ReadsAtMost};
@@ -12,7 +12,7 @@ pub trait Source: Read {
     /// Whether a read may fail.
     ghost may_fail: { Self → Type 0 };
 
-    /// Reads as `read` does. Fails only where a read may fail.
+    /// Reads as `read` does. Fails only if a read may fail.
     fn read_part(&mut self, part: &mut [u8]) -> io::Result<usize>
         ensures bound { ReadsAtMost result part.new }
         ensures bytes { ReadConsumes (Self.remaining self.old) (Self.remaining self.new) result part.new }

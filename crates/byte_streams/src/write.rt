@@ -8,8 +8,8 @@ use crate::destination::Destination;
 use crate::fault::WriteFault;
 use std::io;
 
-/// Writes all the bytes. Refused as Io where a write failed, and as WroteNothing where a write took
-/// no bytes; then a beginning of the bytes was written, and not all of them.
+/// Writes all the bytes. Refused as Io if a write failed, and as WroteNothing if a write took no bytes; then a
+/// beginning of the bytes was written, and not all of them.
 pub fn write_whole<W: Destination>(bytes: &[u8], out: &mut W) -> Result<(), WriteFault>
     ensures writes { WritesText W.contents W.may_refuse result out.old out.new bytes.now }
     ensures fault { IfErr result (λ e. e ≢ WriteFault.Memory) }
@@ -25,8 +25,7 @@ pub fn write_whole<W: Destination>(bytes: &[u8], out: &mut W) -> Result<(), Writ
     Ok(())
 }
 
-/// Writes at least one of the first bytes, and returns how many. Where it is refused, nothing was
-/// written.
+/// Writes at least one of the first bytes, and returns how many. If it is refused, nothing was written.
 fn write_some<W: Destination>(bytes: &[u8], out: &mut W) -> Result<usize, WriteFault>
     requires { 0 < length bytes.now }
     ensures ok { IfOk result (λ n. (0 < n) × (n ≤ length bytes.now)
@@ -39,8 +38,7 @@ fn write_some<W: Destination>(bytes: &[u8], out: &mut W) -> Result<usize, WriteF
     taken(out.write_part(bytes))
 }
 
-/// The number of bytes that a writer took, at least one; Io where the write failed, WroteNothing
-/// where it took none.
+/// The number of bytes that a writer took, at least one; Io if the write failed, WroteNothing if it took none.
 fn taken(answer: io::Result<usize>) -> Result<usize, WriteFault>
     ensures { result ≡ taken_by answer }
 {

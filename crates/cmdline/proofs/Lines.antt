@@ -23,7 +23,7 @@ third_is_false true false true rest h = sym h
 third_is_false true true c rest h = cc
 third_is_false false b c rest h = cc
 
--- clap's definitions tell all of this command: its matches, and its faults
+-- clap's definitions define all of this command: its matches, and its faults
 pub is_plain : is_simple rvstm_app ≡ true
 unfolding clap_on_literals
 is_plain = refl
@@ -46,7 +46,7 @@ names = names_of (built rvstm_app)
 abbrev pub shape_at : ℕ → Shape
 shape_at place = get_or subs place top_app.top
 
--- where the walk stands after the name of a subcommand and these words
+-- the state of the walk after the name of a subcommand and these words
 abbrev pub stopped_at : Text → List Text → Walk
 stopped_at name words = record (walk_from nothing_held) { stopped = Some (name, words) }
 

@@ -9,17 +9,17 @@ use Rattle.clap.specs.declared.parser.matches.Found.{Found}
 use Rattle.clap.specs.declared.builder.value_parser.ValueParser.TheVariants as parser
 use Rattle.clap.proofs.ValueTestLemmas.{Accepts-accepts, accepts-Accepts}
 use Rattle.clap.proofs.WalkLemmas.{one_text-rows}
-use Rattle.cmdline.specs.Line.{is_operand, number_at, number_in, number_of}
+use Rattle.cmdline.specs.Line.{is_operand, number_at, number_of, word_number}
 
 -- a word that says a number in some bounds says one of 64 bits
-in_range : (word : Text) → IsNumeral 10 (without_leading_plus word) → number_in word < 2 ^ 64 → number_of word ≡ Some (number_in word)
+in_range : (word : Text) → IsNumeral 10 (without_leading_plus word) → word_number word < 2 ^ 64 → number_of word ≡ Some (word_number word)
 unfolding number_of
 in_range word digits small =
-    ap (λ (b : Bool). if b then Some (number_in word) else None)
+    ap (λ (b : Bool). if b then Some (word_number word) else None)
     (Accepts-accepts false (parser.Unsigned 0 0xffff_ffff_ffff_ffff) word (digits, small, omega arith, omega arith))
 
 module _ (low high : ℕ) where
-  pub number_is_read : (word : Text) → is_unsigned_in low high word ≡ true → number_of word ≡ Some (number_in word)
+  pub number_is_read : (word : Text) → is_unsigned_in low high word ≡ true → number_of word ≡ Some (word_number word)
   number_is_read word h =
       let read = accepts-Accepts false (parser.Unsigned low high) word h in
       in_range word read.0 read.1
@@ -38,7 +38,7 @@ module _ (low high : ℕ) where
   is_no_flag (y ∷ word) h = rw (never_hyphen y word (y == 45) refl h) refl
 
 -- a word that says none
-no_number : (word : Text) (b : Bool) → is_unsigned_in 0 0xffff_ffff_ffff_ffff word ≡ b → (IsNumeral 10 (without_leading_plus word) × (number_in word < 2 ^ 64) → ⊥) → number_of word ≡ None
+no_number : (word : Text) (b : Bool) → is_unsigned_in 0 0xffff_ffff_ffff_ffff word ≡ b → (IsNumeral 10 (without_leading_plus word) × (word_number word < 2 ^ 64) → ⊥) → number_of word ≡ None
 unfolding number_of
 no_number word true e never =
     let read = accepts-Accepts false (parser.Unsigned 0 0xffff_ffff_ffff_ffff) word e in

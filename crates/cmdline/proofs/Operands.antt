@@ -9,7 +9,7 @@ pub no_hyphen : (b : Bool) → not b ≡ true → b ≡ false
 no_hyphen false h = refl
 no_hyphen true h = cc
 
--- where a walk stands before such a word: nothing was met yet that ends it
+-- the state of a walk before such a word: no word before it ends the walk
 abbrev pub at : Held → Waiting → ℕ → Walk
 at h waiting position = record { held = h; waiting = waiting; position = position; is_trailing = false; stopped = None }
 

@@ -14,7 +14,7 @@ use Rattle.cmdline.proofs.Rows.{Kept, Looks, defaults_look, given, kept_or_defau
 
 -- ---- words that lead from one place to another
 
--- the walk over the words comes to this end, and each word passes
+-- the walk over the words reaches this end, and each word passes
 pub record Leads (s : Shape) (w : Walk) (words : List Text) (end : Walk) : Type 0 where
   pub goes : fold (walked s.rules []) w words ≡ end
   pub passes : walk_passes s [] w words ≡ true
@@ -73,7 +73,7 @@ go_on {s} {w} {words} {more} here next =
 abbrev pub pending_values : List Row → Text → List Text → ℕ → Held
 pending_values rows id values skip = record { rows = rows; pending = Some (id, values); skip = skip }
 
--- an argument that is not there
+-- an argument that is not given
 by_none : {s : Shape} {h : Held} {kept : Kept} (id : Text) (position : ℕ) → Holds s h kept → kept id ≡ None → Reaches s (at h idle position) [] (put id None kept)
 by_none {h = h} {kept = kept} id position holds new = record {
   held = h;

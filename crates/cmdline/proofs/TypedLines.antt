@@ -10,8 +10,8 @@ use Rattle.clap.specs.Walk.{Row, Text, first_of, nothing_held, rows_after, walk_
 use Rattle.clap.specs.declared.builder.value_parser.Reading.TheVariants as reading
 use Rattle.clap.specs.declared.parser.matches.ValueSource.TheVariants as source
 use Rattle.clap.proofs.OnLiterals.{clap_on_literals}
-use Rattle.cmdline.specs.Line.{AsmOf, Asked, ConflictsOf, DisOf, MigrateOf, SeqOf, asked_in, file_rule, flag_at, is_call_number, is_decimal, is_decimal_at, is_operand, is_setting_number, is_store_file, is_worker_number, last_call, max_workers, most_setting, number_at, number_in, requested, rvstm_app, top_app, written_app, written_of}
-use Rattle.cmdline.specs.Typed.{AsmLine, ChainLine, ConflictsLine, DebugLine, DisLine, DriveLine, MigrateLine, RunLine, SeqLine, TypedLine, asked_of, has_right_words, typed_words}
+use Rattle.cmdline.specs.Line.{AsmOf, Asked, ConflictsOf, DisOf, MigrateOf, SeqOf, asked_in, file_rule, flag_at, is_call_number, is_decimal, is_decimal_at, is_operand, is_setting_number, is_store_file, is_worker_number, last_call, max_workers, most_setting, number_at, word_number, requested, rvstm_app, top_app, written_app, written_of}
+use Rattle.cmdline.specs.Typed.{AsmLine, ChainLine, ConflictsLine, DebugLine, DisLine, DriveLine, MigrateLine, RunLine, SeqLine, TypedLine, asked_by_line, has_right_words, typed_words}
 use Rattle.cmdline.proofs.Lines.{IsSubcommand, line_asks, line_is_taken, shape_at}
 use Rattle.cmdline.proofs.Numbers.{is_no_flag, number_is_read}
 use Rattle.cmdline.proofs.Rows.{Kept, Looks, given, kept_or_defaults, row_at, row_of_use}
@@ -25,7 +25,7 @@ module _ (rows : List Row) (id : Text) where
   text_is (Some word) found = rw found refl
 
   number_is : (low high : ℕ) (word : Option Text) → option_map_or (is_unsigned_in low high) word true ≡ true → row_at id rows ≡ option_map (given id) word
-      → number_at id rows ≡ option_map number_in word
+      → number_at id rows ≡ option_map word_number word
   number_is low high None right found = rw found refl
   number_is low high (Some word) right found = rw found (number_is_read low high word right)
 
@@ -72,7 +72,7 @@ accepts {s = s} {needed = needed} {words = words} what named needs reaches all_g
 
 -- a line with right words is accepted for what it asks
 abbrev pub IsAccepted : TypedLine → Type 0
-IsAccepted line = has_right_words line ≡ true → Accepts (typed_words line) (asked_of line)
+IsAccepted line = has_right_words line ≡ true → Accepts (typed_words line) (asked_by_line line)
 
 -- ---- `run`
 

@@ -50,11 +50,11 @@ call_rule = record (new_rule (codes "call")) {
   required = true;
 }
 
--- the option `--counts`, a word that may stand or not
+-- the option `--counts`, a word that may be given or not
 abbrev pub counts_rule : Rule
 counts_rule = record (new_rule (codes "counts")) { long = Some (codes "counts"); action = Some action.SetTrue }
 
--- `run FILE --workers N`, and `--counts` behind it
+-- `run FILE --workers N`, with `--counts` if it is given
 abbrev pub run_app : App
 run_app = with_rule (with_rule (with_rule (new_app (codes "run")) file_rule) workers_rule) counts_rule
 
@@ -75,7 +75,7 @@ schedule_rule = record (new_rule (codes "schedule")) {
   required = true;
 }
 
--- `drive FILE --workers N --schedule FILE`, and `--counts` behind it
+-- `drive FILE --workers N --schedule FILE`, with `--counts` if it is given
 abbrev pub drive_app : App
 drive_app = with_rule (with_rule (with_rule (with_rule (new_app (codes "drive")) file_rule) workers_rule) schedule_rule) counts_rule
 
@@ -100,11 +100,11 @@ asm_app = written_app (codes "asm")
 abbrev pub dis_app : App
 dis_app = with_rule (new_app (codes "dis")) file_rule
 
--- the option `--more`, a word that may stand or not
+-- the option `--more`, a word that may be given or not
 abbrev pub more_rule : Rule
 more_rule = record (new_rule (codes "more")) { long = Some (codes "more"); action = Some action.SetTrue }
 
--- `debug FILE --call N`, and `--more` behind it
+-- `debug FILE --call N`, with `--more` if it is given
 abbrev pub debug_app : App
 debug_app = with_rule (with_rule (with_rule (new_app (codes "debug")) file_rule) call_rule) more_rule
 
@@ -116,7 +116,7 @@ migrate_app = written_app (codes "migrate")
 abbrev pub most_setting : ℕ
 most_setting = 9999999999
 
--- the option `--frame-limit BYTES`, which may stand or not: BYTES is a whole number of 0 to `most_setting`
+-- the option `--frame-limit BYTES`, which may be given or not: BYTES is a whole number of 0 to `most_setting`
 abbrev pub frame_limit_rule : Rule
 frame_limit_rule = record (new_rule (codes "frame-limit")) {
   long = Some (codes "frame-limit");
@@ -125,7 +125,7 @@ frame_limit_rule = record (new_rule (codes "frame-limit")) {
   parser = Some (parser.Unsigned 0 most_setting);
 }
 
--- the option `--frame-gas N`, which may stand or not: N is a whole number of 0 to `most_setting`
+-- the option `--frame-gas N`, which may be given or not: N is a whole number of 0 to `most_setting`
 abbrev pub frame_gas_rule : Rule
 frame_gas_rule = record (new_rule (codes "frame-gas")) {
   long = Some (codes "frame-gas");
@@ -134,15 +134,15 @@ frame_gas_rule = record (new_rule (codes "frame-gas")) {
   parser = Some (parser.Unsigned 0 most_setting);
 }
 
--- the option `--digest`, a word that may stand or not
+-- the option `--digest`, a word that may be given or not
 abbrev pub digest_rule : Rule
 digest_rule = record (new_rule (codes "digest")) { long = Some (codes "digest"); action = Some action.SetTrue }
 
--- the option `--brief`, a word that may stand or not
+-- the option `--brief`, a word that may be given or not
 abbrev pub brief_rule : Rule
 brief_rule = record (new_rule (codes "brief")) { long = Some (codes "brief"); action = Some action.SetTrue }
 
--- the option `--store FILE`, which may stand or not: FILE is not empty
+-- the option `--store FILE`, which may be given or not: FILE is not empty
 abbrev pub store_rule : Rule
 store_rule = record (new_rule (codes "store")) {
   long = Some (codes "store");
@@ -151,7 +151,7 @@ store_rule = record (new_rule (codes "store")) {
   parser = Some parser.NonEmptyString;
 }
 
--- `chain`, and behind it `--workers N`, the settings of a session and `--store FILE`, each of which may stand or not
+-- `chain`, with `--workers N`, the settings of a session and `--store FILE`, each of which may be given or not
 abbrev pub chain_app : App
 chain_app = with_rule (with_rule (with_rule (with_rule (with_rule (with_rule (new_app (codes "chain"))
     (record workers_rule { required = false })) frame_limit_rule) frame_gas_rule) digest_rule) brief_rule) store_rule
@@ -180,30 +180,30 @@ pub data Asked : Type 0 where
   MigrateOf : Text → Text → Asked
   ChainOf : Option ℕ → Option ℕ → Option ℕ → Bool → Bool → Option Text → Asked
 
-abbrev pub asked_by : Request → Asked
-asked_by (Run file workers counts) = RunOf file.now workers counts
-asked_by (Seq file) = SeqOf file.now
-asked_by (Conflicts file) = ConflictsOf file.now
-asked_by (Drive file workers schedule counts) = DriveOf file.now workers schedule.now counts
-asked_by (Asm file out) = AsmOf file.now out.now
-asked_by (Dis file) = DisOf file.now
-asked_by (Debug file call more) = DebugOf file.now call more
-asked_by (Migrate file out) = MigrateOf file.now out.now
-asked_by (Chain workers limit gas digest brief store) = ChainOf workers limit gas digest brief (option_map (λ file. file.now) store)
+abbrev pub asked_by_request : Request → Asked
+asked_by_request (Run file workers counts) = RunOf file.now workers counts
+asked_by_request (Seq file) = SeqOf file.now
+asked_by_request (Conflicts file) = ConflictsOf file.now
+asked_by_request (Drive file workers schedule counts) = DriveOf file.now workers schedule.now counts
+asked_by_request (Asm file out) = AsmOf file.now out.now
+asked_by_request (Dis file) = DisOf file.now
+asked_by_request (Debug file call more) = DebugOf file.now call more
+asked_by_request (Migrate file out) = MigrateOf file.now out.now
+asked_by_request (Chain workers limit gas digest brief store) = ChainOf workers limit gas digest brief (option_map (λ file. file.now) store)
 
 -- the number that a word gives
-abbrev pub number_in : Text → ℕ
-number_in word = digits_value 10 (without_leading_plus word)
+abbrev pub word_number : Text → ℕ
+word_number word = digits_value 10 (without_leading_plus word)
 
--- the number that a word gives, where it is one of at most 64 bits
+-- the number that a word gives, if it is one of at most 64 bits
 unfoldable pub number_of : Text → Option ℕ
-number_of word = if is_unsigned_in 0 0xffff_ffff_ffff_ffff word then Some (number_in word) else None
+number_of word = if is_unsigned_in 0 0xffff_ffff_ffff_ffff word then Some (word_number word) else None
 
 -- the number of an option, from what clap found
 abbrev pub number_at : Text → List Row → Option ℕ
 number_at option rows = option_and_then number_of (one_of option rows)
 
--- whether a word such as `--counts` stands on the line: clap then has the text `true` for it
+-- whether a word such as `--counts` is on the line: clap then has the text `true` for it
 abbrev pub flag_at : Text → List Row → Bool
 flag_at flag rows = option_map_or (λ text. bytes_eq text (codes "true")) (first_of flag rows) false
 
@@ -220,8 +220,8 @@ abbrev pub debug_of : List Row → Option Asked
 debug_of rows = numbered_of (λ file call. DebugOf file call (flag_at (codes "more") rows)) (codes "call") rows
 
 -- what `drive` asks for, from what clap found
-abbrev pub drive_of : List Row → Option Asked
-drive_of rows = option_and_then (λ file. option_and_then (λ workers. option_map (λ schedule. DriveOf file workers schedule (flag_at (codes "counts") rows))
+abbrev pub drive_asked : List Row → Option Asked
+drive_asked rows = option_and_then (λ file. option_and_then (λ workers. option_map (λ schedule. DriveOf file workers schedule (flag_at (codes "counts") rows))
     (first_of (codes "schedule") rows)) (number_at (codes "workers") rows)) (first_of (codes "file") rows)
 
 -- what FILE and the FILE of `--out` ask for, from what clap found
@@ -234,15 +234,15 @@ is_decimal [] = false
 is_decimal (x ∷ []) = true
 is_decimal (x ∷ y ∷ rest) = not (x == 43 || x == 48)
 
--- so is the word of an option, where it stands
+-- the word of an option, if it is there, is a decimal
 abbrev pub is_decimal_at : Text → List Row → Bool
 is_decimal_at option rows = option_map_or is_decimal (first_of option rows) true
 
--- a session of `chain` keeps a digest where `--digest` stands, and where `--store FILE` does
+-- a session of `chain` keeps a digest if `--digest` or `--store FILE` is given
 abbrev pub keeps_digest : List Row → Bool
 keeps_digest rows = flag_at (codes "digest") rows || is_some (first_of (codes "store") rows)
 
--- what `chain` asks for, from what clap found; nothing where a number of a setting is no decimal
+-- what `chain` asks for, from what clap found; nothing if a number of a setting is no decimal
 abbrev pub chain_of : List Row → Option Asked
 chain_of rows = if is_decimal_at (codes "frame-limit") rows && is_decimal_at (codes "frame-gas") rows
     then Some (ChainOf (number_at (codes "workers") rows) (number_at (codes "frame-limit") rows) (number_at (codes "frame-gas") rows)
@@ -258,7 +258,7 @@ asked_in found = if bytes_eq found.0 (codes "run")
     else if bytes_eq found.0 (codes "conflicts")
     then option_map ConflictsOf (first_of (codes "file") found.1)
     else if bytes_eq found.0 (codes "drive")
-    then drive_of found.1
+    then drive_asked found.1
     else if bytes_eq found.0 (codes "asm")
     then written_of AsmOf found.1
     else if bytes_eq found.0 (codes "dis")
@@ -271,7 +271,7 @@ asked_in found = if bytes_eq found.0 (codes "run")
     then chain_of found.1
     else None
 
--- what a whole line, with the program's name first, asks for, where clap accepts it
+-- what a whole line, with the program's name first, asks for, if clap accepts it
 abbrev pub requested : List Text → Option Asked
 requested words = option_and_then asked_in (subcommand_of rvstm_app words)
 
@@ -299,4 +299,4 @@ is_setting_number word = is_unsigned_in 0 most_setting word && is_decimal word
 -- the answer is this request, or memory ran out
 abbrev pub AnswersUnlessMemory : Result (Option Request) Error → Asked → Type 0
 AnswersUnlessMemory r a =
-    MatchResult r (λ found. option_map asked_by found ≡ Some a) (λ e. kind_of e ≡ kind.OutOfMemory)
+    MatchResult r (λ found. option_map asked_by_request found ≡ Some a) (λ e. kind_of e ≡ kind.OutOfMemory)

@@ -2,7 +2,7 @@
 use Rattle.std.specs.Prelude.{Bool, true, false, ◌&&◌, ◌||◌, List, [], ◌∷◌, ◌++◌, Option, Some, None, codes, is_some, option_map}
 use Rattle.std.specs.Option.{option_map_or}
 use Rattle.clap.specs.Words.{Text}
-use Rattle.cmdline.specs.Line.{AsmOf, Asked, ChainOf, ConflictsOf, DebugOf, DisOf, DriveOf, MigrateOf, RunOf, SeqOf, is_call_number, is_operand, is_setting_number, is_store_file, is_worker_number, number_in}
+use Rattle.cmdline.specs.Line.{AsmOf, Asked, ChainOf, ConflictsOf, DebugOf, DisOf, DriveOf, MigrateOf, RunOf, SeqOf, is_call_number, is_operand, is_setting_number, is_store_file, is_worker_number, word_number}
 
 -- a line: FILE and the values of the options are the words that are typed, and a `Bool` says whether an option that
 -- has no value is there
@@ -56,15 +56,15 @@ has_right_words (ChainLine workers frame_limit frame_gas digest brief store) =
     && option_map_or is_setting_number frame_gas true && option_map_or is_store_file store true
 
 -- what a line asks for; with `--store` a session keeps a digest
-abbrev pub asked_of : TypedLine → Asked
-asked_of (RunLine file workers counts) = RunOf file (number_in workers) counts
-asked_of (SeqLine file) = SeqOf file
-asked_of (ConflictsLine file) = ConflictsOf file
-asked_of (DriveLine file workers schedule counts) = DriveOf file (number_in workers) schedule counts
-asked_of (AsmLine file out) = AsmOf file out
-asked_of (DisLine file) = DisOf file
-asked_of (DebugLine file call more) = DebugOf file (number_in call) more
-asked_of (MigrateLine file out) = MigrateOf file out
-asked_of (ChainLine workers frame_limit frame_gas digest brief store) =
-    ChainOf (option_map number_in workers) (option_map number_in frame_limit) (option_map number_in frame_gas)
+abbrev pub asked_by_line : TypedLine → Asked
+asked_by_line (RunLine file workers counts) = RunOf file (word_number workers) counts
+asked_by_line (SeqLine file) = SeqOf file
+asked_by_line (ConflictsLine file) = ConflictsOf file
+asked_by_line (DriveLine file workers schedule counts) = DriveOf file (word_number workers) schedule counts
+asked_by_line (AsmLine file out) = AsmOf file out
+asked_by_line (DisLine file) = DisOf file
+asked_by_line (DebugLine file call more) = DebugOf file (word_number call) more
+asked_by_line (MigrateLine file out) = MigrateOf file out
+asked_by_line (ChainLine workers frame_limit frame_gas digest brief store) =
+    ChainOf (option_map word_number workers) (option_map word_number frame_limit) (option_map word_number frame_gas)
     (digest || is_some store) brief store

@@ -325,7 +325,7 @@ fn store<'a>(alloc: Global) -> Arg<'a>
         .value_parser(ValueParser::NonEmptyString)
 }
 
-/// The option `--NAME VALUE`, which may stand or not, of a number of 0 to 9,999,999,999.
+/// The optional option `--NAME VALUE`, whose value is a number of 0 to 9,999,999,999.
 fn setting<'a>(alloc: Global, name: &'a str, value_name: &'a str, help: &'a str) -> Arg<'a>
     ensures rule { rule_of result ≡ record frame_limit_rule { id = name.now; long = Some name.now } }
     ensures local { result.global ≡ false }
@@ -335,7 +335,7 @@ fn setting<'a>(alloc: Global, name: &'a str, value_name: &'a str, help: &'a str)
         .value_parser(value_parser!(usize).range(0..=SETTING_LIMIT))
 }
 
-/// The option `--NAME`, a word that may stand or not.
+/// The option `--NAME`, a word that may be given or not.
 fn flag<'a>(alloc: Global, name: &'a str, help: &'a str) -> Arg<'a>
     ensures rule { rule_of result ≡ record counts_rule { id = name.now; long = Some name.now } }
     ensures local { result.global ≡ false }

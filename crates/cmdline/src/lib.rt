@@ -8,8 +8,8 @@ ghost use Rattle.std.specs.Prelude.{◌≡◌, ◌∷◌, IfErr, IfOk, true, map
 ghost use Rattle.std.specs.String.{string_bytes};
 ghost use Rattle.clap.specs.Words.{FailsBy, HasMatchesOf, Text, fault_of, kind_of, takes};
 ghost use Rattle.clap.specs.declared.error.ErrorKind.TheVariants as kind;
-ghost use Rattle.cmdline.specs.Line.{AnswersUnlessMemory, asked_by, requested, rvstm_app};
-ghost use Rattle.cmdline.specs.Typed.{TypedLine, asked_of, has_right_words, typed_words};
+ghost use Rattle.cmdline.specs.Line.{AnswersUnlessMemory, asked_by_request, requested, rvstm_app};
+ghost use Rattle.cmdline.specs.Typed.{TypedLine, asked_by_line, has_right_words, typed_words};
 
 use crate::commands::rvstm;
 use crate::requests::request_in;
@@ -68,7 +68,7 @@ pub enum Request<'a> {
         file: &'a str,
         /// The number of the call, 0 to 1023; the first call of the block has 0.
         call: usize,
-        /// Whether to hear more lines, and to run no call behind this one.
+        /// Whether to accept more lines, and to run no call after this one.
         more: bool,
     },
     /// Rewrite a block file of format 1 as one of format 2.
@@ -80,43 +80,43 @@ pub enum Request<'a> {
     },
     /// Answer the requests of the standard input in one session, whose frames run on one storage.
     Chain {
-        /// The number of workers, 1 to 32, where the calls of a block may run on several at the same time.
+        /// The number of workers, 1 to 32, if the calls of a block may run on several at the same time.
         workers: Option<usize>,
-        /// The greatest length of a frame in bytes, 0 to 9,999,999,999, where one is given.
+        /// The greatest length of a frame in bytes, 0 to 9,999,999,999, if one is given.
         frame_limit: Option<usize>,
-        /// The greatest sum of the gas limits of a frame's calls, 0 to 9,999,999,999, where one is given.
+        /// The greatest sum of the gas limits of a frame's calls, 0 to 9,999,999,999, if one is given.
         frame_gas: Option<usize>,
-        /// Whether to keep a digest of the answers; so where a store is given.
+        /// Whether to keep a digest of the answers; always so if a store is given.
         digest: bool,
         /// Whether receipts have no `regs` lines.
         brief: bool,
-        /// The path of the file that keeps the session, where one is given; it is not empty.
+        /// The path of the file that keeps the session, if one is given; it is not empty.
         store: Option<&'a str>,
     },
 }
 
-/// Reads a command line, whose first word is the program's name. Refused where the subcommand is missing
-/// or unknown, a word is missing or surplus, an option is unknown or repeated, the number of workers is
-/// not 1 to 32, the number of the call is not 0 to 1023, a number of `--frame-limit` or `--frame-gas` is
-/// not 0 to 9,999,999,999, the path of `--store` is empty, or memory ran out. Help and the version are
-/// errors too; for them `use_stderr` is false. `None` where clap accepts a line, but such a number has a
-/// sign or a zero before another digit, or clap gives no value that it demands.
+/// Reads a command line, whose first word is the program's name. Refused if the subcommand is missing or unknown, a
+/// word is missing or surplus, an option is unknown or repeated, the number of workers is not 1 to 32, the number of
+/// the call is not 0 to 1023, a number of `--frame-limit` or `--frame-gas` is not 0 to 9,999,999,999, the path of
+/// `--store` is empty, or memory ran out. Help and the version are errors too; for them `use_stderr` is false. `None`
+/// if clap accepts a line, but such a number has a sign or a zero before another digit, or clap gives no value that
+/// it requires.
 pub fn request_of<'a>(alloc: Global, words: &'a [String]) -> Result<Option<Request<'a>>, Error>
     // an accepted line asks for exactly this
     ensures answer { IfOk result (λ r.
-        option_map asked_by r ≡ requested (map string_bytes words.now)) }
+        option_map asked_by_request r ≡ requested (map string_bytes words.now)) }
     // a line with a fault is never accepted; the error is of the fault's kind, or memory ran out
     ensures refused { FailsBy (fault_of rvstm_app (map string_bytes words.now)) result }
     // a line of `typed_words` with right words is accepted, unless memory runs out, and asks for what it says
     ensures accepted { (program : Text) (line : TypedLine)
         → map string_bytes words.now ≡ program ∷ typed_words line → has_right_words line ≡ true
-        → AnswersUnlessMemory result (asked_of line) }
+        → AnswersUnlessMemory result (asked_by_line line) }
 {
     let matches = matches_of(alloc, words)?;
     Ok(request_in(&matches))
 }
 
-/// What clap finds on a command line; refused where `request_of` is.
+/// What clap finds on a command line; refused if `request_of` is.
 fn matches_of<'a>(alloc: Global, words: &'a [String]) -> Result<ArgMatches<'a>, Error>
     ensures found { IfOk result (HasMatchesOf rvstm_app (map string_bytes words.now)) }
     ensures passes { takes rvstm_app (map string_bytes words.now) ≡ true

@@ -2,14 +2,14 @@
 
 ghost use Rattle.std.specs.Prelude.{◌≡◌, option_and_then, option_map, codes};
 ghost use Rattle.clap.specs.Words.{Text, first_of, found_of, rows_of, subcommand_rows_of};
-ghost use Rattle.cmdline.specs.Line.{AsmOf, Asked, ConflictsOf, DisOf, MigrateOf, SeqOf, asked_by, asked_in, chain_of, debug_of, drive_of, flag_at, is_decimal, is_decimal_at, number_at, run_of, written_of};
+ghost use Rattle.cmdline.specs.Line.{AsmOf, Asked, ConflictsOf, DisOf, MigrateOf, SeqOf, asked_by_request, asked_in, chain_of, debug_of, drive_asked, flag_at, is_decimal, is_decimal_at, number_at, run_of, written_of};
 
 use crate::Request;
 use clap::ArgMatches;
 
-/// The request of a line that clap accepted; `None` where a value that it needs is missing.
+/// The request of a line that clap accepted; `None` if a value that it needs is missing.
 pub(crate) fn request_in<'a>(matches: &ArgMatches<'a>) -> Option<Request<'a>>
-    ensures { option_map asked_by result
+    ensures { option_map asked_by_request result
         ≡ option_and_then asked_in (subcommand_rows_of matches.now) }
 {
     match matches.subcommand()? {
@@ -29,7 +29,7 @@ pub(crate) fn request_in<'a>(matches: &ArgMatches<'a>) -> Option<Request<'a>>
 /// The request of what clap found for `run`.
 #[tactic(auto, using(crate::proofs::Lines::first_in_rows))]
 fn run_in<'a>(found: &ArgMatches<'a>) -> Option<Request<'a>>
-    ensures { option_map asked_by result ≡ run_of (rows_of (found_of found.now)) }
+    ensures { option_map asked_by_request result ≡ run_of (rows_of (found_of found.now)) }
 {
     let file = found.get_str("file")?;
     let workers = number_found(found, "workers")?;
@@ -44,7 +44,7 @@ fn run_in<'a>(found: &ArgMatches<'a>) -> Option<Request<'a>>
 /// The request of what clap found for `seq`.
 #[tactic(auto, using(crate::proofs::Lines::first_in_rows))]
 fn seq_in<'a>(found: &ArgMatches<'a>) -> Option<Request<'a>>
-    ensures { option_map asked_by result
+    ensures { option_map asked_by_request result
         ≡ option_map SeqOf (first_of (codes "file") (rows_of (found_of found.now))) }
 {
     let file = found.get_str("file")?;
@@ -54,7 +54,7 @@ fn seq_in<'a>(found: &ArgMatches<'a>) -> Option<Request<'a>>
 /// The request of what clap found for `conflicts`.
 #[tactic(auto, using(crate::proofs::Lines::first_in_rows))]
 fn conflicts_in<'a>(found: &ArgMatches<'a>) -> Option<Request<'a>>
-    ensures { option_map asked_by result
+    ensures { option_map asked_by_request result
         ≡ option_map ConflictsOf (first_of (codes "file") (rows_of (found_of found.now))) }
 {
     let file = found.get_str("file")?;
@@ -64,7 +64,7 @@ fn conflicts_in<'a>(found: &ArgMatches<'a>) -> Option<Request<'a>>
 /// The request of what clap found for `drive`.
 #[tactic(auto, using(crate::proofs::Lines::first_in_rows))]
 fn drive_in<'a>(found: &ArgMatches<'a>) -> Option<Request<'a>>
-    ensures { option_map asked_by result ≡ drive_of (rows_of (found_of found.now)) }
+    ensures { option_map asked_by_request result ≡ drive_asked (rows_of (found_of found.now)) }
 {
     let file = found.get_str("file")?;
     let workers = number_found(found, "workers")?;
@@ -80,7 +80,7 @@ fn drive_in<'a>(found: &ArgMatches<'a>) -> Option<Request<'a>>
 
 /// The request of what clap found for `asm`.
 fn asm_in<'a>(found: &ArgMatches<'a>) -> Option<Request<'a>>
-    ensures { option_map asked_by result ≡ written_of AsmOf (rows_of (found_of found.now)) }
+    ensures { option_map asked_by_request result ≡ written_of AsmOf (rows_of (found_of found.now)) }
 {
     let (file, out) = files_in(found)?;
     Some(Request::Asm { file, out })
@@ -89,7 +89,7 @@ fn asm_in<'a>(found: &ArgMatches<'a>) -> Option<Request<'a>>
 /// The request of what clap found for `dis`.
 #[tactic(auto, using(crate::proofs::Lines::first_in_rows))]
 fn dis_in<'a>(found: &ArgMatches<'a>) -> Option<Request<'a>>
-    ensures { option_map asked_by result
+    ensures { option_map asked_by_request result
         ≡ option_map DisOf (first_of (codes "file") (rows_of (found_of found.now))) }
 {
     let file = found.get_str("file")?;
@@ -99,7 +99,7 @@ fn dis_in<'a>(found: &ArgMatches<'a>) -> Option<Request<'a>>
 /// The request of what clap found for `debug`.
 #[tactic(auto, using(crate::proofs::Lines::first_in_rows))]
 fn debug_in<'a>(found: &ArgMatches<'a>) -> Option<Request<'a>>
-    ensures { option_map asked_by result ≡ debug_of (rows_of (found_of found.now)) }
+    ensures { option_map asked_by_request result ≡ debug_of (rows_of (found_of found.now)) }
 {
     let file = found.get_str("file")?;
     let call = number_found(found, "call")?;
@@ -109,15 +109,15 @@ fn debug_in<'a>(found: &ArgMatches<'a>) -> Option<Request<'a>>
 
 /// The request of what clap found for `migrate`.
 fn migrate_in<'a>(found: &ArgMatches<'a>) -> Option<Request<'a>>
-    ensures { option_map asked_by result ≡ written_of MigrateOf (rows_of (found_of found.now)) }
+    ensures { option_map asked_by_request result ≡ written_of MigrateOf (rows_of (found_of found.now)) }
 {
     let (file, out) = files_in(found)?;
     Some(Request::Migrate { file, out })
 }
 
-/// The request of what clap found for `chain`; `None` where a number of a setting is no decimal.
+/// The request of what clap found for `chain`; `None` if a number of a setting is no decimal.
 fn chain_in<'a>(found: &ArgMatches<'a>) -> Option<Request<'a>>
-    ensures { option_map asked_by result ≡ chain_of (rows_of (found_of found.now)) }
+    ensures { option_map asked_by_request result ≡ chain_of (rows_of (found_of found.now)) }
 {
     let is_decimal = is_decimal_found(found, "frame-limit") && is_decimal_found(found, "frame-gas");
     if !is_decimal {
@@ -164,7 +164,7 @@ fn flag_found(found: &ArgMatches<'_>, flag: &str) -> bool
     }
 }
 
-/// Whether the word that clap found for an option, where it found one, is a decimal.
+/// Whether the word that clap found for an option, if it found one, is a decimal.
 #[tactic(auto, using(crate::proofs::Lines::first_in_rows))]
 fn is_decimal_found(found: &ArgMatches<'_>, option: &str) -> bool
     ensures { result ≡ is_decimal_at option.now (rows_of (found_of found.now)) }

@@ -26,11 +26,11 @@ use Rattle.rv_ledger.specs.declared.change.Change.TheVariants as change
 use Rattle.rv_ledger.specs.declared.receipt.Receipt.{Receipt}
 use Rattle.rv_step.specs.Chain.{ends}
 use Rattle.rv_step.specs.Fold.{receipts_of, store_after_call, store_before}
-use Rattle.conflicts.specs.Calls.{CallLists, Counts, calls_at, count_at, hot_key, hot_keys, with_changes, with_more, with_waits}
+use Rattle.conflicts.specs.Calls.{CallLists, Counts, calls_at, count_at, hot_key, hot_keys, with_call_changes, with_more, with_waits}
 use Rattle.conflicts.specs.Reads.{Keys, keys_read}
-use Rattle.conflicts.specs.Sums.{HotKeyView, all_waits, changes_key, hot_key_of, keys_of_calls, writers_at}
+use Rattle.conflicts.specs.Sums.{HotKeyView, all_waits, calls_changing, changes_key, hot_key_of, keys_of_calls}
 use Rattle.conflicts.specs.Table.{waits_in}
-use Rattle.conflicts.specs.Waits.{CallView, Wait, call_of, calls_of, change_in, keys_of, waits_at, waits_for, waits_of, waits_over, writers_named}
+use Rattle.conflicts.specs.Waits.{CallView, Wait, call_view_of, calls_of, change_in, keys_read_by, waits_at, waits_for, waits_of, waits_over, writers_named}
 use Rattle.conflicts.proofs.Noted.{Names, changed, changes_at, named_more, named_none, noted, receipt_at, tied}
 
 -- the calls that were found at a key, or none yet
@@ -49,7 +49,7 @@ at_more q m key n true same =
 at_more q m key n false other =
     ap (λ o. unwrap_or o 0) (finite.get-insert nat_list_cmp_total m key (count_at m key + n) q ∙ ap (λ b. cond b (Some (count_at m key + n)) (finite.get m q)) other)
 
--- keys compare alike where their bytes are equal
+-- keys compare as equal exactly if their bytes are equal
 same_test : (key q : List ℕ) → eq_by_cmp key_cmp q key ≡ bytes_eq key q
 same_test key q = by_order_test (eq_by_cmp key_cmp q key) refl
   where
@@ -136,7 +136,7 @@ more_twice m key n = finite.same_map nat_list_cmp_total key_cmp-IsAntisymmetric 
     either q true same = ap Some sum_is
     either q false other = finite.get-insert nat_list_cmp_total m key (count_at m key + 1) q ∙ ap (λ b. cond b (Some (count_at m key + 1)) (finite.get m q)) other
 
--- so many more at a key, and nothing where there is none
+-- this many more at a key, and no change if the number is 0
 abbrev many : Counts → List ℕ → ℕ → Counts
 many m key zero = m
 many m key (suc n) = with_more m key (suc n)
@@ -164,7 +164,7 @@ same_order key calls m = waits_are_many key (reverse calls) m ∙ ap (many m key
 pub no_fewer : (q : List ℕ) (ws : List Wait) (m : Counts) → count_at m q ≤ count_at (with_waits m ws) q
 no_fewer q ws m = let more = waits_counted q ws m in omega (arith, more)
 
--- and the last of them bounds the others
+-- so if the last count fits, the ones before it fit
 pub still_fits : (q : List ℕ) (m : Counts) (some rest : List Wait) → count_at (with_waits m (some ++ rest)) q < 2 ^ 64 → count_at (with_waits m some) q < 2 ^ 64
 still_fits q m some rest h =
     let less = no_fewer q rest (with_waits m some) in
@@ -203,7 +203,7 @@ module _ (key : List ℕ) where
 
 -- the writers of the first receipts were noted
 abbrev pub AreWriters : CallLists → List Receipt → ℕ → Type 0
-AreWriters lists receipts i = (q : List ℕ) → calls_at lists q ≡ writers_at (take i receipts) q
+AreWriters lists receipts i = (q : List ℕ) → calls_at lists q ≡ calls_changing (take i receipts) q
 
 pub no_writers : (receipts : List Receipt) → AreWriters finite.empty receipts 0
 no_writers receipts q = ap (λ o. unwrap_or o []) (finite.get-empty key_cmp q)
@@ -216,16 +216,16 @@ added i None calls = sym (append-nil calls)
 added i (Some change) calls = refl
 
 pub writers_next : (block : List Invocation) (store : Storage) (i : ℕ) (call : Invocation) → slice_get block i ≡ Some call → (lists : CallLists) → AreWriters lists (receipts_of block store) i
-    → AreWriters (with_changes i (finite.entries (ends call (store_before block i store)).writes) lists) (receipts_of block store) (i + 1)
+    → AreWriters (with_call_changes i (finite.entries (ends call (store_before block i store)).writes) lists) (receipts_of block store) (i + 1)
 writers_next block store i call at lists h q =
     let receipt = ends call (store_before block i store) in
     changes_at (adding i) q (finite.entries receipt.writes) lists (finite.entries_sorted receipt.writes)
     ∙ ap (λ o. changed (adding i) o (calls_at lists q)) (sym (finite.get-entries receipt.writes q))
     ∙ added i (finite.get receipt.writes q) (calls_at lists q)
     ∙ ap (λ l. l ++ one_writer q i receipt) (h q)
-    ∙ ap (λ (k : ℕ). writers_at (take i (receipts_of block store)) q ++ one_writer q k receipt) (sym (from_zero i))
+    ∙ ap (λ (k : ℕ). calls_changing (take i (receipts_of block store)) q ++ one_writer q k receipt) (sym (from_zero i))
     ∙ sym (writers_more q 0 (receipts_of block store) i receipt (receipt_at call block store i at))
-    ∙ ap (λ n. writers_at (take n (receipts_of block store)) q) (next i)
+    ∙ ap (λ n. calls_changing (take n (receipts_of block store)) q) (next i)
   where
     next : (n : ℕ) → suc n ≡ n + 1
     next n = omega arith
@@ -239,14 +239,14 @@ taken_all : (xs : List Receipt) → take (length xs) xs ≡ xs
 taken_all [] = refl
 taken_all (x ∷ xs) = ap (λ (l : List Receipt). x ∷ l) (taken_all xs)
 
-pub all_writers : (block : List Invocation) (store : Storage) (lists : CallLists) (n : ℕ) → n ≡ length block → AreWriters lists (receipts_of block store) n → (key : List ℕ) → calls_at lists key ≡ writers_at (receipts_of block store) key
+pub all_writers : (block : List Invocation) (store : Storage) (lists : CallLists) (n : ℕ) → n ≡ length block → AreWriters lists (receipts_of block store) n → (key : List ℕ) → calls_at lists key ≡ calls_changing (receipts_of block store) key
 all_writers block store lists n all h key =
-    h key ∙ ap (λ k. writers_at (take k (receipts_of block store)) key) (all ∙ sym (receipts_count block store)) ∙ ap (λ l. writers_at l key) (taken_all (receipts_of block store))
+    h key ∙ ap (λ k. calls_changing (take k (receipts_of block store)) key) (all ∙ sym (receipts_count block store)) ∙ ap (λ l. calls_changing l key) (taken_all (receipts_of block store))
 
 -- ---- both
 
--- what the run in order has are the keys of the definition
-module _ (block : List Invocation) (store : Storage) (writers : CallLists) (h : (key : List ℕ) → calls_at writers key ≡ writers_at (receipts_of block store) key) where
+-- the keys that the run in order has are those of the definition
+module _ (block : List Invocation) (store : Storage) (writers : CallLists) (h : (key : List ℕ) → calls_at writers key ≡ calls_changing (receipts_of block store) key) where
   abbrev calls : List CallView
   calls = calls_of block store
 
@@ -257,7 +257,7 @@ module _ (block : List Invocation) (store : Storage) (writers : CallLists) (h : 
   same_key key =
       let none : count_at finite.empty key ≡ 0 = ap (λ o. unwrap_or o 0) (finite.get-empty key_cmp key) in
       ap (λ (l : List ℕ). record { key = key; writers = l; waits = count_at waits key }) (h key)
-      ∙ ap (λ (n : ℕ). record { key = key; writers = writers_at (receipts_of block store) key; waits = n }) (waits_counted key (all_waits calls) finite.empty ∙ ap (λ n. n + length (filter (is_at_key key) (all_waits calls))) none ∙ from_zero (length (filter (is_at_key key) (all_waits calls))))
+      ∙ ap (λ (n : ℕ). record { key = key; writers = calls_changing (receipts_of block store) key; waits = n }) (waits_counted key (all_waits calls) finite.empty ∙ ap (λ n. n + length (filter (is_at_key key) (all_waits calls))) none ∙ from_zero (length (filter (is_at_key key) (all_waits calls))))
 
   same_keys : (keys : List (List ℕ)) → map (hot_key writers waits) keys ≡ map (hot_key_of (receipts_of block store) calls) keys
   same_keys [] = refl
@@ -281,19 +281,19 @@ same_counts table receipts i names (key ∷ keys) m =
 
 -- the counts of the first calls
 abbrev pub counts_of : List Invocation → Storage → ℕ → Counts
-counts_of block store n = with_waits finite.empty (all_waits (map (call_of block store) (range_with_len 0 n)))
+counts_of block store n = with_waits finite.empty (all_waits (map (call_view_of block store) (range_with_len 0 n)))
 
 module _ (block : List Invocation) (store : Storage) (i : ℕ) (call : Invocation) (at : slice_get block i ≡ Some call) where
   pub counts_next : (table : CallLists) → Names table (receipts_of block store) i
       → with_waits (counts_of block store i) (waits_in table (keys_read call (store_before block i store))) ≡ counts_of block store (i + 1)
   counts_next table names =
-      let old = map (call_of block store) (range_with_len 0 i) in
+      let old = map (call_view_of block store) (range_with_len 0 i) in
       same_counts table (receipts_of block store) i names (finite.keys (keys_read call (store_before block i store))) (counts_of block store i)
-      ∙ ap (λ k. with_waits (counts_of block store i) (waits_over (receipts_of block store) i (keys_of k (store_before block i store)))) (sym at)
+      ∙ ap (λ k. with_waits (counts_of block store i) (waits_over (receipts_of block store) i (keys_read_by k (store_before block i store)))) (sym at)
       ∙ sym (fold-append _ finite.empty (all_waits old) (waits_of block store i))
       ∙ ap (λ l. with_waits finite.empty (all_waits old ++ l)) (sym (append-nil (waits_of block store i)))
-      ∙ ap (with_waits finite.empty) (sym (flat_map-append (λ (c : CallView). c.waits) old (call_of block store i ∷ [])))
-      ∙ ap (λ l. with_waits finite.empty (all_waits l)) (sym (map-range_with_len_more (call_of block store) 0 i i (omega arith)))
+      ∙ ap (with_waits finite.empty) (sym (flat_map-append (λ (c : CallView). c.waits) old (call_view_of block store i ∷ [])))
+      ∙ ap (λ l. with_waits finite.empty (all_waits l)) (sym (map-range_with_len_more (call_view_of block store) 0 i i (omega arith)))
 
 -- ---- how many waits there are at most
 
@@ -346,7 +346,7 @@ named_count receipts key (suc j) =
 module _ (block : List Invocation) (store : Storage) (q : List ℕ) where
   of_call : (j : ℕ) → length (filter (is_at_key q) (waits_of block store j)) ≤ j
   of_call j =
-      let keys : Keys = keys_of (slice_get block j) (store_before block j store) in
+      let keys : Keys = keys_read_by (slice_get block j) (store_before block j store) in
       let is = at_keys (receipts_of block store) j q (finite.entries keys) (finite.entries_sorted keys) in
       let less = within (is_some (finite.find key_cmp q (finite.entries keys))) in
       omega (arith, is, less)
@@ -355,16 +355,16 @@ module _ (block : List Invocation) (store : Storage) (q : List ℕ) where
       within true = named_count (receipts_of block store) q j
       within false = omega arith
 
-  of_calls : (n : ℕ) → n ≤ 1024 → length (filter (is_at_key q) (all_waits (map (call_of block store) (range_with_len 0 n)))) ≤ n * 1024
+  of_calls : (n : ℕ) → n ≤ 1024 → length (filter (is_at_key q) (all_waits (map (call_view_of block store) (range_with_len 0 n)))) ≤ n * 1024
   of_calls zero h = omega arith
   of_calls (suc n) h =
-      let old = map (call_of block store) (range_with_len 0 n) in
+      let old = map (call_view_of block store) (range_with_len 0 n) in
       let less = of_calls n (omega (arith, h)) in
       let own = of_call n in
       let next : suc n ≡ n + 1 = omega arith in
-      let more : all_waits (map (call_of block store) (range_with_len 0 (suc n))) ≡ all_waits old ++ (waits_of block store n ++ []) =
-      ap (λ (k : ℕ). all_waits (map (call_of block store) (range_with_len 0 k))) next
-      ∙ ap all_waits (map-range_with_len_more (call_of block store) 0 n n (omega arith)) ∙ flat_map-append (λ (c : CallView). c.waits) old (call_of block store n ∷ []) in
+      let more : all_waits (map (call_view_of block store) (range_with_len 0 (suc n))) ≡ all_waits old ++ (waits_of block store n ++ []) =
+      ap (λ (k : ℕ). all_waits (map (call_view_of block store) (range_with_len 0 k))) next
+      ∙ ap all_waits (map-range_with_len_more (call_view_of block store) 0 n n (omega arith)) ∙ flat_map-append (λ (c : CallView). c.waits) old (call_view_of block store n ∷ []) in
       let count = ap (λ l. length (filter (is_at_key q) l)) (more ∙ ap (λ l. all_waits old ++ l) (append-nil (waits_of block store n)))
       ∙ ap length (filter-append (is_at_key q) (all_waits old) (waits_of block store n)) ∙ length-append (filter (is_at_key q) (all_waits old)) (filter (is_at_key q) (waits_of block store n)) in
       omega (arith, less, own, count, h)
@@ -372,6 +372,6 @@ module _ (block : List Invocation) (store : Storage) (q : List ℕ) where
   pub few_waits : (n : ℕ) → n ≤ 1024 → count_at (counts_of block store n) q < 2 ^ 64
   few_waits n h =
       let none : count_at finite.empty q ≡ 0 = ap (λ o. unwrap_or o 0) (finite.get-empty key_cmp q) in
-      let is = waits_counted q (all_waits (map (call_of block store) (range_with_len 0 n))) finite.empty in
+      let is = waits_counted q (all_waits (map (call_view_of block store) (range_with_len 0 n))) finite.empty in
       let less = of_calls n h in
       omega (arith, none, is, less, h)

@@ -12,7 +12,7 @@ use Rattle.rv_ledger.specs.declared.change.Change.TheVariants as change
 use Rattle.rv_ledger.specs.declared.receipt.Receipt.{Receipt}
 use Rattle.rv_step.specs.Fold.{receipts_of, store_before}
 use Rattle.conflicts.specs.Paths.{AreEarlier, waits_in_call}
-use Rattle.conflicts.specs.Waits.{CallView, Wait, call_of, calls_of, change_in, keys_of, waits_at, waits_for, writers_named}
+use Rattle.conflicts.specs.Waits.{CallView, Wait, call_view_of, calls_of, change_in, keys_read_by, waits_at, waits_for, writers_named}
 use Rattle.conflicts.proofs.Noted.{named_more, named_none, noted}
 
 abbrev AreBelow : ℕ → List ℕ → Type 0
@@ -70,27 +70,27 @@ at_index a (suc n) (suc j) = onward (at_index (a + 1) n j)
 
 module _ (block : List Invocation) (store : Storage) where
   abbrev called : Option ℕ → List Wait
-  called o = waits_in_call (option_map (call_of block store) o)
+  called o = waits_in_call (option_map (call_view_of block store) o)
 
   called_below : (j : ℕ) (o : Option ℕ) → ((o ≡ None) ⊎ (o ≡ Some (0 + j))) → WaitBelow j (called o)
   called_below j None h k wait e = cc
   called_below j (Some n) (inl h) k wait e = cc
   called_below j (Some n) (inr h) k wait e =
       let same : n ≡ 0 + j = cc in
-      let less = flat_below (receipts_of block store) n (finite.keys (keys_of (slice_get block n) (store_before block n store))) k wait e in
+      let less = flat_below (receipts_of block store) n (finite.keys (keys_read_by (slice_get block n) (store_before block n store))) k wait e in
       omega (arith, less, same)
 
   pub earlier : AreEarlier (calls_of block store)
   earlier j i (key, (k, e)) =
       called_below j (slice_get (range_with_len 0 (length block)) j) (at_index 0 (length block) j) k (record { writer = i; key = key })
-      (ap (λ (o : Option CallView). slice_get (waits_in_call o) k) (sym (slice_get-map (call_of block store) (range_with_len 0 (length block)) j)) ∙ e)
+      (ap (λ (o : Option CallView). slice_get (waits_in_call o) k) (sym (slice_get-map (call_view_of block store) (range_with_len 0 (length block)) j)) ∙ e)
 
   pub count_is : length (calls_of block store) ≡ length block
-  count_is = length-map-range_with_len (call_of block store) 0 (length block)
+  count_is = length-map-range_with_len (call_view_of block store) 0 (length block)
 
   -- a call that is there
-  pub call_at : (i : ℕ) (call : Invocation) → slice_get block i ≡ Some call → slice_get (calls_of block store) i ≡ Some (call_of block store i)
+  pub call_at : (i : ℕ) (call : Invocation) → slice_get block i ≡ Some call → slice_get (calls_of block store) i ≡ Some (call_view_of block store i)
   call_at i call at =
       let within : i < length block = slice_get_within block i call at in
-      slice_get-get_or (calls_of block store) i (call_of block store i) (subst (λ (n : ℕ). i < n) (sym count_is) within)
-      ∙ ap Some (get_or-map-range_with_len (call_of block store) 0 (length block) i i (call_of block store i) within (omega arith))
+      slice_get-get_or (calls_of block store) i (call_view_of block store i) (subst (λ (n : ℕ). i < n) (sym count_is) within)
+      ∙ ap Some (get_or-map-range_with_len (call_view_of block store) 0 (length block) i i (call_view_of block store i) within (omega arith))

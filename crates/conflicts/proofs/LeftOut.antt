@@ -13,10 +13,10 @@ use Rattle.rv_ledger.specs.declared.receipt.Receipt.{Receipt}
 use Rattle.rv_step.specs.Chain.{ends}
 use Rattle.rv_ledger.specs.Applied.{apply_writes}
 use Rattle.rv_step.specs.Fold.{receipts_of, store_after_call, store_before}
-use Rattle.conflicts.specs.LeftOut.{IsClosed, Needs, items_where}
-use Rattle.conflicts.specs.Paths.{IsChain, WaitsFor, waits_in_call}
+use Rattle.conflicts.specs.LeftOut.{IsClosedUnderWaits, Needs, items_where}
+use Rattle.conflicts.specs.Paths.{IsWaitChain, WaitsFor, waits_in_call}
 use Rattle.conflicts.specs.Reads.{Keys, keys_read}
-use Rattle.conflicts.specs.Waits.{CallView, Wait, calls_of, change_in, keys_of, waits_at, waits_for, waits_of, waits_over, writers_named}
+use Rattle.conflicts.specs.Waits.{CallView, Wait, calls_of, change_in, keys_read_by, waits_at, waits_for, waits_of, waits_over, writers_named}
 use Rattle.conflicts.proofs.Earlier.{call_at}
 use Rattle.conflicts.proofs.LeftOutReads.{same_ends}
 use Rattle.conflicts.proofs.LeftOutWrites.{hidden_after, left_after, same_after}
@@ -93,10 +93,10 @@ module _ (stays : ℕ → Bool) (block : List Invocation) (store : Storage) wher
   receipts = receipts_of block store
 
   -- a call that stays reads keys whose writers stay
-  reads_stay : IsClosed stays (calls_of block store) → (i : ℕ) (call : Invocation) → slice_get block i ≡ Some call → stays i ≡ true → (key : List ℕ) → finite.contains_key (keys_read call (store_before block i store)) key ≡ true → AllStay stays (writers_named receipts key i)
+  reads_stay : IsClosedUnderWaits stays (calls_of block store) → (i : ℕ) (call : Invocation) → slice_get block i ≡ Some call → stays i ≡ true → (key : List ℕ) → finite.contains_key (keys_read call (store_before block i store)) key ≡ true → AllStay stays (writers_named receipts key i)
   reads_stay closed i call at stay key is =
       let keys : Keys = keys_read call (store_before block i store) in
-      let waits : waits_of block store i ≡ waits_over receipts i keys = ap (λ (c : Option Invocation). waits_over receipts i (keys_of c (store_before block i store))) at in
+      let waits : waits_of block store i ≡ waits_over receipts i keys = ap (λ (c : Option Invocation). waits_over receipts i (keys_read_by c (store_before block i store))) at in
       let all : AllWritersStay stays (waits_of block store i) = by_index stays (waits_of block store i)
       (λ k wait e. closed i wait.writer stay (wait.key, (k, ap (λ (c : Option CallView). slice_get (waits_in_call c) k) (call_at block store i call at) ∙ e))) in
       named_stay stays receipts i (finite.keys keys) (subst (AllWritersStay stays) waits all) key (sym (finite.contains_key-keys keys key) ∙ is)
@@ -131,7 +131,7 @@ module _ (stays : ℕ → Bool) (block : List Invocation) (store : Storage) wher
       agree = λ key all. same key (subst (AllStay stays) (named_next key) all);
     }
 
-    same_receipt : IsClosed stays (calls_of block store) → stays i ≡ true → ends call full ≡ ends call left
+    same_receipt : IsClosedUnderWaits stays (calls_of block store) → stays i ≡ true → ends call full ≡ ends call left
     same_receipt closed stay = same_ends full left call (λ key is.
         r.agree key (reads_stay closed i call head_call stay key (ap (λ (s : Storage). finite.contains_key (keys_read call s) key) (sym r.before) ∙ is)))
 
@@ -161,7 +161,7 @@ module _ (stays : ℕ → Bool) (block : List Invocation) (store : Storage) wher
         ∙ others
         ∙ sym (ap (items_from stays i) (first_receipt call rest full) ∙ first_by stays i (ends call full) (receipts_of rest (store_after_call call full)) false leave)
 
-  rest_same : IsClosed stays (calls_of block store) → (rest : List Invocation) (i : ℕ) (full left : Storage) → IsRest rest i full left → receipts_of (items_from stays i rest) left ≡ items_from stays i (receipts_of rest full)
+  rest_same : IsClosedUnderWaits stays (calls_of block store) → (rest : List Invocation) (i : ℕ) (full left : Storage) → IsRest rest i full left → receipts_of (items_from stays i rest) left ≡ items_from stays i (receipts_of rest full)
   rest_same closed [] i full left r = no_receipts left ∙ sym (ap (items_from stays i) (no_receipts full))
   rest_same closed (call ∷ rest) i full left r =
       elim (stays i) as (λ b. stays i ≡ b → receipts_of (items_from stays i (call ∷ rest)) left ≡ items_from stays i (receipts_of (call ∷ rest) full)) [
@@ -171,7 +171,7 @@ module _ (stays : ℕ → Bool) (block : List Invocation) (store : Storage) wher
         | false ↦ λ leave. leave_step call rest i full left r leave (rest_same closed rest (i + 1) (store_after_call call full) left (leave_on call rest i full left r leave))
       ] refl
 
-  pub left_out : IsClosed stays (calls_of block store) → receipts_of (items_where stays block) store ≡ items_where stays receipts
+  pub left_out : IsClosedUnderWaits stays (calls_of block store) → receipts_of (items_where stays block) store ≡ items_where stays receipts
   left_out closed = rest_same closed block 0 store store (record {
     calls = λ k. ap (slice_get block) (omega arith);
     ended = λ k. ap (slice_get receipts) (omega arith);
@@ -181,7 +181,7 @@ module _ (stays : ℕ → Bool) (block : List Invocation) (store : Storage) wher
 
 -- ---- the calls that one call needs
 
-chain_more : (calls : List CallView) (j k i : ℕ) (chain : List ℕ) → IsChain calls j (chain ++ k ∷ []) → WaitsFor calls k i → IsChain calls j ((chain ++ k ∷ []) ++ i ∷ [])
+chain_more : (calls : List CallView) (j k i : ℕ) (chain : List ℕ) → IsWaitChain calls j (chain ++ k ∷ []) → WaitsFor calls k i → IsWaitChain calls j ((chain ++ k ∷ []) ++ i ∷ [])
 chain_more calls j k i [] h waits = (h.0, (waits, tt))
 chain_more calls j k i (a ∷ chain) h waits = (h.0, chain_more calls a k i chain h.1 waits)
 
@@ -189,5 +189,5 @@ needs_more : (calls : List CallView) (j k i : ℕ) → Needs calls j k → Waits
 needs_more calls j k i (inl same) waits = inr ([], (subst (λ (n : ℕ). WaitsFor calls n i) same waits, tt))
 needs_more calls j k i (inr (chain, h)) waits = inr (chain ++ k ∷ [], chain_more calls j k i chain h waits)
 
-pub needed_closed : (stays : ℕ → Bool) (calls : List CallView) (j : ℕ) → ((i : ℕ) → (stays i ≡ true) ↔ Needs calls j i) → IsClosed stays calls
+pub needed_closed : (stays : ℕ → Bool) (calls : List CallView) (j : ℕ) → ((i : ℕ) → (stays i ≡ true) ↔ Needs calls j i) → IsClosedUnderWaits stays calls
 needed_closed stays calls j h k i stay waits = (h i).1 (needs_more calls j k i ((h k).0 stay) waits)

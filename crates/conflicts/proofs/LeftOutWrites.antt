@@ -13,7 +13,7 @@ abbrev pub Hides : ContentChange → Type 0
 Hides c = (before other : Content) → apply_change c before ≡ apply_change c other
 
 module _ (q : List ℕ) where
-  -- what a key has after one write, where b says whether it is the key that is written
+  -- what a key has after one write; b says whether it is the key that is written
   abbrev after_one : Bool → ContentChange → Content → Content
   after_one b c before = cond b (apply_change c before) before
 
@@ -25,7 +25,7 @@ module _ (q : List ℕ) where
   abbrev Writes : Type 0
   Writes = List (List ℕ × ContentChange)
 
-  -- where two storages have the same at the key, they have the same after the same writes
+  -- if two storages have the same at the key, they have the same after the same writes
   same_each : (es : Writes) (one other : Storage) → get one q ≡ get other q → get (apply_each one es) q ≡ get (apply_each other es) q
   same_each [] one other h = h
   same_each (e ∷ es) one other h =

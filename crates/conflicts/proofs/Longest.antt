@@ -13,12 +13,12 @@ use Rattle.rv_step.specs.Fold.{receipts_of, store_before}
 use Rattle.conflicts.specs.Calls.{CallLists, calls_at}
 use Rattle.conflicts.specs.Reads.{keys_read}
 use Rattle.conflicts.specs.Table.{waits_in}
-use Rattle.conflicts.specs.Waits.{CallView, Wait, keys_of, waits_at, waits_for, waits_of, waits_over, writers_named}
+use Rattle.conflicts.specs.Waits.{CallView, Wait, keys_read_by, waits_at, waits_for, waits_of, waits_over, writers_named}
 use Rattle.conflicts.specs.Greatest.{greater, greatest_from, path_at}
-use Rattle.conflicts.specs.Paths.{AreEarlier, ArePaths, IsChain, IsPath, WaitsFor, gas_along, gas_in_call, waits_in_call}
+use Rattle.conflicts.specs.Paths.{AreEarlier, ArePaths, IsPath, IsWaitChain, WaitsFor, gas_along, gas_in_call, waits_in_call}
 use Rattle.conflicts.proofs.Noted.{Names}
 
--- the greater of two is one of them, and neither is above it
+-- the greater of two numbers is one of them, and neither is above it
 greater_is : (a b : ℕ) → (a ≤ greater a b) × (b ≤ greater a b) × ((greater a b ≡ a) ⊎ (greater a b ≡ b))
 greater_is a b = by_test (nat_lt a b) refl
   where
@@ -111,7 +111,7 @@ module _ (calls : List CallView) (earlier : AreEarlier calls) (paths : List ℕ)
   path_of i less = are i (path_at paths i) (there i less)
 
   abbrev HasChain : ℕ → Type 0
-  HasChain p = (chain : List ℕ) × IsChain calls j chain × (gas_along calls j chain ≡ p)
+  HasChain p = (chain : List ℕ) × IsWaitChain calls j chain × (gas_along calls j chain ≡ p)
 
   some_chain : IsOf paths 0 call.waits (greatest_from paths 0 call.waits) → HasChain path
   some_chain (inl none) = ([], tt, omega (arith, own_gas, none))
@@ -120,7 +120,7 @@ module _ (calls : List CallView) (earlier : AreEarlier calls) (paths : List ℕ)
       let below = (path_of wait.writer (earlier j wait.writer for)).some_chain in
       (wait.writer ∷ below.0, (for, below.1), omega (arith, own_gas, is, below.2))
 
-  no_greater : (chain : List ℕ) → IsChain calls j chain → gas_along calls j chain ≤ path
+  no_greater : (chain : List ℕ) → IsWaitChain calls j chain → gas_along calls j chain ≤ path
   no_greater [] is = omega (arith, own_gas)
   no_greater (i ∷ chain) is =
       let for = waited i is.0 in
@@ -187,7 +187,7 @@ module _ (paths : List ℕ) where
       → greatest_from paths 0 (waits_in table (keys_read call (store_before block i store))) ≡ greatest_from paths 0 (waits_of block store i)
   same_greatest block store i call at table names =
       same_keys table (receipts_of block store) i names (finite.keys (keys_read call (store_before block i store))) 0
-      ∙ ap (λ k. greatest_from paths 0 (waits_over (receipts_of block store) i (keys_of k (store_before block i store)))) (sym at)
+      ∙ ap (λ k. greatest_from paths 0 (waits_over (receipts_of block store) i (keys_read_by k (store_before block i store)))) (sym at)
 
 pub paths_none : (calls : List CallView) → ArePaths calls []
 paths_none calls i p e = cc

@@ -20,9 +20,9 @@ use Rattle.conflicts.specs.declared.key_waits.KeyWaits.{KeyWaits}
 use Rattle.conflicts.specs.ByKey.{CallByKey, call_by_key, calls_by_key, earliest_named, key_waits_at, key_waits_from, key_waits_of}
 use Rattle.conflicts.specs.Paths.{WaitsAt, waits_in_call}
 use Rattle.conflicts.specs.Reads.{Keys}
-use Rattle.conflicts.specs.Sums.{HotKeyView, all_waits, hot_key_of, keys_of_calls, keys_waited, writers_at}
+use Rattle.conflicts.specs.Sums.{HotKeyView, all_waits, calls_changing, hot_key_of, keys_of_calls, keys_waited}
 use Rattle.conflicts.specs.Text.{IsNamed, key_waits_in_call}
-use Rattle.conflicts.specs.Waits.{CallView, Wait, call_of, calls_of, change_in, keys_of, waits_at, waits_for, waits_of, writers_named}
+use Rattle.conflicts.specs.Waits.{CallView, Wait, call_view_of, calls_of, change_in, keys_read_by, waits_at, waits_for, waits_of, writers_named}
 use Rattle.conflicts.proofs.Counted.{one_writer, writer_first, writers_from}
 use Rattle.conflicts.proofs.Earlier.{at_index}
 use Rattle.conflicts.proofs.Noted.{named_more, named_none, noted, tied}
@@ -286,7 +286,7 @@ module _ (block : List Invocation) (store : Storage) (j i : ℕ) (key : List ℕ
   receipts = receipts_of block store
 
   abbrev keys : List (List ℕ)
-  keys = finite.keys (keys_of (slice_get block j) (store_before block j store))
+  keys = finite.keys (keys_read_by (slice_get block j) (store_before block j store))
 
   abbrev wait : Wait
   wait = record { writer = i; key = key }
@@ -300,9 +300,9 @@ module _ (block : List Invocation) (store : Storage) (j i : ℕ) (key : List ℕ
   abbrev hot : HotKeyView
   hot = hot_key_of receipts (calls_of block store) key
 
-  hot_in : In (calls_of block store) (call_of block store j) → In (waits_of block store j) wait → In (keys_of_calls block store) hot
+  hot_in : In (calls_of block store) (call_view_of block store j) → In (waits_of block store j) wait → In (keys_of_calls block store) hot
   hot_in call is =
-      let waits = in_flat (λ (c : CallView). c.waits) (calls_of block store) (call_of block store j) wait call is in
+      let waits = in_flat (λ (c : CallView). c.waits) (calls_of block store) (call_view_of block store j) wait call is in
       let has = waited_in (all_waits (calls_of block store)) finite.empty wait waits in
       in_map (hot_key_of receipts (calls_of block store)) (finite.keys (keys_waited (calls_of block store))) key
       (any_in key (finite.keys (keys_waited (calls_of block store))) (sym (finite.contains_key-keys (keys_waited (calls_of block store)) key) ∙ has))
@@ -317,7 +317,7 @@ module _ (block : List Invocation) (store : Storage) (j i : ℕ) (key : List ℕ
       → In (key_waits_in_call (slice_get (calls_by_key block store) j)) (record { from = from; key = key })
   on_line line from (k, e) = (k, ap (λ (c : Option CallByKey). slice_get (key_waits_in_call c) k) line ∙ e)
 
-  to_lines : (In (calls_of block store) (call_of block store j)) → (slice_get (calls_by_key block store) j ≡ Some (call_by_key block store j)) → In (waits_of block store j) wait → Named
+  to_lines : (In (calls_of block store) (call_view_of block store j)) → (slice_get (calls_by_key block store) j ≡ Some (call_by_key block store j)) → In (waits_of block store j) wait → Named
   to_lines call line is =
       let at = from_one (waits_at receipts j) keys wait is in
       let own = of_for at.0 (writers_named receipts at.0 j) i key at.2 in
@@ -330,7 +330,7 @@ module _ (block : List Invocation) (store : Storage) (j i : ℕ) (key : List ℕ
         wait = on_line line named.0 waits;
         writers = hot_in call is;
         key_is = refl;
-        writer = subst (In (writers_at receipts key)) from_zero (in_writers receipts key 0 receipts i named.4);
+        writer = subst (In (calls_changing receipts key)) from_zero (in_writers receipts key 0 receipts i named.4);
         behind = named.2;
         below = named.3;
       }
@@ -343,7 +343,7 @@ module _ (block : List Invocation) (store : Storage) (j i : ℕ) (key : List ℕ
       let first : earliest_named receipts key j ≡ Some h.from = ap (λ (k : List ℕ). earliest_named receipts k j) (sym own.0) ∙ own.1 in
       let found = from_map (hot_key_of receipts (calls_of block store)) (finite.keys (keys_waited (calls_of block store))) h.hot h.writers in
       let same : found.0 ≡ key = ap (λ (k : HotKeyView). k.key) found.2 ∙ h.key_is in
-      let writers : h.hot.writers ≡ writers_at receipts key = sym (ap (λ (k : HotKeyView). k.writers) found.2) ∙ ap (writers_at receipts) same in
+      let writers : h.hot.writers ≡ calls_changing receipts key = sym (ap (λ (k : HotKeyView). k.writers) found.2) ∙ ap (calls_changing receipts) same in
       let place = of_writers receipts key 0 receipts i (subst (λ (l : List ℕ). In l i) writers h.writer) in
       let at_i : i ≡ place.0 = omega (arith, place.1) in
       let writes = subst (λ (n : ℕ). is_some (change_in (slice_get receipts n) key) ≡ true) (sym at_i) place.2 in
@@ -359,14 +359,14 @@ module _ (block : List Invocation) (store : Storage) (j i : ℕ) (key : List ℕ
 
   no_waits : Range None → WaitsAt (calls_of block store) j i key → Named
   no_waits e (k, is) =
-      let none = ap (λ (c : Option CallView). slice_get (waits_in_call c) k) (call_at (call_of block store) None e) in
+      let none = ap (λ (c : Option CallView). slice_get (waits_in_call c) k) (call_at (call_view_of block store) None e) in
       let not : None ≡ Some wait = sym none ∙ is in
       cc
 
   by_place : (Range None) ⊎ (Range (Some (0 + j))) → WaitsAt (calls_of block store) j i key ↔ Named
   by_place (inl e) = (no_waits e, no_lines e)
   by_place (inr e) =
-      let call : slice_get (calls_of block store) j ≡ Some (call_of block store j) = call_at (call_of block store) (Some (0 + j)) e ∙ ap (λ (n : ℕ). Some (call_of block store n)) (omega arith) in
+      let call : slice_get (calls_of block store) j ≡ Some (call_view_of block store j) = call_at (call_view_of block store) (Some (0 + j)) e ∙ ap (λ (n : ℕ). Some (call_view_of block store n)) (omega arith) in
       let line : slice_get (calls_by_key block store) j ≡ Some (call_by_key block store j) = call_at (call_by_key block store) (Some (0 + j)) e ∙ ap (λ (n : ℕ). Some (call_by_key block store n)) (omega arith) in (
         λ h. to_lines (j, call) line (h.0, ap (λ (c : Option CallView). slice_get (waits_in_call c) h.0) (sym call) ∙ h.1),
         λ h. let is = from_lines line h in (is.0, ap (λ (c : Option CallView). slice_get (waits_in_call c) is.0) call ∙ is.1),

@@ -28,7 +28,7 @@ use Rattle.conflicts.specs.ByKey.{CallByKey, call_by_key, key_waits_at, key_wait
 use Rattle.conflicts.specs.Calls.{CallLists, calls_at}
 use Rattle.conflicts.specs.Reads.{keys_read}
 use Rattle.conflicts.specs.Table.{after_changes, below_change, key_waits_in}
-use Rattle.conflicts.specs.Waits.{change_in, gas_in, keys_of, version_of, versions_in, writers_named}
+use Rattle.conflicts.specs.Waits.{change_in, change_version, gas_in, keys_read_by, versions_in, writers_named}
 
 -- the calls that a read names after what the next call did
 abbrev pub noted : ℕ → Option ContentChange → List ℕ → List ℕ
@@ -44,7 +44,7 @@ visible_more entries i = refl
 abbrev calls_in : Visible → List ℕ
 calls_in seen = map (λ version. version.writer) (named (origin_in seen))
 
-noted_over : (i : ℕ) (c : Option ContentChange) (below : Visible) → calls_in (visible_over i (version_of c) below) ≡ noted i c (calls_in below)
+noted_over : (i : ℕ) (c : Option ContentChange) (below : Visible) → calls_in (visible_over i (change_version c) below) ≡ noted i c (calls_in below)
 noted_over i None below = refl
 noted_over i (Some (change.Value value)) below = refl
 noted_over i (Some change.Gone) below = refl
@@ -162,7 +162,7 @@ module _ (block : List Invocation) (store : Storage) (i : ℕ) (call : Invocatio
 
   pub call_is : (table : CallLists) (c : CallByKey) → Names table (receipts_of block store) i → c.waits ≡ key_waits_in table (keys_read call before) → c.gas ≡ (ends call before).gas → c ≡ call_by_key block store i
   call_is table c names waits gas =
-      ap (λ (w : List KeyWaits). record { waits = w; gas = c.gas }) (waits ∙ same_waits table (receipts_of block store) i names (finite.keys (keys_read call before)) ∙ ap (λ k. key_waits_over (receipts_of block store) i (keys_of k before)) (sym at))
+      ap (λ (w : List KeyWaits). record { waits = w; gas = c.gas }) (waits ∙ same_waits table (receipts_of block store) i names (finite.keys (keys_read call before)) ∙ ap (λ k. key_waits_over (receipts_of block store) i (keys_read_by k before)) (sym at))
       ∙ ap (λ (g : ℕ). record { waits = (call_by_key block store i).waits; gas = g }) (gas ∙ ap gas_in (sym (receipt_at call block store i at)))
 
 -- one more call

@@ -1,4 +1,4 @@
--- The answers that a run used are to the keys that its call asks the storage for.
+-- The answers that a run used are for the keys that its call asks the storage for.
 use Rattle.std.proofs.Common.{◌≡◌, ℕ, zero, suc, ◌⊎◌, inl, inr, Bool, true, false, if◌then◌else◌, List, [], ◌∷◌, ◌++◌, Some, None, Result, Ok, Err, IfSome, OnOk, refl, sym, ap, subst, ◌∙◌}
 use Rattle.std.specs.FinMap as map
 use Rattle.std.specs.Str.{bytes_eq}
@@ -19,7 +19,7 @@ use Rattle.std.specs.declared.alloc.AllocError.{AllocError}
 use Rattle.rv_step.specs.Step.{Progress, Going, Over, StepResult, Leads, Asks, step, answered, delivered}
 use Rattle.rv_step.proofs.Moments.{IsLast, advance_leads, advance_told, advance_waits, no_more, one_more}
 use Rattle.rv_step.proofs.Receipts.{bears_over, keeps_storage}
-use Rattle.conflicts.specs.Reads.{Keys, key_at, keys_in, keys_read, keys_until, keys_with, with_key}
+use Rattle.conflicts.specs.Reads.{Keys, key_asked_at, keys_in, keys_read, keys_until, keys_with, with_key}
 
 -- an answer keeps the call and the answers before it
 pub standing_keeps : (p : Progress) (r : RunView) → ((standing_at p r).call ≡ r.call) × ((standing_at p r).answers ≡ r.answers)
@@ -49,12 +49,12 @@ module _ (call : Invocation) (store : Storage) where
       ∙ ap (advance from_storage) (keeps_storage store (Going (start call)) n ∙ ap (λ (x : Progress). (x, store)) e)
       ∙ a)
 
-  keys_next : (n : ℕ) (p : Progress) → moment_over call store n ≡ p → keys_until call store (suc n) ≡ with_key (keys_until call store n) (key_at p)
+  keys_next : (n : ℕ) (p : Progress) → moment_over call store n ≡ p → keys_until call store (suc n) ≡ with_key (keys_until call store n) (key_asked_at p)
   unfolding keys_until
-  keys_next n p e = ap (λ (x : Progress). with_key (keys_until call store n) (key_at x)) e
+  keys_next n p e = ap (λ (x : Progress). with_key (keys_until call store n) (key_asked_at x)) e
 
   module _ (replies : List Reply) where
-    -- the moment is the one over the storage, and the answers that are left are to the other keys
+    -- the moment is the one over the storage, and the answers that are left are for the other keys
     record Follows (n : ℕ) (at : Progress × List Reply) : Type 0 where
       pub from : AreFrom store at.1
       pub same : moment_over call store n ≡ at.0

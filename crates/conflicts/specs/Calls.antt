@@ -15,12 +15,12 @@ abbrev pub calls_at : CallLists → List ℕ → List ℕ
 calls_at lists key = unwrap_or (finite.get lists key) []
 
 -- one more call at a key
-abbrev pub with_call : ℕ → CallLists → List ℕ → CallLists
-with_call call lists key = finite.insert lists key (calls_at lists key ++ call ∷ [])
+abbrev pub with_call_at : ℕ → CallLists → List ℕ → CallLists
+with_call_at call lists key = finite.insert lists key (calls_at lists key ++ call ∷ [])
 
 -- one more call at each key that it changes
-abbrev pub with_changes : ℕ → List (List ℕ × ContentChange) → CallLists → CallLists
-with_changes call changes lists = fold (λ before e. with_call call before e.0) lists changes
+abbrev pub with_call_changes : ℕ → List (List ℕ × ContentChange) → CallLists → CallLists
+with_call_changes call changes lists = fold (λ before e. with_call_at call before e.0) lists changes
 
 -- how many waits there are at each key
 abbrev pub Counts : Type 0

@@ -8,7 +8,7 @@ abbrev pub waits_in_call : Option CallView → List Wait
 waits_in_call (Some call) = call.waits
 waits_in_call None = []
 
--- its gas
+-- the gas of a call, if there is one
 abbrev pub gas_in_call : Option CallView → ℕ
 gas_in_call (Some call) = call.gas
 gas_in_call None = 0
@@ -22,9 +22,9 @@ abbrev pub WaitsFor : List CallView → ℕ → ℕ → Type 0
 WaitsFor calls j i = (key : List ℕ) × WaitsAt calls j i key
 
 -- a chain that ends in call j: it waits for the first of these calls, which waits for the next, and so on
-abbrev pub IsChain : List CallView → ℕ → List ℕ → Type 0
-IsChain calls j [] = Unit {0}
-IsChain calls j (i ∷ chain) = WaitsFor calls j i × IsChain calls i chain
+abbrev pub IsWaitChain : List CallView → ℕ → List ℕ → Type 0
+IsWaitChain calls j [] = Unit {0}
+IsWaitChain calls j (i ∷ chain) = WaitsFor calls j i × IsWaitChain calls i chain
 
 -- the gas of all calls of a chain that ends in call j
 abbrev pub gas_along : List CallView → ℕ → List ℕ → ℕ
@@ -33,8 +33,8 @@ gas_along calls j (i ∷ chain) = gas_in_call (slice_get calls j) + gas_along ca
 
 -- the greatest sum of gas over the chains that end in call j
 pub record IsPath (calls : List CallView) (j path : ℕ) : Type 0 where
-  pub some_chain : (chain : List ℕ) × IsChain calls j chain × (gas_along calls j chain ≡ path)
-  pub no_greater : (chain : List ℕ) → IsChain calls j chain → gas_along calls j chain ≤ path
+  pub some_chain : (chain : List ℕ) × IsWaitChain calls j chain × (gas_along calls j chain ≡ path)
+  pub no_greater : (chain : List ℕ) → IsWaitChain calls j chain → gas_along calls j chain ≤ path
 
 -- each of these is the path of its call
 abbrev pub ArePaths : List CallView → List ℕ → Type 0

@@ -12,12 +12,12 @@ use Rattle.rv_step.specs.Step.{Progress, Going, Over, step}
 abbrev pub Keys : Type 0
 Keys = map.FinMap key_cmp (Unit {0})
 
--- the key that a call asks the storage for where it stands
-abbrev pub key_at : Progress → Option (List ℕ)
-key_at (Going s) = key_of (step s)
-key_at (Over end out s) = None
+-- the key that a call asks the storage for at this moment, if there is one
+abbrev pub key_asked_at : Progress → Option (List ℕ)
+key_asked_at (Going s) = key_of (step s)
+key_asked_at (Over end out s) = None
 
--- some keys, and this one if there is one
+-- some keys, and one more if there is one
 abbrev pub with_key : Keys → Option (List ℕ) → Keys
 with_key keys None = keys
 with_key keys (Some key) = map.insert keys key tt
@@ -25,7 +25,7 @@ with_key keys (Some key) = map.insert keys key tt
 -- the keys that a call asks a storage for in its first n steps
 unfoldable pub keys_until : Invocation → Storage → ℕ → Keys
 keys_until call store zero = map.empty
-keys_until call store (suc n) = with_key (keys_until call store n) (key_at (moment_over call store n))
+keys_until call store (suc n) = with_key (keys_until call store n) (key_asked_at (moment_over call store n))
 
 -- the keys that a call asks a storage for; it is over by then (`rv_step::call_ends`)
 abbrev pub keys_read : Invocation → Storage → Keys

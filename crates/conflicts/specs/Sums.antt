@@ -1,4 +1,4 @@
--- The keys at which some call waits, with the calls that change each and how many waits there are at it, and the sums over all calls.
+-- The keys at which some call waits, each with the calls that change it and its number of waits; and the sums over all calls.
 use Rattle.std.specs.Prelude.{ℕ, Bool, List, length, map, max, fold}
 use Rattle.std.specs.FinMap as finite
 use Rattle.std.specs.List.{enumerate_from, filter, flat_map, sum_by}
@@ -24,8 +24,8 @@ abbrev pub changes_key : List ℕ → Receipt → Bool
 changes_key key receipt = finite.contains_key receipt.writes key
 
 -- the calls that change a key, ascending
-abbrev pub writers_at : List Receipt → List ℕ → List ℕ
-writers_at receipts key = map (λ item. item.0) (filter (λ item. changes_key key item.1) (enumerate_from 0 receipts))
+abbrev pub calls_changing : List Receipt → List ℕ → List ℕ
+calls_changing receipts key = map (λ item. item.0) (filter (λ item. changes_key key item.1) (enumerate_from 0 receipts))
 
 -- how many waits there are at a key
 abbrev pub waits_at_key : List CallView → List ℕ → ℕ
@@ -39,7 +39,7 @@ pub record HotKeyView : Type 0 where
 
 -- the same of a key
 abbrev pub hot_key_of : List Receipt → List CallView → List ℕ → HotKeyView
-hot_key_of receipts calls key = record { key = key; writers = writers_at receipts key; waits = waits_at_key calls key }
+hot_key_of receipts calls key = record { key = key; writers = calls_changing receipts key; waits = waits_at_key calls key }
 
 -- the keys at which some call of a block waits, ascending
 abbrev pub keys_of_calls : List Invocation → Storage → List HotKeyView
@@ -49,6 +49,6 @@ keys_of_calls block store = map (hot_key_of (receipts_of block store) (calls_of 
 abbrev pub gas_of_all : List CallByKey → ℕ
 gas_of_all calls = sum_by (λ call. call.gas) calls
 
--- the greatest of some paths, or 0 where there is none
+-- the greatest of some paths, or 0 if there is none
 abbrev pub greatest_path : List ℕ → ℕ
 greatest_path paths = fold max 0 paths

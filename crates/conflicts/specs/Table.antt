@@ -1,4 +1,4 @@
--- Private help of proofs; no public clause cites it. The calls that reads of each key name, as the run of the block in order has them.
+-- Private help of proofs; no public clause cites it. The calls that reads of each key name, in the table of the run in order.
 use Rattle.std.specs.Prelude.{ℕ, List, [], ◌∷◌, ◌++◌, fold}
 use Rattle.std.specs.FinMap as map
 use Rattle.rv_ledger.specs.Change.{ContentChange}

@@ -18,13 +18,13 @@ change_in (Some receipt) key = finite.get receipt.writes key
 change_in None key = None
 
 -- the version of a change
-abbrev pub version_of : Option ContentChange → Option Entry
-version_of (Some change) = Some (Stands 0 change)
-version_of None = None
+abbrev pub change_version : Option ContentChange → Option Entry
+change_version (Some change) = Some (Stands 0 change)
+change_version None = None
 
 -- the versions of a key that receipts leave, by their calls
 abbrev pub versions_in : List Receipt → List ℕ → ℕ → Option Entry
-versions_in receipts key i = version_of (change_in (slice_get receipts i) key)
+versions_in receipts key i = change_version (change_in (slice_get receipts i) key)
 
 -- the calls whose versions a read of call j names, from the nearest on: the sums that are passed, and the version below them
 abbrev pub writers_named : List Receipt → List ℕ → ℕ → List ℕ
@@ -48,13 +48,13 @@ abbrev pub waits_over : List Receipt → ℕ → Keys → List Wait
 waits_over receipts j keys = flat_map (waits_at receipts j) (finite.keys keys)
 
 -- the keys that a call reads, if there is one
-abbrev pub keys_of : Option Invocation → Storage → Keys
-keys_of (Some call) store = keys_read call store
-keys_of None store = finite.empty
+abbrev pub keys_read_by : Option Invocation → Storage → Keys
+keys_read_by (Some call) store = keys_read call store
+keys_read_by None store = finite.empty
 
 -- the waits of call j of a block
 abbrev pub waits_of : List Invocation → Storage → ℕ → List Wait
-waits_of block store j = waits_over (receipts_of block store) j (keys_of (slice_get block j) (store_before block j store))
+waits_of block store j = waits_over (receipts_of block store) j (keys_read_by (slice_get block j) (store_before block j store))
 
 -- the gas of a receipt, if there is one
 abbrev pub gas_in : Option Receipt → ℕ
@@ -62,8 +62,8 @@ gas_in (Some receipt) = receipt.gas
 gas_in None = 0
 
 -- the gas of call j of a block
-abbrev pub gas_of : List Invocation → Storage → ℕ → ℕ
-gas_of block store j = gas_in (slice_get (receipts_of block store) j)
+abbrev pub gas_of_call : List Invocation → Storage → ℕ → ℕ
+gas_of_call block store j = gas_in (slice_get (receipts_of block store) j)
 
 -- what a call waits for, and its gas
 pub record CallView : Type 0 where
@@ -71,9 +71,9 @@ pub record CallView : Type 0 where
   pub gas : ℕ
 
 -- the same of call j of a block
-abbrev pub call_of : List Invocation → Storage → ℕ → CallView
-call_of block store j = record { waits = waits_of block store j; gas = gas_of block store j }
+abbrev pub call_view_of : List Invocation → Storage → ℕ → CallView
+call_view_of block store j = record { waits = waits_of block store j; gas = gas_of_call block store j }
 
 -- the same of each call of a block, in block order
 abbrev pub calls_of : List Invocation → Storage → List CallView
-calls_of block store = map (call_of block store) (range_with_len 0 (length block))
+calls_of block store = map (call_view_of block store) (range_with_len 0 (length block))

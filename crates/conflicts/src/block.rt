@@ -25,7 +25,7 @@ pub struct Conflicts {
     ghost each: { length paths.items ≡ length calls.items },
 }
 
-/// The conflicts of a job. Its calls are run one after another. Refused where memory ran out.
+/// The conflicts of a job. Its calls are run one after another. Refused if memory ran out.
 pub fn find_conflicts(alloc: Global, job: &Job) -> Result<Conflicts, AllocError>
     ensures calls { IfOk result (λ c. c.calls.items ≡ calls_by_key job.now.block job.now.store) }
     ensures paths { IfOk result (λ c. ArePaths (calls_of job.now.block job.now.store) c.paths.items) }

@@ -31,7 +31,7 @@ impl CallList {
         }
     }
 
-    /// One call. Refused where memory ran out.
+    /// One call. Refused if memory ran out.
     fn of_one(alloc: Global, call: u16) -> Result<CallList, AllocError>
         ensures { IfOk result (λ list. list ≡ call ∷ []) }
     {
@@ -40,7 +40,7 @@ impl CallList {
         Ok(CallList { calls })
     }
 
-    /// Adds a call. Refused where memory ran out.
+    /// Adds a call. Refused if memory ran out.
     fn push(&mut self, call: u16) -> Result<(), AllocError>
         ensures { OnOk result (self.new ≡ self.old ++ call ∷ []) }
     {
@@ -71,7 +71,7 @@ impl Model for CallLists {
 impl CallLists {
     ghost use Rattle.std.specs.FinMap as map;
     ghost use Rattle.std.specs.Prelude.{[], ◌≡◌, ◌∷◌, OnOk};
-    ghost use Rattle.conflicts.specs.Calls.{calls_at, with_call, with_changes};
+    ghost use Rattle.conflicts.specs.Calls.{calls_at, with_call_at, with_call_changes};
     ghost use Rattle.conflicts.specs.Table.{after_change, after_changes};
 
     /// No calls.
@@ -94,9 +94,9 @@ impl CallLists {
         }
     }
 
-    /// Adds the next call at each key that it changes. Refused where memory ran out.
+    /// Adds the next call at each key that the call changes. Refused if memory ran out.
     pub(crate) fn add_all(&mut self, call: u16, writes: &Writes) -> Result<(), AllocError>
-        ensures { OnOk result (self.new ≡ with_changes call (map.entries writes.now) self.old) }
+        ensures { OnOk result (self.new ≡ with_call_changes call (map.entries writes.now) self.old) }
     {
         for (key, _) in writes.as_slice() {
             self.add(call, *key)?;
@@ -104,7 +104,7 @@ impl CallLists {
         Ok(())
     }
 
-    /// Notes the changes of the next call, where these are the calls that reads name. Refused where memory ran out.
+    /// Notes the changes of the next call; these lists are the calls that reads of each key name. Refused if memory ran out.
     pub(crate) fn note_all(&mut self, call: u16, writes: &Writes) -> Result<(), AllocError>
         ensures { OnOk result (self.new ≡ after_changes call (map.entries writes.now) self.old) }
     {
@@ -114,8 +114,8 @@ impl CallLists {
         Ok(())
     }
 
-    /// Notes what the next call does to a key: a sum is passed by reads, and anything else hides what is below it.
-    /// Refused where memory ran out.
+    /// Notes what the next call does to a key: reads pass a sum, and any other change hides what is below it. Refused if memory
+    /// ran out.
     fn note(&mut self, call: u16, key: Key, change: &Change<StoredValue>) -> Result<(), AllocError>
         ensures { OnOk result (self.new ≡ after_change call self.old key change.now) }
     {
@@ -125,9 +125,9 @@ impl CallLists {
         }
     }
 
-    /// Adds a call at a key. Refused where memory ran out.
+    /// Adds a call at a key. Refused if memory ran out.
     fn add(&mut self, call: u16, key: Key) -> Result<(), AllocError>
-        ensures { OnOk result (self.new ≡ with_call call self.old key) }
+        ensures { OnOk result (self.new ≡ with_call_at call self.old key) }
     {
         let alloc = self.alloc;
         let entry = self.entries.entry(key)?;
@@ -135,7 +135,7 @@ impl CallLists {
         list.push(call)
     }
 
-    /// Leaves one call at a key. Refused where memory ran out.
+    /// Leaves only this call at a key. Refused if memory ran out.
     fn set_alone(&mut self, call: u16, key: Key) -> Result<(), AllocError>
         ensures { OnOk result (self.new ≡ map.insert self.old key (call ∷ [])) }
     {

@@ -9,7 +9,7 @@ use crate::wait_counts::WaitCounts;
 use rv_ledger::Key;
 use std::alloc::{AllocError, Global};
 
-/// The keys with a wait, ascending, each with its writers and the number of its waits. Refused where memory ran out.
+/// The keys with a wait, ascending, each with its writers and the number of its waits. Refused if memory ran out.
 pub(crate) fn hot_keys(
     alloc: Global,
     writers: &CallLists,
@@ -25,7 +25,7 @@ pub(crate) fn hot_keys(
     Ok(keys)
 }
 
-/// A key with its writers and the number of its waits. Refused where memory ran out.
+/// A key with its writers and the number of its waits. Refused if memory ran out.
 fn hot_key(
     alloc: Global,
     key: Key,

@@ -4,11 +4,11 @@ ghost use Rattle.std.specs.FinMap as map;
 ghost use Rattle.std.specs.Prelude.{◌≡◌, ◌++◌, ◌∷◌, ◌≤◌, ◌<◌, ◌+◌, ◌*◌, ◌^◌, ℕ, List, All, IfOk, OnOk, length};
 ghost use Rattle.std.specs.List.{slice_get};
 ghost use Rattle.conflicts.specs.ByKey.{calls_by_key, key_waits_from};
-ghost use Rattle.conflicts.specs.Calls.{calls_at, count_at, with_changes, with_waits};
+ghost use Rattle.conflicts.specs.Calls.{calls_at, count_at, with_call_changes, with_waits};
 ghost use Rattle.conflicts.specs.Greatest.{greatest_from};
 ghost use Rattle.conflicts.specs.Paths.{ArePaths};
 ghost use Rattle.conflicts.specs.Reads.{keys_read};
-ghost use Rattle.conflicts.specs.Sums.{all_waits, writers_at};
+ghost use Rattle.conflicts.specs.Sums.{all_waits, calls_changing};
 ghost use Rattle.conflicts.specs.Table.{after_changes, key_waits_in, waits_in};
 ghost use Rattle.conflicts.specs.Waits.{calls_of, waits_for};
 ghost use Rattle.rv_step.specs.Chain.{ends};
@@ -43,7 +43,7 @@ impl Model for CallWaits {
 impl CallWaits {
     ghost use Rattle.std.specs.Prelude.{◌≡◌};
 
-    /// The waits, by ascending key. Each key stands once.
+    /// The waits, by ascending key. Each key occurs once.
     pub fn waits(&self) -> &[KeyWaits]
         ensures { result.now ≡ self.now.waits }
     {
@@ -71,13 +71,13 @@ pub(crate) struct Found {
     pub(crate) waits: WaitCounts,
 }
 
-/// What each call of a job waits for, its path, the calls that change each key, and the number of waits there: the calls
-/// are run one after another. Refused where memory ran out.
+/// What each call of a job waits for, its path, the calls that change each key, and the number of waits there. The calls are run
+/// one after another. Refused if memory ran out.
 pub(crate) fn call_waits(alloc: Global, job: &Job) -> Result<Found, AllocError>
     ensures calls { IfOk result (λ found. found.calls.items ≡ calls_by_key job.now.block job.now.store) }
     ensures paths { IfOk result (λ found. ArePaths (calls_of job.now.block job.now.store) found.paths.items) }
     ensures count { IfOk result (λ found. length found.paths.items ≡ length job.now.block) }
-    ensures writers { IfOk result (λ found. (key : List ℕ) → calls_at found.writers key ≡ writers_at (receipts_of job.now.block job.now.store) key) }
+    ensures writers { IfOk result (λ found. (key : List ℕ) → calls_at found.writers key ≡ calls_changing (receipts_of job.now.block job.now.store) key) }
     ensures waits { IfOk result (λ found. found.waits ≡ with_waits map.empty (all_waits (calls_of job.now.block job.now.store))) }
 {
     all_waits(alloc, job.block.calls(), job.store.copy()?)
@@ -100,13 +100,13 @@ struct Progress {
     spare: SpareRun,
 }
 
-/// The same for some calls and a storage. Refused where memory ran out.
+/// The same for some calls and a storage. Refused if memory ran out.
 fn all_waits(alloc: Global, calls: &[Call], store: Store) -> Result<Found, AllocError>
     requires { length calls.now ≤ 1024 }
     ensures calls { IfOk result (λ found. found.calls.items ≡ calls_by_key calls.now store) }
     ensures paths { IfOk result (λ found. ArePaths (calls_of calls.now store) found.paths.items) }
     ensures count { IfOk result (λ found. length found.paths.items ≡ length calls.now) }
-    ensures writers { IfOk result (λ found. (key : List ℕ) → calls_at found.writers key ≡ writers_at (receipts_of calls.now store) key) }
+    ensures writers { IfOk result (λ found. (key : List ℕ) → calls_at found.writers key ≡ calls_changing (receipts_of calls.now store) key) }
     ensures waits { IfOk result (λ found. found.waits ≡ with_waits map.empty (all_waits (calls_of calls.now store))) }
 {
     let paths = Vec::with_capacity(alloc, calls.len())?;
@@ -140,14 +140,14 @@ fn all_waits(alloc: Global, calls: &[Call], store: Store) -> Result<Found, Alloc
 impl Progress {
     ghost use Rattle.std.specs.FinMap as map;
     ghost use Rattle.std.specs.Prelude.{◌≡◌, ◌++◌, ◌∷◌, ◌≤◌, ◌<◌, ◌+◌, ◌*◌, ◌^◌, [], ℕ, List, All, IfOk, OnOk};
-    ghost use Rattle.conflicts.specs.Calls.{count_at, with_changes, with_waits};
+    ghost use Rattle.conflicts.specs.Calls.{count_at, with_call_changes, with_waits};
     ghost use Rattle.conflicts.specs.Greatest.{greatest_from};
     ghost use Rattle.conflicts.specs.Reads.{keys_read};
     ghost use Rattle.conflicts.specs.Table.{after_changes, key_waits_in, waits_in};
     ghost use Rattle.rv_step.specs.Chain.{ends};
     ghost use Rattle.rv_step.specs.Fold.{store_after_call};
 
-    /// Runs the next call of a block. Refused where memory ran out.
+    /// Runs the next call of a block. Refused if memory ran out.
     fn run_next(&mut self, alloc: Global, index: u16, call: &Call) -> Result<CallWaits, AllocError>
         requires paths { All (λ path. path ≤ 1024 * 2 ^ 32) self.old.paths.items }
         requires waits { (q : List ℕ) → count_at (with_waits self.old.waits (waits_in self.old.named (keys_read call.now self.old.store))) q < 2 ^ 64 }
@@ -159,7 +159,7 @@ impl Progress {
         ensures bound { OnOk result ((most : ℕ) → All (λ path. path ≤ most) self.old.paths.items
             → (ends call.now self.old.store).gas + greatest_from self.old.paths.items 0 (waits_in self.old.named (keys_read call.now self.old.store)) < most + 2 ^ 32) }
         ensures store { OnOk result (self.new.store ≡ store_after_call call.now self.old.store) }
-        ensures writers { OnOk result (self.new.writers ≡ with_changes index (map.entries (ends call.now self.old.store).writes) self.old.writers) }
+        ensures writers { OnOk result (self.new.writers ≡ with_call_changes index (map.entries (ends call.now self.old.store).writes) self.old.writers) }
         ensures named { OnOk result (self.new.named ≡ after_changes index (map.entries (ends call.now self.old.store).writes) self.old.named) }
     {
         let reading = reading_of(alloc, &mut self.spare, call, &self.store)?;
@@ -182,7 +182,7 @@ impl Progress {
     }
 }
 
-/// The waits of a call that reads these keys. Refused where memory ran out.
+/// The waits of a call that reads these keys. Refused if memory ran out.
 fn key_waits_in(
     alloc: Global,
     named: &CallLists,
@@ -197,7 +197,7 @@ fn key_waits_in(
     Ok(waits)
 }
 
-/// Adds the waits at a key for these calls, if there are any. Refused where memory ran out.
+/// Adds the waits at a key for these calls, if there are any. Refused if memory ran out.
 fn push_waits(waits: &mut Vec<KeyWaits>, key: Key, calls: &[u16]) -> Result<(), AllocError>
     ensures { OnOk result (waits.new.items ≡ waits.old.items ++ key_waits_from key (slice_get calls.now 0)) }
 {
@@ -207,7 +207,7 @@ fn push_waits(waits: &mut Vec<KeyWaits>, key: Key, calls: &[u16]) -> Result<(), 
     Ok(())
 }
 
-/// Counts the waits of a call that reads these keys. Refused where memory ran out.
+/// Counts the waits of a call that reads these keys. Refused if memory ran out.
 fn count_waits(counts: &mut WaitCounts, named: &CallLists, keys: &KeySet) -> Result<(), AllocError>
     requires { (q : List ℕ) → count_at (with_waits counts.old (waits_in named.now keys.now)) q < 2 ^ 64 }
     ensures { OnOk result (counts.new ≡ with_waits counts.old (waits_in named.now keys.now)) }
@@ -218,7 +218,7 @@ fn count_waits(counts: &mut WaitCounts, named: &CallLists, keys: &KeySet) -> Res
     Ok(())
 }
 
-/// Counts the waits at a key for these calls. Refused where memory ran out.
+/// Counts the waits at a key for these calls. Refused if memory ran out.
 fn count_calls(counts: &mut WaitCounts, key: Key, calls: &[u16]) -> Result<(), AllocError>
     requires { count_at (with_waits counts.old (waits_for key calls.now)) key < 2 ^ 64 }
     ensures { OnOk result (counts.new ≡ with_waits counts.old (waits_for key calls.now)) }

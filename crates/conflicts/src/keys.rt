@@ -38,7 +38,7 @@ impl KeySet {
         }
     }
 
-    /// Adds a key; refused where memory ran out.
+    /// Adds a key; refused if memory ran out.
     pub(crate) fn insert(&mut self, key: Key) -> Result<(), AllocError>
         ensures { OnOk result (self.new ≡ map.insert self.old key tt) }
     {

@@ -1,7 +1,7 @@
 //! Laws of what the calls of a block read and wait for.
 
 ghost use Rattle.conflicts.specs.ByKey.{calls_by_key};
-ghost use Rattle.conflicts.specs.LeftOut.{AgreeAt, IsClosed, Needs, items_where};
+ghost use Rattle.conflicts.specs.LeftOut.{AgreeAt, IsClosedUnderWaits, Needs, items_where};
 ghost use Rattle.conflicts.specs.Paths.{WaitsAt};
 ghost use Rattle.conflicts.specs.Reads.{keys_read};
 ghost use Rattle.conflicts.specs.Sums.{keys_of_calls};
@@ -13,8 +13,8 @@ ghost use Rattle.rv_step.specs.Chain.{ends};
 ghost use Rattle.rv_step.specs.Fold.{receipts_of};
 ghost use Rattle.std.specs.Prelude.{◌≡◌, ◌↔◌, ℕ, Bool, List, true};
 
-/// A law, and no code: a call that runs over another storage has the same receipt, and reads the same keys, where
-/// both storages have the same at each key that it reads.
+/// A law, and no code: a call that runs over another storage has the same receipt, and reads the same keys, if both storages have
+/// the same at each key that it reads.
 pub fn only_keys_read_matter()
     ensures receipt { (call : Invocation) (one other : Storage) → AgreeAt (keys_read call one) one other
         → ends call one ≡ ends call other }
@@ -22,11 +22,11 @@ pub fn only_keys_read_matter()
         → keys_read call one ≡ keys_read call other }
 {}
 
-/// A law, and no code: calls that no call of the others waits for can be left out of a block. The receipts of the
-/// others stay as they are. So the receipt of one call comes from the calls that it needs alone: those that it waits
-/// for, directly or through others.
+/// A law, and no code: calls that no call of the others waits for can be left out of a block. The receipts of the others stay as
+/// they are. So the receipt of one call depends only on the calls that it needs: those that it waits for, directly or through
+/// others.
 pub fn calls_can_be_left_out()
-    ensures closed { (block : List Invocation) (store : Storage) (stays : ℕ → Bool) → IsClosed stays (calls_of block store)
+    ensures closed { (block : List Invocation) (store : Storage) (stays : ℕ → Bool) → IsClosedUnderWaits stays (calls_of block store)
         → receipts_of (items_where stays block) store ≡ items_where stays (receipts_of block store) }
     ensures one_call { (block : List Invocation) (store : Storage) (stays : ℕ → Bool) (j : ℕ)
         → ((i : ℕ) → (stays i ≡ true) ↔ Needs (calls_of block store) j i)

@@ -18,7 +18,7 @@ pub(crate) fn path_over(paths: &[u64], named: &CallLists, keys: &KeySet, gas: u3
     u64::from(gas) + greatest_over(paths, named, keys)
 }
 
-/// The greatest path of the calls that are waited for at these keys, or 0 where there is none.
+/// The greatest path of the calls that are waited for at these keys, or 0 if there is none.
 fn greatest_over(paths: &[u64], named: &CallLists, keys: &KeySet) -> u64
     ensures value { result ≡ greatest_from paths.now 0 (waits_in named.now keys.now) }
     ensures bound { (most : ℕ) → All (λ path. path ≤ most) paths.now → result ≤ most }
@@ -42,7 +42,7 @@ fn greatest_from(paths: &[u64], least: u64, calls: &[u16]) -> u64
     greatest
 }
 
-/// The path of a call, or 0 where there is none.
+/// The path of a call, or 0 if there is none.
 fn path_at(paths: &[u64], call: u16) -> u64
     ensures { result ≡ path_at paths.now call }
 {

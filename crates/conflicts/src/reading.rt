@@ -14,15 +14,15 @@ use rv_step::{EndedRun, Pause, Run, SpareRun, StorageAnswer};
 use std::alloc::{AllocError, Global};
 use std::mem::replace;
 
-/// What a call came to, and the keys that it read.
+/// The receipt of a call, and the keys that it read.
 #[derive(Drop)]
 pub(crate) struct Reading {
     pub(crate) receipt: Receipt,
     pub(crate) keys: KeySet,
 }
 
-/// Runs a call over a storage. The run takes the machine and the list of an earlier call's, and leaves them to the next. Refused where
-/// memory ran out.
+/// Runs a call over a storage. The run takes the machine and the list of an earlier call's run, and leaves them to the next.
+/// Refused if memory ran out.
 pub(crate) fn reading_of(
     alloc: Global,
     spare: &mut SpareRun,
@@ -60,7 +60,7 @@ fn run_answered(
     Ok(run.finish_in(spare))
 }
 
-/// Answers a run that asks for a key, from a storage. Refused where memory ran out.
+/// Answers a run that asks for a key, from a storage. Refused if memory ran out.
 fn answer_from(alloc: Global, run: &mut Run, key: &Key, store: &Store) -> Result<(), AllocError>
     requires { asked_key run.old.stage ≡ Some key.now }
     ensures call { OnOk result (run.new.call ≡ run.old.call) }
@@ -71,7 +71,7 @@ fn answer_from(alloc: Global, run: &mut Run, key: &Key, store: &Store) -> Result
     run.answer_lent(content, Origin::base(alloc))
 }
 
-/// The keys of some answers. Refused where memory ran out.
+/// The keys of some answers. Refused if memory ran out.
 fn keys_answered(alloc: Global, answers: &[StorageAnswer]) -> Result<KeySet, AllocError>
     ensures { IfOk result (λ keys. keys ≡ keys_in (replies_of answers.now)) }
 {

@@ -17,7 +17,7 @@ pub(crate) fn gas_of_all(calls: &[CallWaits]) -> u64
     sum
 }
 
-/// The greatest of some paths, or 0 where there is none.
+/// The greatest of some paths, or 0 if there is none.
 pub(crate) fn greatest_path(paths: &[u64]) -> u64
     ensures { result ≡ greatest_path paths.now }
 {

@@ -6,7 +6,7 @@ ghost use Rattle.std.specs.List.{enumerate_from, flat_map, zip};
 ghost use Rattle.hex.specs.Hex.{encode_lower};
 ghost use Rattle.receipts.specs.Buffer.{Appended};
 ghost use Rattle.receipts.specs.Text.{more_fields};
-ghost use Rattle.conflicts.specs.Text.{call_line, call_lines, conflicts_text, key_line, sum_line, wait_line, writers_line};
+ghost use Rattle.conflicts.specs.Text.{conflict_lines, conflicts_text, key_line, path_line, sum_line, wait_line, writers_line};
 
 use crate::block::Conflicts;
 use crate::hot_key::HotKey;
@@ -58,7 +58,7 @@ fn push_writers<W: Destination>(text: &mut TextBuffer, key: &HotKey, out: &mut W
     push_more_calls(text, key.writers(), out);
 }
 
-/// Appends some calls, each behind a space, and ends the line.
+/// Appends some calls, each after a space, and ends the line.
 fn push_more_calls<W: Destination>(text: &mut TextBuffer, calls: &[u16], out: &mut W)
     ensures { Appended W.contents W.may_refuse text.old out.old text.new out.new (more_fields (map decimal calls.now)) }
 {
@@ -76,7 +76,7 @@ fn push_calls<W: Destination>(
     out: &mut W,
 )
     requires { length paths.now ≡ length calls.now }
-    ensures { Appended W.contents W.may_refuse text.old out.old text.new out.new (flat_map call_lines (enumerate_from 0 (zip calls.now paths.now))) }
+    ensures { Appended W.contents W.may_refuse text.old out.old text.new out.new (flat_map conflict_lines (enumerate_from 0 (zip calls.now paths.now))) }
 {
     for (index, call) in calls.iter().enumerate() {
         let path = paths[index];
@@ -92,7 +92,7 @@ fn push_call<W: Destination>(
     path: u64,
     out: &mut W,
 )
-    ensures { Appended W.contents W.may_refuse text.old out.old text.new out.new (call_lines (index, (call.now, path))) }
+    ensures { Appended W.contents W.may_refuse text.old out.old text.new out.new (conflict_lines (index, (call.now, path))) }
 {
     push_waits(text, index, call.waits(), out);
     push_call_line(text, index, call.gas(), path, out);
@@ -126,7 +126,7 @@ fn push_call_line<W: Destination>(
     path: u64,
     out: &mut W,
 )
-    ensures { Appended W.contents W.may_refuse text.old out.old text.new out.new (call_line index gas path) }
+    ensures { Appended W.contents W.may_refuse text.old out.old text.new out.new (path_line index gas path) }
 {
     push_numbered(text, b"call ", index as u64, out);
     push_gas_and_path(text, u64::from(gas), path, out);

@@ -38,7 +38,7 @@ impl WaitCounts {
         }
     }
 
-    /// Counts more waits at a key. Refused where memory ran out.
+    /// Counts more waits at a key. Refused if memory ran out.
     pub(crate) fn add(&mut self, key: Key, more: u64) -> Result<(), AllocError>
         requires { count_at self.old key + more < 2 ^ 64 }
         ensures { OnOk result (self.new ≡ with_more self.old key more) }

@@ -1,4 +1,4 @@
--- Where a session that was cut short stands, and what it has written.
+-- The replay of a session that was cut short, and what the session has written.
 use Rattle.std.proofs.Common.{◌≡◌, ℕ, ◌+◌, ◌<◌, ◌==◌, Bool, true, false, All, List, [], ◌∷◌, ◌++◌, take, drop, get_or, length, Option, Some, None, IfSome, refl, sym, ap, subst, ◌∙◌, inl, inr, append_assoc, append-nil, take-append-drop}
 use Rattle.std.specs.Io.KnownBytes.{Appends, Consumes, IsAtEnd}
 use Rattle.std.proofs.KnownBytes.{Appends-nil, Consumes-trans, Consumes-whole}
@@ -67,7 +67,7 @@ module _ (has_more : Bool) where
   first_text : (r : ReplayState) (line : List ℕ) (lines : List (List ℕ)) → (more : List ℕ) × ((session has_more r (line ∷ lines)).text ≡ line_text r (heard_of has_more line) ++ more)
   first_text r line lines = begins_with r line lines (is_quit (heard_of has_more line)) refl
 
-  -- what was written of the next answer begins what the session goes on to print
+  -- what was written of the next answer is a beginning of what the session prints next
   cut_begins : (fault : DebugFault) (r : ReplayState) (rest : List (List ℕ)) (new : ReplayState) (part : List ℕ) → IsCutAt has_more fault r rest new part → (left : List ℕ) × ((session has_more r rest).text ≡ part ++ left)
   cut_begins Unreadable r rest new part cut = none_begins part (session has_more r rest).text cut.1
   cut_begins (Output fault) r [] new part cut = absurd cut
@@ -109,7 +109,7 @@ module _ (has_more : Bool) where
   no_memory r [] = (refl, refl)
   no_memory r (line ∷ more) = (not_moved r (heard_of has_more line), refl)
 
-  -- the lines behind the next one do not matter
+  -- the lines after the next one do not matter
   any_more : (fault : DebugFault) (r new : ReplayState) (line part : List ℕ) (more : List (List ℕ)) → IsCutAt has_more fault r (line ∷ []) new part → IsCutAt has_more fault r (line ∷ more) new part
   any_more Unreadable r new line part more cut = cut
   any_more (Output fault) r new line part more cut = cut
@@ -127,7 +127,7 @@ module _ (has_more : Bool) where
   last_cut fault r new (byte ∷ line) a b within filled cut = first_cut fault r new (byte ∷ line) [] (lines_of (byte ∷ line)) a b (last_line byte line within) cut
 
   module _ (old now : ReplayState) (input line : List ℕ) (before mid : Option (List ℕ)) (answered : HasAnswered has_more old input now line before mid) where
-    -- behind lines that were answered
+    -- after lines that were answered
     cut_behind : (fault : DebugFault) (new : ReplayState) (after : Option (List ℕ)) (lines all : List (List ℕ)) → all ≡ answered.heard ++ lines → IsCutShort has_more fault now lines new mid after → IsCutShort has_more fault old all new before after
     cut_behind fault new after lines all are (heard, rest, part, split, on, cut, writes) = (
       answered.heard ++ heard,
@@ -162,7 +162,7 @@ module _ (has_more : Bool) where
         (ap lines_of (append_assoc input (10 ∷ more) rest) ∙ answered.lines (10 ∷ (more ++ rest)))
         (first_cut fault now new line (lines_of (more ++ rest)) (lines_of (line ++ 10 ∷ (more ++ rest))) mid after (line_and_more line (more ++ rest) answered.within) cut)
 
-    -- where the next byte of a line finds no memory, whatever follows
+    -- memory ran out at the next byte of a line, whatever follows
     pub cut_before : (more : List ℕ) → IsCutIn has_more Memory old (input ++ more) now before mid
     cut_before more rest =
         subst (λ (t : List ℕ). IsCutShort has_more Memory old (lines_of t) now before mid) (sym (append_assoc input more rest))

@@ -8,14 +8,14 @@ use Rattle.rv_step.specs.declared.stage.Stage.{Stage}
 use Rattle.rv_step.specs.declared.stage.Stage.TheVariants.{Running, Asked, Ended}
 use Rattle.rv_step.specs.Moment.{from_storage, is_over, moment_over}
 use Rattle.rv_step.specs.Moment as moment
-use Rattle.rv_step.specs.Run.{RunView, after_one, after_result, after_steps, asked_key, is_running}
+use Rattle.rv_step.specs.Run.{RunView, after_one, after_steps, asked_key, is_running, run_after_result}
 use Rattle.rv_step.specs.Step.{Progress, Going, Over, StepResult, Leads, Asks, step}
 use Rattle.rv_step.specs.Until.{GoesUntil, is_at}
 use Rattle.rv_step.proofs.Steps.{more}
 use Rattle.rv_step.proofs.Walks.{runs_on}
 use Rattle.debugger.specs.Further.{GoesOver, steps_over, wants}
-use Rattle.debugger.specs.Replay.{IsPast, ReplayState, is_at_end, stops}
-use Rattle.debugger.specs.ReplayMoment.{AreOf, GoesOn, IsAnswered, IsAnsweredAt, IsRunAt, advance_over}
+use Rattle.debugger.specs.Replay.{IsLaterMoment, ReplayState, is_at_end, stops}
+use Rattle.debugger.specs.ReplayMoment.{AreOf, GoesOnUntil, IsAnswered, IsAnsweredAt, IsRunAt, advance_over}
 use Rattle.debugger.proofs.Moments.{within_gas}
 use Rattle.debugger.proofs.ReplayMoments.{going_is, next_suc}
 use Rattle.debugger.proofs.Stops.{not_over}
@@ -24,19 +24,19 @@ use Rattle.debugger.proofs.Stops.{not_over}
 
 module _ (store : Storage) where
   -- a step after which the run can make another
-  on_result : (o : StepResult) (q : RunView) → is_running (after_result o q).stage ≡ true → (moment.after_result from_storage q.machine o store).0 ≡ Going (after_result o q).machine
+  on_result : (o : StepResult) (q : RunView) → is_running (run_after_result o q).stage ≡ true → (moment.after_result from_storage q.machine o store).0 ≡ Going (run_after_result o q).machine
   on_result (Leads (Going t)) q on = refl
   on_result (Leads (Over end out t)) q on = cc
   on_result (Asks key) q on = cc
 
   -- the last step, and its answer if it asked
-  last_result : (o : StepResult) (q new : RunView) → IsAnswered store (after_result o q) new → IsRunAt (moment.after_result from_storage q.machine o store).0 new
+  last_result : (o : StepResult) (q new : RunView) → IsAnswered store (run_after_result o q) new → IsRunAt (moment.after_result from_storage q.machine o store).0 new
   last_result (Leads (Going t)) q new answered = rw answered refl
   last_result (Leads (Over end out t)) q new answered = rw answered refl
   last_result (Asks key) q new answered = answered
 
   -- a last step that was not answered yet
-  unanswered_result : (o : StepResult) (q : RunView) → step q.machine ≡ o → IsSome (asked_key (after_result o q).stage) → IsRunAt (Going q.machine) (after_result o q)
+  unanswered_result : (o : StepResult) (q : RunView) → step q.machine ≡ o → IsSome (asked_key (run_after_result o q).stage) → IsRunAt (Going q.machine) (run_after_result o q)
   unanswered_result (Leads (Going t)) q e asked = cc
   unanswered_result (Leads (Over end out t)) q e asked = cc
   unanswered_result (Asks key) q e asked = (refl, e)
@@ -56,8 +56,8 @@ module _ (store : Storage) where
     between = λ k after before. absurd (omega arith);
   }
 
-  one_is : (q : RunView) → is_running q.stage ≡ true → after_one q ≡ after_result (step q.machine) q
-  one_is q running = ap (λ (b : Bool). if b then after_result (step q.machine) q else q) running
+  one_is : (q : RunView) → is_running q.stage ≡ true → after_one q ≡ run_after_result (step q.machine) q
+  one_is q running = ap (λ (b : Bool). if b then run_after_result (step q.machine) q else q) running
 
   module _ (r : RunView) where
     same_place : (n : ℕ) → ((k : ℕ) → k ≤ n → is_running (after_steps k r).stage ≡ true) → steps_over store n (Going r.machine) ≡ Going (after_steps n r).machine
@@ -66,7 +66,7 @@ module _ (store : Storage) where
     same_place (suc n) runs =
         let q : RunView = after_steps n r in
         let on : is_running q.stage ≡ true = runs n (omega arith) in
-        let is : after_steps (suc n) r ≡ after_result (step q.machine) q = more n r ∙ one_is q on in
+        let is : after_steps (suc n) r ≡ run_after_result (step q.machine) q = more n r ∙ one_is q on in
         ap (advance_over store) (same_place n (λ k below. runs k (omega arith)))
         ∙ on_result (step q.machine) q (subst (λ (p : RunView). is_running p.stage ≡ true) is (runs (suc n) (omega arith)))
         ∙ ap (λ (p : RunView). Going p.machine) (sym is)
@@ -92,7 +92,7 @@ module _ (store : Storage) where
       goes_over (suc n) q new goes answered =
           let p : RunView = after_steps n r in
           let on : is_running p.stage ≡ true = runs (suc n) q goes n (omega arith) in
-          let is : q ≡ after_result (step p.machine) p = goes.steps ∙ more n r ∙ one_is p on in
+          let is : q ≡ run_after_result (step p.machine) p = goes.steps ∙ more n r ∙ one_is p on in
           record {
             some = omega arith;
             within = goes.within;
@@ -107,7 +107,7 @@ module _ (store : Storage) where
       unanswered n q new goes same asked =
           let p : RunView = after_steps n r in
           let on : is_running p.stage ≡ true = runs (suc n) q goes n (omega arith) in
-          let is : q ≡ after_result (step p.machine) p = goes.steps ∙ more n r ∙ one_is p on in
+          let is : q ≡ run_after_result (step p.machine) p = goes.steps ∙ more n r ∙ one_is p on in
           subst (λ (at : Progress). IsRunAt at new) (sym (same_place n (λ k below. runs (suc n) q goes k (omega arith))))
           (subst (λ (x : RunView). IsRunAt (Going p.machine) x) (sym (same ∙ is))
           (unanswered_result (step p.machine) p refl (subst (λ (x : RunView). IsSome (asked_key x.stage)) is asked)))
@@ -148,7 +148,7 @@ module _ (call : Invocation) (store : Storage) (m : ℕ) (run new : RunView) (st
       subst (λ (at : Progress). stops (wants stop) at ≡ false) (at_step (n - m) ∙ ap (moment_over call store) e)
       (goes.between (n - m) (omega arith) (omega arith))
 
-  pub further_earlier : GoesOn call store m → GoesOn call store (m + made)
+  pub further_earlier : GoesOnUntil call store m → GoesOnUntil call store (m + made)
   further_earlier before n below = elim (cases_order m n) [
     | inl same ↦ subst (λ (k : ℕ). is_over (moment_over call store k) ≡ false) same going
     | inr apart ↦ elim apart [
@@ -157,17 +157,17 @@ module _ (call : Invocation) (store : Storage) (m : ℕ) (run new : RunView) (st
     ]
   ]
 
-  pub further_gas : GoesOn call store m → m + made ≤ call.gas + 1
+  pub further_gas : GoesOnUntil call store m → m + made ≤ call.gas + 1
   further_gas before =
       let some = goes.some in
       let within = within_gas call store (m + made - 1) (further_earlier before (m + made - 1) (omega (arith, some))) in
       omega (arith, within, some)
 
-  pub further_past : IsPast (wants stop) (record { call = call; store = store; moment = m }) (record { call = call; store = store; moment = m + made })
+  pub further_past : IsLaterMoment (wants stop) (record { call = call; store = store; moment = m }) (record { call = call; store = store; moment = m + made })
   further_past = record { call = refl; store = refl; later = omega arith; between = further_between }
 
 -- a move leaves fewer moments to come
-pub fewer_to_come : (is_wanted : Machine → Bool) (old new : ReplayState) → is_at_end old ≡ false → IsPast is_wanted old new → old.moment < new.moment → new.call.gas + 1 - new.moment < old.call.gas + 1 - old.moment
+pub fewer_to_come : (is_wanted : Machine → Bool) (old new : ReplayState) → is_at_end old ≡ false → IsLaterMoment is_wanted old new → old.moment < new.moment → new.call.gas + 1 - new.moment < old.call.gas + 1 - old.moment
 fewer_to_come is_wanted old new going past later =
     let within = within_gas old.call old.store old.moment going in
     let same : new.call.gas ≡ old.call.gas = ap (λ (c : Invocation). c.gas) past.call in

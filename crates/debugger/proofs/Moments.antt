@@ -8,7 +8,7 @@ use Rattle.rv_step.specs.Moment.{from_storage, is_over, machine_of, moment_from,
 use Rattle.rv_step.specs.Chain.{ends, receipt_at}
 use Rattle.rv_step.proofs.Receipts.{going_within, over_ends}
 
--- a call that goes on has made no more steps than it had gas
+-- a call that is not over has made no more steps than it had gas
 pub within_gas : (call : Invocation) (store : Storage) (n : ℕ) → is_over (moment_over call store n) ≡ false → n ≤ call.gas
 within_gas call store n e = going_within call store n e
 
@@ -16,7 +16,7 @@ receipt_stands : (limit : ℕ) (progress : Progress) → is_over progress ≡ tr
 receipt_stands limit (Going s) over = cc
 receipt_stands limit (Over end out s) over = (refl, refl)
 
--- where it is over it has the receipt's pc and registers
+-- when it is over, it has the receipt's pc and registers
 pub last_is_receipt : (call : Invocation) (store : Storage) (n : ℕ) → is_over (moment_over call store n) ≡ true → ((machine_of (moment_over call store n)).pc ≡ (ends call store).pc) × ((machine_of (moment_over call store n)).regs ≡ (ends call store).regs)
 last_is_receipt call store n e =
     let at : Progress × Storage = moment_from from_storage n (Going (start call), store) in

@@ -1,4 +1,4 @@
--- Runs that stand where a call does.
+-- Runs at the progress of a call.
 use Rattle.std.proofs.Common.{◌≡◌, ℕ, suc, ◌+◌, ◌-◌, ◌<◌, Bool, true, false, if◌then◌else◌, refl, sym, ap, subst, ◌∙◌, arith, add-one, below_more, Some, None}
 use Rattle.rv_ledger.specs.Key.{Storage}
 use Rattle.rv_ledger.specs.Call.{Invocation}
@@ -12,9 +12,9 @@ use Rattle.rv_step.specs.Step.{Progress, Going}
 use Rattle.rv_step.specs.Moment.{advance, from_storage, is_over, moment_over, start}
 use Rattle.rv_step.proofs.Moments.{one_more}
 use Rattle.rv_step.proofs.Receipts.{keeps_storage}
-use Rattle.debugger.specs.ReplayMoment.{AreOf, GoesOn, IsRunAt, advance_over}
+use Rattle.debugger.specs.ReplayMoment.{AreOf, GoesOnUntil, IsRunAt, advance_over}
 
--- a run that stands where a call goes on has its machine
+-- a run at a moment at which the call is not over has the call's machine
 pub going_is : (at : Progress) (s : Machine) (stage : Stage) → AreOf at s stage → is_over at ≡ false → at ≡ Going s
 going_is at s Running h e = h
 going_is at s (Asked key) h e = h.0
@@ -24,8 +24,8 @@ going_is at s (Ended end out) h e = let t : true ≡ false = ap is_over (sym h) 
 pub goes_on : (at : Progress) (run : RunView) → IsRunAt at run → is_over at ≡ false → IsRunAt (Going run.machine) run
 goes_on at run h e = subst (λ (x : Progress). IsRunAt x run) (going_is at run.machine run.stage h e) h
 
--- the call goes on at one moment more
-pub goes_on_more : (call : Invocation) (store : Storage) (n : ℕ) → GoesOn call store n → is_over (moment_over call store n) ≡ false → GoesOn call store (n + 1)
+-- the call is not over at one more moment
+pub goes_on_more : (call : Invocation) (store : Storage) (n : ℕ) → GoesOnUntil call store n → is_over (moment_over call store n) ≡ false → GoesOnUntil call store (n + 1)
 goes_on_more call store n before here = below_more (λ (k : ℕ). is_over (moment_over call store k) ≡ false) n before here
 
 -- a moment more
@@ -37,7 +37,7 @@ next_suc call store n =
 pub next_moment : (call : Invocation) (store : Storage) (n : ℕ) → moment_over call store (n + 1) ≡ advance_over store (moment_over call store n)
 next_moment call store n = rw add-one (next_suc call store n)
 
--- a run that made a step stands at the next moment
+-- a run that made a step is at the next moment
 pub stands_next : (call : Invocation) (store : Storage) (n : ℕ) (old new : RunView) → IsRunAt (moment_over call store n) old → is_over (moment_over call store n) ≡ false → IsRunAt (advance_over store (Going old.machine)) new → IsRunAt (moment_over call store (n + 1)) new
 stands_next call store n old new h e made =
     subst (λ (x : Progress). IsRunAt x new)

@@ -1,4 +1,4 @@
--- How a session goes on with parts of its input.
+-- How a session continues with parts of its input.
 use Rattle.std.proofs.Common.{◌≡◌, ℕ, ◌+◌, ◌<◌, ◌==◌, Bool, true, false, not, if◌then◌else◌, All, List, [], ◌∷◌, ◌++◌, take, drop, get_or, length, Option, Some, None, IfSome, refl, sym, ap, subst, ◌∙◌, add-one, append_assoc, append-nil, arith, drop-cons, take-append-drop}
 use Rattle.std.specs.Io.KnownBytes.{Appends, Consumes, IsAtEnd}
 use Rattle.std.proofs.KnownBytes.{Appends-nil, Appends-trans, Consumes-whole}
@@ -9,7 +9,7 @@ use Rattle.debugger.specs.declared.command.Command.{Command}
 use Rattle.debugger.specs.declared.command.Command.TheVariants.{Step, Back, RunTo, Where, Registers, Bytes, Quit, GoTo, RunToChange, End, Value, Help}
 use Rattle.debugger.specs.Command.{heard_of}
 use Rattle.debugger.specs.Replay.{ReplayState}
-use Rattle.debugger.specs.Session.{Ending, EndsAs, IsHeardOn, after_line, behind, is_quit, line_text, lines_of, session}
+use Rattle.debugger.specs.Session.{Ending, EndsAs, IsHeardOn, after_line, after_text, is_quit, line_text, lines_of, session}
 use Rattle.debugger.specs.Hearing.{HasAnswered, HasHeard, Hears, IsInLine}
 use Rattle.debugger.proofs.Lines.{last_line, line_and_more, no_line}
 
@@ -37,7 +37,7 @@ quit_is r (Some End) e = cc
 quit_is r (Some (Value key)) e = cc
 quit_is r (Some Help) e = cc
 
-behind_behind : (a b : List ℕ) (e : Ending) → behind a (behind b e) ≡ behind (a ++ b) e
+behind_behind : (a b : List ℕ) (e : Ending) → after_text a (after_text b e) ≡ after_text (a ++ b) e
 behind_behind a b e = ap (λ (t : List ℕ). record e { text = t }) (sym (append_assoc a b e.text))
 
 one_in_line : (byte : ℕ) → IsInLine byte → All IsInLine (byte ∷ [])
@@ -70,17 +70,17 @@ not_off false e = cc
 module _ (has_more : Bool) where
   -- what the first line makes of a session
   module _ (r : ReplayState) (line : List ℕ) (lines : List (List ℕ)) where
-    pub session_on : is_quit (heard_of has_more line) ≡ false → session has_more r (line ∷ lines) ≡ behind (line_text r (heard_of has_more line)) (session has_more (after_line r (heard_of has_more line)) lines)
+    pub session_on : is_quit (heard_of has_more line) ≡ false → session has_more r (line ∷ lines) ≡ after_text (line_text r (heard_of has_more line)) (session has_more (after_line r (heard_of has_more line)) lines)
     unfolding session
     session_on e =
         if_false (is_quit (heard_of has_more line)) (record { text = []; replay = r })
-        (behind (line_text r (heard_of has_more line)) (session has_more (after_line r (heard_of has_more line)) lines)) e
+        (after_text (line_text r (heard_of has_more line)) (session has_more (after_line r (heard_of has_more line)) lines)) e
 
     pub session_quit : is_quit (heard_of has_more line) ≡ true → session has_more r (line ∷ lines) ≡ record { text = line_text r (heard_of has_more line); replay = after_line r (heard_of has_more line) }
     unfolding session
     session_quit e =
         if_true (is_quit (heard_of has_more line)) (record { text = []; replay = r })
-        (behind (line_text r (heard_of has_more line)) (session has_more (after_line r (heard_of has_more line)) lines)) e
+        (after_text (line_text r (heard_of has_more line)) (session has_more (after_line r (heard_of has_more line)) lines)) e
         ∙ quit_is r (heard_of has_more line) e
 
   -- a session over no line
@@ -88,23 +88,23 @@ module _ (has_more : Bool) where
   unfolding session
   session_nil r = refl
 
-  -- a session goes on behind lines that do not end it
-  pub session_append : (r : ReplayState) (heard rest : List (List ℕ)) → All (IsHeardOn has_more) heard → session has_more r (heard ++ rest) ≡ behind (session has_more r heard).text (session has_more (session has_more r heard).replay rest)
-  session_append r [] rest on = sym (ap (λ (e : Ending). behind e.text (session has_more e.replay rest)) (session_nil r))
+  -- a session continues after lines that do not end it
+  pub session_append : (r : ReplayState) (heard rest : List (List ℕ)) → All (IsHeardOn has_more) heard → session has_more r (heard ++ rest) ≡ after_text (session has_more r heard).text (session has_more (session has_more r heard).replay rest)
+  session_append r [] rest on = sym (ap (λ (e : Ending). after_text e.text (session has_more e.replay rest)) (session_nil r))
   session_append r (line ∷ heard) rest on =
       let goes_on : is_quit (heard_of has_more line) ≡ false = All-head (IsHeardOn has_more) line heard on in
       let text : List ℕ = line_text r (heard_of has_more line) in
       let next : ReplayState = after_line r (heard_of has_more line) in
       session_on r line (heard ++ rest) goes_on
-      ∙ ap (behind text) (session_append next heard rest (All-tail (IsHeardOn has_more) line heard on))
+      ∙ ap (after_text text) (session_append next heard rest (All-tail (IsHeardOn has_more) line heard on))
       ∙ behind_behind text (session has_more next heard).text (session has_more (session has_more next heard).replay rest)
-      ∙ sym (ap (λ (e : Ending). behind e.text (session has_more e.replay rest)) (session_on r line heard goes_on))
+      ∙ sym (ap (λ (e : Ending). after_text e.text (session has_more e.replay rest)) (session_on r line heard goes_on))
 
   one_line : (r : ReplayState) (line : List ℕ) (b : Bool) → is_quit (heard_of has_more line) ≡ b → session has_more r (line ∷ []) ≡ record { text = line_text r (heard_of has_more line); replay = after_line r (heard_of has_more line) }
   one_line r line true e = session_quit r line [] e
   one_line r line false e =
       session_on r line [] e
-      ∙ ap (behind (line_text r (heard_of has_more line))) (session_nil (after_line r (heard_of has_more line)))
+      ∙ ap (after_text (line_text r (heard_of has_more line))) (session_nil (after_line r (heard_of has_more line)))
       ∙ ap (λ (t : List ℕ). let end : Ending = record { text = t; replay = after_line r (heard_of has_more line) } in end) (append-nil (line_text r (heard_of has_more line)))
 
   one_heard_on : (line : List ℕ) → IsHeardOn has_more line → All (IsHeardOn has_more) (line ∷ [])
@@ -115,14 +115,14 @@ module _ (has_more : Bool) where
     abbrev so_far : List ℕ
     so_far = (session has_more old answered.heard).text
 
-    -- with more lines, it goes on from where it stands
-    pub with_more : (lines : List (List ℕ)) → session has_more old (answered.heard ++ lines) ≡ behind (session has_more old answered.heard).text (session has_more now lines)
+    -- with more lines, it continues from its replay
+    pub with_more : (lines : List (List ℕ)) → session has_more old (answered.heard ++ lines) ≡ after_text (session has_more old answered.heard).text (session has_more now lines)
     with_more lines =
         session_append old answered.heard lines answered.on
-        ∙ ap (λ (r : ReplayState). behind (session has_more old answered.heard).text (session has_more r lines)) (sym answered.replay)
+        ∙ ap (λ (r : ReplayState). after_text (session has_more old answered.heard).text (session has_more r lines)) (sym answered.replay)
 
     -- whatever input comes next
-    pub goes_on : (rest : List ℕ) → session has_more old (lines_of (input ++ rest)) ≡ behind (session has_more old answered.heard).text (session has_more now (lines_of (line ++ rest)))
+    pub goes_on : (rest : List ℕ) → session has_more old (lines_of (input ++ rest)) ≡ after_text (session has_more old answered.heard).text (session has_more now (lines_of (line ++ rest)))
     goes_on rest = ap (session has_more old) (answered.lines rest) ∙ with_more (lines_of (line ++ rest))
 
     -- more lines were answered
@@ -156,7 +156,7 @@ module _ (has_more : Bool) where
     }
 
     module _ (next : ReplayState) (after : Option (List ℕ)) (moves : next ≡ after_line now (heard_of has_more line)) (writes : Appends mid after (line_text now (heard_of has_more line))) where
-      -- the end of a line behind which the session goes on
+      -- the end of a line after which the session continues
       pub line_heard : is_quit (heard_of has_more line) ≡ false → HasAnswered has_more old (input ++ 10 ∷ []) next [] before after
       line_heard on =
           let one : session has_more now (line ∷ []) ≡ record { text = line_text now (heard_of has_more line); replay = after_line now (heard_of has_more line) } = one_line now line false on in
@@ -183,12 +183,12 @@ module _ (has_more : Bool) where
         λ rest.
             ap (λ (t : List ℕ). session has_more old (lines_of t)) (append_assoc input (10 ∷ more) rest)
             ∙ goes_on (10 ∷ (more ++ rest))
-            ∙ ap (λ (lines : List (List ℕ)). behind so_far (session has_more now lines)) (line_and_more line (more ++ rest) answered.within)
-            ∙ ap (behind so_far) (session_quit now line (lines_of (more ++ rest)) quits)
+            ∙ ap (λ (lines : List (List ℕ)). after_text so_far (session has_more now lines)) (line_and_more line (more ++ rest) answered.within)
+            ∙ ap (after_text so_far) (session_quit now line (lines_of (more ++ rest)) quits)
             ∙ ap (λ (r : ReplayState). let e : Ending = record { text = so_far ++ line_text now (heard_of has_more line); replay = r } in e) (sym moves),
       )
 
-    -- a part of the input behind which the session goes on
+    -- a part of the input after which the session continues
     pub part_heard : (part left : List ℕ) (next : ReplayState) (after : Option (List ℕ)) → Hears has_more true now line part next left mid after → HasAnswered has_more old (input ++ part) next left before after
     part_heard part left next after more =
         let both = more_answered more.heard next after more.replay more.text in
@@ -214,16 +214,16 @@ module _ (has_more : Bool) where
       λ rest.
           ap (λ (t : List ℕ). session has_more old (lines_of t)) (append_assoc input part rest)
           ∙ goes_on (part ++ rest)
-          ∙ ap (λ (t : List ℕ). behind so_far (session has_more now (lines_of t))) (sym (append_assoc line part rest))
-          ∙ ap (behind so_far) (more.2 rest),
+          ∙ ap (λ (t : List ℕ). after_text so_far (session has_more now (lines_of t))) (sym (append_assoc line part rest))
+          ∙ ap (after_text so_far) (more.2 rest),
     )
 
     -- the end of the input
     pub end_heard : (next : ReplayState) (after : Option (List ℕ)) → EndsAs (session has_more now (lines_of line)) next mid after → EndsAs (session has_more old (lines_of input)) next before after
     end_heard next after ends =
-        let is : session has_more old (lines_of input) ≡ behind so_far (session has_more now (lines_of line)) =
+        let is : session has_more old (lines_of input) ≡ after_text so_far (session has_more now (lines_of line)) =
         ap (λ (t : List ℕ). session has_more old (lines_of t)) (sym (append-nil input)) ∙ goes_on []
-        ∙ ap (λ (t : List ℕ). behind so_far (session has_more now (lines_of t))) (append-nil line) in
+        ∙ ap (λ (t : List ℕ). after_text so_far (session has_more now (lines_of t))) (append-nil line) in
         subst (λ (e : Ending). EndsAs e next before after) (sym is)
         (Appends-trans before mid after so_far (session has_more now (lines_of line)).text answered.text ends.0, ends.1)
 
@@ -246,7 +246,7 @@ module _ (has_more : Bool) where
       let is = ap (λ (t : List ℕ). session has_more old (lines_of t)) read ∙ heard.2 rest in
       subst (λ (e : Ending). EndsAs e new before after) (sym is) (heard.1, refl)
 
-  -- and one that met the end of the input
+  -- a session that met the end of the input
   pub ended_at : (r0 r1 : Option (List ℕ)) (old now new : ReplayState) (input line : List ℕ) (before mid after : Option (List ℕ)) → Consumes r0 r1 input → IsAtEnd r1 → HasAnswered has_more old input now line before mid → EndsAs (session has_more now (lines_of line)) new mid after → IfSome r0 (λ all. EndsAs (session has_more old (lines_of all)) new before after)
   ended_at r0 r1 old now new input line before mid after read end answered ends =
       Consumes-whole r0 r1 input (λ all. EndsAs (session has_more old (lines_of all)) new before after) read end
@@ -258,7 +258,7 @@ module _ (has_more : Bool) where
   none_left r [] a e = subst (λ (end : Ending). EndsAs end r a a) (sym (ap (session has_more r) no_line)) (Appends-nil a, refl)
   none_left r (b ∷ line) a e = absurd (not_none b line e)
 
-  -- and over a last one
+  -- a session over a last line
   pub one_left : (r new : ReplayState) (line : List ℕ) (before after : Option (List ℕ)) → All IsInLine line → (length line == 0) ≡ false → new ≡ after_line r (heard_of has_more line) → Appends before after (line_text r (heard_of has_more line)) → EndsAs (session has_more r (lines_of line)) new before after
   one_left r new [] before after within filled moves writes = cc
   one_left r new (b ∷ line) before after within filled moves writes =

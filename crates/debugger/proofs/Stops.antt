@@ -1,11 +1,11 @@
--- Where a run stops.
+-- The moment at which a run stops.
 use Rattle.std.proofs.Common.{◌≡◌, ℕ, zero, suc, ◌+◌, ◌<◌, ◌≤◌, Bool, true, false, if◌then◌else◌, Some, refl, sym, ap, ◌∙◌, inl, inr, arith, eq-or-lt_of_le}
 use Rattle.rv_ledger.specs.Key.{Storage}
 use Rattle.rv_ledger.specs.Call.{Invocation}
 use Rattle.rv_step.specs.declared.machine.Machine.{Machine}
 use Rattle.rv_step.specs.Step.{Progress, Going, Over}
 use Rattle.rv_step.specs.Moment.{is_over, moment_over}
-use Rattle.debugger.specs.Replay.{IsPast, ReplayState, is_at_end, standing, stops}
+use Rattle.debugger.specs.Replay.{IsLaterMoment, ReplayState, is_at_end, standing, stops}
 use Rattle.debugger.specs.More.{first_stop}
 use Rattle.debugger.specs.Session.{stop_of}
 use Rattle.debugger.proofs.Moments.{within_gas}
@@ -13,7 +13,7 @@ use Rattle.debugger.proofs.Moments.{within_gas}
 clash : true ≡ false → ⊥
 clash e = cc
 
--- a run stops where the call is over
+-- a run stops when the call is over
 pub not_over : (is_wanted : Machine → Bool) (at : Progress) → stops is_wanted at ≡ false → is_over at ≡ false
 not_over is_wanted (Going s) h = refl
 not_over is_wanted (Over end out s) h = absurd (clash h)
@@ -27,7 +27,7 @@ stop_here call store is_wanted n m rest false e le before there more =
       | inr less ↦ more less
     ]
 
--- the first moment at which it stops, where that is within reach
+-- the first moment at which it stops, if that is within reach
 pub first_stop_is : (left : ℕ) (call : Invocation) (store : Storage) (is_wanted : Machine → Bool) (n m : ℕ) → n ≤ m → m ≤ n + left → ((k : ℕ) → n ≤ k → k < m → stops is_wanted (moment_over call store k) ≡ false) → stops is_wanted (moment_over call store m) ≡ true → first_stop left is_wanted call store n ≡ m
 unfolding first_stop
 first_stop_is zero call store is_wanted n m le near before there = omega arith
@@ -36,7 +36,7 @@ first_stop_is (suc left) call store is_wanted n m le near before there =
     (λ less. before n (omega arith) less) there
     (λ less. first_stop_is left call store is_wanted (n + 1) m (omega arith) (omega arith) (λ k more below. before k (omega arith) below) there)
 
--- a moment behind one at which the call goes on, with no stop between them, is within reach
+-- a moment after one at which the call is not over, with no stop between them, is within reach
 stop_within : (call : Invocation) (store : Storage) (is_wanted : Machine → Bool) (from m : ℕ) → from < m → is_over (moment_over call store from) ≡ false → ((k : ℕ) → from < k → k < m → stops is_wanted (moment_over call store k) ≡ false) → m ≤ call.gas + 1
 stop_within call store is_wanted from zero less going between = absurd (omega arith)
 stop_within call store is_wanted from (suc n) less going between =
@@ -56,8 +56,8 @@ same_state old new m call store moment =
     ∙ ap (λ (s : Storage). record old { store = s; moment = new.moment }) (sym store)
     ∙ ap (λ (x : Invocation). record new { call = x }) (sym call)
 
--- a run goes where it is to go
-pub stop_is : (is_wanted : Machine → Bool) (old new : ReplayState) → is_at_end old ≡ false → IsPast is_wanted old new → old.moment < new.moment → stops is_wanted (moment_over new.call new.store new.moment) ≡ true → stop_of is_wanted old ≡ Some new
+-- a run that stopped at a later moment reached the moment of `stop_of`
+pub stop_is : (is_wanted : Machine → Bool) (old new : ReplayState) → is_at_end old ≡ false → IsLaterMoment is_wanted old new → old.moment < new.moment → stops is_wanted (moment_over new.call new.store new.moment) ≡ true → stop_of is_wanted old ≡ Some new
 stop_is is_wanted old new going past later there =
     let within = stop_within old.call old.store is_wanted old.moment new.moment later going past.between in
     let here : stops is_wanted (moment_over old.call old.store new.moment) ≡ true =
@@ -69,7 +69,7 @@ stop_is is_wanted old new going past later there =
     rw going (ap Some (same_state old new (first_stop (old.call.gas + 1) is_wanted old.call old.store (old.moment + 1)) past.call past.store first))
 
 -- a run that has not moved yet
-pub still_past : (is_wanted : Machine → Bool) (r : ReplayState) → IsPast is_wanted r r × (r.moment < r.moment → stops is_wanted (standing r) ≡ false)
+pub still_past : (is_wanted : Machine → Bool) (r : ReplayState) → IsLaterMoment is_wanted r r × (r.moment < r.moment → stops is_wanted (standing r) ≡ false)
 still_past is_wanted r = (
   record {
     call = refl;

@@ -4,7 +4,6 @@ use Rattle.std.specs.Fmt.{decimal}
 use Rattle.debugger.specs.declared.fault.ReplayFault.{ReplayFault}
 use Rattle.debugger.specs.declared.fault.ReplayFault.TheVariants.{NoSuchCall, AtEnd, AtStart, BadRange, Memory}
 
--- the number of a refusal
 abbrev pub number_of : ReplayFault → ℕ
 number_of NoSuchCall = 1
 number_of AtEnd = 2
@@ -12,7 +11,6 @@ number_of AtStart = 3
 number_of BadRange = 4
 number_of Memory = 5
 
--- its name
 abbrev pub name_of : ReplayFault → List ℕ
 name_of NoSuchCall = codes "NoSuchCall"
 name_of AtEnd = codes "AtEnd"
@@ -20,6 +18,6 @@ name_of AtStart = codes "AtStart"
 name_of BadRange = codes "BadRange"
 name_of Memory = codes "Memory"
 
--- both, as they are printed
+-- the name and the number, as they are printed
 unfoldable pub fault_text : ReplayFault → List ℕ
 fault_text fault = name_of fault ++ codes " " ++ decimal (number_of fault)

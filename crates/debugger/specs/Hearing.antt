@@ -1,4 +1,4 @@
--- Private help of proofs: no public clause cites it. How a session goes on with parts of its input.
+-- Private help of proofs: no public clause cites it. How a session continues with parts of its input.
 use Rattle.std.specs.Prelude.{◌≡◌, ℕ, ◌==◌, Bool, true, false, All, List, [], ◌∷◌, ◌++◌, Option}
 use Rattle.std.specs.Io.KnownBytes.{Appends}
 use Rattle.debugger.specs.declared.fault.DebugFault.{DebugFault}
@@ -23,7 +23,7 @@ abbrev pub EndsWith : Bool → ReplayState → List ℕ → ReplayState → List
 EndsWith has_more old input new text =
     (rest : List ℕ) → session has_more old (lines_of (input ++ rest)) ≡ record { text = text; replay = new }
 
--- a session has taken an input: it goes on with the beginning of its next line, or it has ended
+-- a session has taken an input: it continues with the beginning of its next line, or it has ended
 abbrev pub HasHeard : Bool → Bool → ReplayState → List ℕ → ReplayState → List ℕ → Option (List ℕ) → Option (List ℕ) → Type 0
 HasHeard has_more true old input new line before after = HasAnswered has_more old input new line before after
 HasHeard has_more false old input new line before after =
@@ -37,6 +37,6 @@ Hears has_more goes_on old line part new next before after = HasHeard has_more g
 abbrev pub IsCutIn : Bool → DebugFault → ReplayState → List ℕ → ReplayState → Option (List ℕ) → Option (List ℕ) → Type 0
 IsCutIn has_more fault old input new before after = (rest : List ℕ) → IsCutShort has_more fault old (lines_of (input ++ rest)) new before after
 
--- it was cut before or in the answer to a line
+-- a session was cut before or in the answer to a line
 abbrev pub IsCutAnswer : Bool → DebugFault → ReplayState → List ℕ → ReplayState → Option (List ℕ) → Option (List ℕ) → Type 0
 IsCutAnswer has_more fault old line new before after = (part : List ℕ) × IsCutAt has_more fault old (line ∷ []) new part × Appends before after part

@@ -1,4 +1,4 @@
--- What `debug` prints for its lines, and where it leaves the replay.
+-- What `debug` prints for its lines, and what they do to the replay.
 use Rattle.std.specs.Prelude.{◌≡◌, ⊤, ℕ, ◌+◌, ◌-◌, ◌^◌, ◌<◌, ◌≤◌, ◌==◌, ◌⊎◌, Bool, true, false, All, List, [], ◌∷◌, ◌++◌, codes, length, Option, Some, None, IfSome, if◌then◌else◌}
 use Rattle.std.specs.Io.KnownBytes.{Appends}
 use Rattle.block_file.specs.Line.{cut}
@@ -15,24 +15,23 @@ use Rattle.debugger.specs.Command.{heard_of}
 use Rattle.debugger.specs.Faults.{fault_text}
 use Rattle.rv_step.specs.declared.machine.Machine.{Machine}
 use Rattle.debugger.specs.More.{IsTowards, at_moment, changes, content_line, content_now, end_line, first_stop, help_text}
-use Rattle.debugger.specs.Replay.{IsPast, ReplayState, bytes_seen, has_pc, is_at_end, is_in_memory, machine_at, next_of, previous_of, standing, stops, where_text}
+use Rattle.debugger.specs.Replay.{IsLaterMoment, ReplayState, are_bytes_in_memory, bytes_seen, has_pc, is_at_end, next_of, previous_of, standing, standing_machine, stops, where_text}
 
--- the line of a refusal
-abbrev pub refusal_line : ReplayFault → List ℕ
-refusal_line fault = codes "refused " ++ (fault_text fault ++ 10 ∷ [])
+abbrev pub replay_refusal_line : ReplayFault → List ℕ
+replay_refusal_line fault = codes "refused " ++ (fault_text fault ++ 10 ∷ [])
 
 abbrev pub where_line : ReplayState → List ℕ
 where_line r = where_text r ++ 10 ∷ []
 
--- where a run goes, if this is not the last moment; a call is over after at most one step more than it has gas
+-- the replay after a run, if this is not the last moment; a call is over after at most one step more than it has gas
 abbrev pub stop_of : (Machine → Bool) → ReplayState → Option ReplayState
 stop_of is_wanted r =
     if is_at_end r then None else Some (record r { moment = first_stop (r.call.gas + 1) is_wanted r.call r.store (r.moment + 1) })
 
--- a move prints where it led, or its refusal
+-- a move prints its new moment, or its refusal
 abbrev pub moved_text : ReplayFault → Option ReplayState → List ℕ
 moved_text edge (Some r) = where_line r
-moved_text edge None = refusal_line edge
+moved_text edge None = replay_refusal_line edge
 
 abbrev pub moved : ReplayState → Option ReplayState → ReplayState
 moved r (Some s) = s
@@ -40,14 +39,14 @@ moved r None = r
 
 abbrev pub seen_text : Option (List ℕ) → List ℕ
 seen_text (Some bytes) = bytes_text bytes ++ 10 ∷ []
-seen_text None = refusal_line BadRange
+seen_text None = replay_refusal_line BadRange
 
--- a run to a change of bytes goes nowhere where some of them lie outside memory
+-- a run to a change of bytes goes nowhere if some of them are outside memory
 abbrev pub change_of : ℕ → ℕ → ReplayState → Option ReplayState
-change_of address len r = if is_in_memory address len then stop_of (changes address len r) r else None
+change_of address len r = if are_bytes_in_memory address len then stop_of (changes address len r) r else None
 
 abbrev pub changed_text : ℕ → ℕ → ReplayState → List ℕ
-changed_text address len r = moved_text (if is_in_memory address len then AtEnd else BadRange) (change_of address len r)
+changed_text address len r = moved_text (if are_bytes_in_memory address len then AtEnd else BadRange) (change_of address len r)
 
 -- what a command prints
 abbrev pub answer_text : ReplayState → Command → List ℕ
@@ -55,7 +54,7 @@ answer_text r Step = moved_text AtEnd (next_of r)
 answer_text r Back = moved_text AtStart (previous_of r)
 answer_text r (RunTo pc) = moved_text AtEnd (stop_of (has_pc pc) r)
 answer_text r Where = where_line r
-answer_text r Registers = regs_line (machine_at r).regs
+answer_text r Registers = regs_line (standing_machine r).regs
 answer_text r (Bytes address count) = seen_text (bytes_seen r address count)
 answer_text r Quit = []
 answer_text r (GoTo moment) = moved_text AtEnd (at_moment moment r)
@@ -64,7 +63,6 @@ answer_text r End = end_line r
 answer_text r (Value key) = content_line (content_now r key)
 answer_text r Help = help_text
 
--- and where it leaves the replay
 abbrev pub after_command : ReplayState → Command → ReplayState
 after_command r Step = moved r (next_of r)
 after_command r Back = moved r (previous_of r)
@@ -86,20 +84,20 @@ abbrev pub is_quit : Option Command → Bool
 is_quit (Some Quit) = true
 is_quit _ = false
 
--- what a session printed, and where it left the replay
+-- what a session printed, and the replay that it left
 pub record Ending : Type 0 where
   pub text : List ℕ
   pub replay : ReplayState
 
-abbrev pub behind : List ℕ → Ending → Ending
-behind text e = record e { text = text ++ e.text }
+abbrev pub after_text : List ℕ → Ending → Ending
+after_text text e = record e { text = text ++ e.text }
 
--- a session over lines, up to the first that quits; the lines of `--more` are heard or are not
+-- a session over lines, up to the first that quits; the flag says whether the lines of `--more` are commands too
 unfoldable pub session : Bool → ReplayState → List (List ℕ) → Ending
 session has_more r [] = record { text = []; replay = r }
 session has_more r (line ∷ lines) =
     if is_quit (heard_of has_more line) then record { text = []; replay = r } else
-    behind (line_text r (heard_of has_more line)) (session has_more (after_line r (heard_of has_more line)) lines)
+    after_text (line_text r (heard_of has_more line)) (session has_more (after_line r (heard_of has_more line)) lines)
 
 -- the lines among the parts between LFs: what follows the last LF is a line unless it is empty
 abbrev pub with_last : List (List ℕ) → List (List ℕ)
@@ -107,11 +105,10 @@ with_last [] = []
 with_last (rest ∷ []) = if length rest == 0 then [] else rest ∷ []
 with_last (line ∷ next ∷ more) = line ∷ with_last (next ∷ more)
 
--- the lines of a text
 unfoldable pub lines_of : List ℕ → List (List ℕ)
 lines_of text = with_last (cut 10 text)
 
--- a session ended like this: its text was written, and the replay stands where the session left it
+-- a session ended like this: its text was written, and the replay is the one that the session left
 abbrev pub EndsAs : Ending → ReplayState → Option (List ℕ) → Option (List ℕ) → Type 0
 EndsAs ending new before after = Appends before after ending.text × (new ≡ ending.replay)
 
@@ -119,7 +116,7 @@ EndsAs ending new before after = Appends before after ending.text × (new ≡ en
 abbrev pub MayBeCutOff : Type 0 → Option (List ℕ) → Type 0
 MayBeCutOff may_fail input = may_fail ⊎ IfSome input (λ bytes. 2 ^ 64 - 1 ≤ length bytes)
 
--- a session may be refused so: for its output only where a write may be refused so, and never as Memory of the output
+-- a session may be refused with this fault: with Output only if a write may be refused so, and never with Output of Memory
 abbrev pub IsPossibleFault : (WriteFault → Type 0) → DebugFault → Type 0
 IsPossibleFault may_refuse (Output output.Memory) = ⊥
 IsPossibleFault may_refuse (Output fault) = may_refuse fault
@@ -133,21 +130,21 @@ AppendsBeginning before after text = (done : List ℕ) × (rest : List ℕ) × (
 abbrev pub IsHeardOn : Bool → List ℕ → Type 0
 IsHeardOn has_more line = is_quit (heard_of has_more line) ≡ false
 
--- on the way of a run, or where it leads: before it, at any moment before the one at which it stops, or behind it
+-- on the way of a run: before it, at any moment before the one at which it stops, or after it
 abbrev pub IsOnRun : (Machine → Bool) → ReplayState → ReplayState → ReplayState → Type 0
 IsOnRun is_wanted r after new =
-    (new ≡ after) ⊎ (IsPast is_wanted r new × (r.moment < new.moment → stops is_wanted (standing new) ≡ false))
+    (new ≡ after) ⊎ (IsLaterMoment is_wanted r new × (r.moment < new.moment → stops is_wanted (standing new) ≡ false))
 
--- on the way of a line's move: before it or behind it; on a run, or on the way to a moment, also at any moment between
+-- on the way of a line's move: before it or after it; for a run, or a move to a moment, also at any moment between
 abbrev pub IsOnWay : ReplayState → Option Command → ReplayState → Type 0
 IsOnWay r (Some (RunTo pc)) new = IsOnRun (has_pc pc) r (after_command r (RunTo pc)) new
 IsOnWay r (Some (RunToChange address len)) new = IsOnRun (changes address len r) r (after_command r (RunToChange address len)) new
 IsOnWay r (Some (GoTo moment)) new = (new ≡ after_command r (GoTo moment)) ⊎ IsTowards moment r new
 IsOnWay r command new = (new ≡ r) ⊎ (new ≡ after_line r command)
 
--- where a fault leaves a session that stands at a replay before the lines that are left, and what of the next answer
--- was written. Unreadable comes between two lines; Output in the answer of a line, whose move stands; Memory before
--- any of an answer is written, and then the move of that line was made, or not, or in part.
+-- what a fault leaves of a session that is at a replay before the remaining lines: the new replay, and the written part of the
+-- next answer. Unreadable comes between two lines. Output comes in the answer of a line, whose move was made. Memory comes
+-- before any of an answer is written; the move of that line was then made, or not, or in part.
 abbrev pub IsCutAt : Bool → DebugFault → ReplayState → List (List ℕ) → ReplayState → List ℕ → Type 0
 IsCutAt has_more Unreadable r rest new part = (new ≡ r) × (part ≡ [])
 IsCutAt has_more (Output fault) r [] new part = ⊥

@@ -1,11 +1,11 @@
-//! What a command prints, and where it leaves the replay.
+//! What a command prints, and what it does to the replay.
 
 ghost use Rattle.std.specs.Prelude.{◌≡◌, ◌++◌, ◌∷◌, [], IfOk, OnErr, OnOk};
 ghost use Rattle.std.specs.String.{string_bytes};
 ghost use Rattle.debugger.specs.declared.fault.ReplayFault.TheVariants.{AtEnd, AtStart};
 ghost use Rattle.debugger.specs.More.{at_moment, content_line, help_text};
 ghost use Rattle.debugger.specs.Replay.{bytes_seen, has_pc, next_of, previous_of};
-ghost use Rattle.debugger.specs.Session.{IsOnWay, after_command, after_line, answer_text, change_of, changed_text, line_text, moved, moved_text, refusal_line, seen_text, stop_of, where_line};
+ghost use Rattle.debugger.specs.Session.{IsOnWay, after_command, after_line, answer_text, change_of, changed_text, line_text, moved, moved_text, replay_refusal_line, seen_text, stop_of, where_line};
 
 use crate::command::Command;
 use crate::fault::ReplayFault;
@@ -14,8 +14,7 @@ use receipts::{bytes_text, regs_line};
 use rv_ledger::Value;
 use std::alloc::{AllocError, Global};
 
-/// Does what a line asks for, and returns what it prints: `what` where the line is not a command.
-/// Refused where memory ran out.
+/// Does what a line asks for, and returns what it prints: `what` if the line is not a command. Refused if memory ran out.
 pub(crate) fn line_text(
     alloc: Global,
     replay: &mut Replay,
@@ -31,7 +30,7 @@ pub(crate) fn line_text(
     }
 }
 
-/// Does a command, and returns what it prints. Refused where memory ran out.
+/// Does a command, and returns what it prints. Refused if memory ran out.
 fn answer_text(alloc: Global, replay: &mut Replay, command: Command) -> Result<String, AllocError>
     ensures text { IfOk result (λ t. string_bytes t ≡ answer_text replay.old command) }
     ensures replay { OnOk result (replay.new ≡ after_command replay.old command) }
@@ -123,7 +122,7 @@ fn changed_text(
     }
 }
 
-/// The line of a value, or that there is none; refused where memory ran out.
+/// The line of a value, or `absent` if there is none. Refused if memory ran out.
 fn content_line(alloc: Global, content: Option<Value>) -> Result<String, AllocError>
     ensures { IfOk result (λ t. string_bytes t ≡ content_line content) }
 {
@@ -136,7 +135,7 @@ fn content_line(alloc: Global, content: Option<Value>) -> Result<String, AllocEr
     }
 }
 
-/// The lines that there are; refused where memory ran out.
+/// The help: each line, and what it does. Refused if memory ran out.
 fn help_text(alloc: Global) -> Result<String, AllocError>
     ensures { IfOk result (λ t. string_bytes t ≡ help_text) }
 {
@@ -146,7 +145,7 @@ fn help_text(alloc: Global) -> Result<String, AllocError>
     )
 }
 
-/// The line of the moment, its pc and the word there; refused where memory ran out.
+/// The line of the moment, its pc and the word there. Refused if memory ran out.
 fn where_line(alloc: Global, replay: &Replay) -> Result<String, AllocError>
     ensures { IfOk result (λ t. string_bytes t ≡ where_line replay.now) }
 {
@@ -177,7 +176,7 @@ fn seen_text(alloc: Global, replay: &Replay, address: u32, count: u32) -> Result
 
 /// The line of a refusal.
 fn refusal_line(alloc: Global, fault: ReplayFault) -> Result<String, AllocError>
-    ensures { IfOk result (λ t. string_bytes t ≡ refusal_line fault) }
+    ensures { IfOk result (λ t. string_bytes t ≡ replay_refusal_line fault) }
 {
     format!(in alloc; "refused {fault}\n")
 }

@@ -1,7 +1,7 @@
-//! The commands of `debug`, and the lines that stand for them.
+//! The commands of `debug`, and the lines that give them.
 
 ghost use Rattle.std.specs.Prelude.{◌≡◌, map, IfOk};
-ghost use Rattle.debugger.specs.Command.{address_of, bytes_command, change_command, command_of, command_of_fields, count_of, heard_of, moment_of, more_command_of_fields, more_operand_command, more_word_command, run_to_command, word_command};
+ghost use Rattle.debugger.specs.Command.{bytes_command, change_command, command_of_fields, heard_of, moment_of, more_command_of_fields, more_operand_command, more_word_command, run_to_command, typed_address, typed_byte_count, typed_command, word_command};
 
 use block_file::fields::{decimal, is_lower_hex, key, parts};
 use rv_ledger::Key;
@@ -32,27 +32,26 @@ pub enum Command {
     Quit,
     /// Go to this moment.
     GoTo(u32),
-    /// Go to the first later moment at which one of some bytes of memory is another, or to the last moment: the address of
-    /// the first one, and their number, at most 4,096.
+    /// Go to the first later moment at which one of these bytes of memory has changed, or to the last moment: the address of
+    /// the first byte, and the number of bytes, at most 4,096.
     RunToChange(u32, u32),
     /// Show how the call ends.
     End,
     /// Show what a READ of this key would find.
     Value(Key),
-    /// Show the lines that there are.
+    /// Show the help: each line, and what it does.
     Help,
 }
 
-/// The command of a line without its LF, or None where the line is not a command; refused where
-/// memory ran out.
+/// The command of a line without its LF, or None if the line is not a command. Refused if memory ran out.
 pub fn command_of(alloc: Global, line: &[u8]) -> Result<Option<Command>, AllocError>
-    ensures { IfOk result (λ command. command ≡ command_of line.now) }
+    ensures { IfOk result (λ command. command ≡ typed_command line.now) }
 {
     let fields = parts(alloc, line, b' ')?;
     Ok(command_of_fields(fields.as_slice()))
 }
 
-/// The same, and where `has_more` is true also the commands of `--more`.
+/// The same as `command_of`. If `has_more` is true, the lines of `--more` are commands too.
 pub fn heard_of(alloc: Global, has_more: bool, line: &[u8]) -> Result<Option<Command>, AllocError>
     ensures { IfOk result (λ command. command ≡ heard_of has_more line.now) }
 {
@@ -125,7 +124,7 @@ fn bytes_command(word: &[u8], address: &[u8], count: &[u8]) -> Option<Command>
 
 /// The address that eight lower-case hex digits give, the highest first.
 fn address_of(text: &[u8]) -> Option<u32>
-    ensures { result ≡ address_of text.now }
+    ensures { result ≡ typed_address text.now }
 {
     let mut bytes = [0; 4];
     if !is_lower_hex(text) || hex::decode_to_slice(text, &mut bytes).is_err() {
@@ -136,7 +135,7 @@ fn address_of(text: &[u8]) -> Option<u32>
 
 /// The number of bytes that a decimal up to 4096 gives.
 fn count_of(text: &[u8]) -> Option<u32>
-    ensures { result ≡ count_of text.now }
+    ensures { result ≡ typed_byte_count text.now }
 {
     match decimal(text) {
         Some(count) if count <= BYTE_LIMIT => Some(count as u32),

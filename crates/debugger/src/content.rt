@@ -6,7 +6,7 @@ ghost use Rattle.debugger.specs.More.{content_with};
 
 use rv_ledger::{Change, LentValue, StoredValue, Value, add};
 
-/// What a READ of a key finds that the call has changed so, or not at all, and that has this in the storage.
+/// What a READ of a key finds. `own` is the call's own change of the key, if any, and `stored` is what the storage has.
 pub(crate) fn content_with(
     own: Option<&Change<StoredValue>>,
     stored: Option<&StoredValue>,

@@ -5,7 +5,8 @@ ghost use Rattle.std.specs.String.{string_bytes};
 ghost use Rattle.rv_step.specs.Chain.{ends};
 ghost use Rattle.rv_step.specs.Moment.{moment_over};
 ghost use Rattle.debugger.specs.More.{ending_line, last_moment, receipt_line};
-ghost use Rattle.debugger.specs.ReplayMoment.{HasEnded, is_ended};
+ghost use Rattle.rv_step.specs.Over.{is_ended};
+ghost use Rattle.debugger.specs.ReplayMoment.{HasEnded};
 
 use crate::running::go_run;
 use receipts::{bytes_text, end_name};
@@ -13,7 +14,7 @@ use rv_ledger::{Call, End, Store};
 use rv_step::{Run, Stage};
 use std::alloc::{AllocError, Global};
 
-/// The line of how a call ends over a storage; refused where memory ran out.
+/// The line of how a call ends over a storage. Refused if memory ran out.
 pub(crate) fn end_line(alloc: Global, call: &Call, store: &Store) -> Result<String, AllocError>
     ensures { IfOk result (λ t. string_bytes t ≡ receipt_line (ends call.now store.now) (last_moment call.now store.now)) }
 {
@@ -25,7 +26,7 @@ pub(crate) fn end_line(alloc: Global, call: &Call, store: &Store) -> Result<Stri
     }
 }
 
-/// The run of a call over a storage at its last moment, and that moment; refused where memory ran out.
+/// The run of a call over a storage at its last moment, and that moment. Refused if memory ran out.
 #[tactic(auto, unfolding(rv_step::specs::Moment::moment_from))]
 fn run_to_end(alloc: Global, call: &Call, store: &Store) -> Result<(Run, u64), AllocError>
     ensures { IfOk result (λ at. HasEnded call.now store.now at.0 at.1) }
@@ -47,7 +48,7 @@ fn is_ended(run: &Run) -> bool
     matches!(run.stage(), Stage::Ended(_, _))
 }
 
-/// The line of an end, its output, the gas that was used, and the last moment; refused where memory ran out.
+/// The line of an end, its output, the gas that was used, and the last moment. Refused if memory ran out.
 fn ending_line(
     alloc: Global,
     end: End,

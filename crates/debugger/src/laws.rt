@@ -10,8 +10,8 @@ ghost use Rattle.rv_step.specs.Fold.{receipts_of, store_before};
 ghost use Rattle.rv_step.specs.Moment.{is_over, machine_of, moment_over};
 ghost use Rattle.debugger.specs.Replay.{AgreesAtEnd, opened};
 
-/// A law, and no code: where an outcome's receipts are those of running its calls in order, a replay of
-/// one of the calls is over the storage that the calls before it left.
+/// A law, and no code: if an outcome's receipts are those of running its calls in order, a replay of one of the calls is over
+/// the storage that the calls before it left.
 pub fn opens_over_its_storage()
     ensures { (outcome : Outcome) (index : ℕ)
         → outcome.receipts.items ≡ receipts_of outcome.job.block outcome.job.store
@@ -28,8 +28,8 @@ pub fn last_moment_is_the_receipts()
         → (machine_of (moment_over call store n)).regs ≡ (ends call store).regs }
 {}
 
-/// A law, and no code: where an outcome's receipts are those of running its calls in order, a replay of one
-/// of the calls ends with the pc and the registers of the outcome's receipt of that call.
+/// A law, and no code: if an outcome's receipts are those of running its calls in order, a replay of one of the calls ends with
+/// the pc and the registers of the outcome's receipt of that call.
 pub fn replay_ends_as_its_receipt()
     ensures { (outcome : Outcome) (index n : ℕ) (receipt : Receipt)
         → outcome.receipts.items ≡ receipts_of outcome.job.block outcome.job.store

@@ -1,7 +1,7 @@
 //! A replay of one call.
 
 ghost use Rattle.std.specs.Prelude.{◌≡◌};
-ghost use Rattle.debugger.specs.Replay.{is_in_memory};
+ghost use Rattle.debugger.specs.Replay.{are_bytes_in_memory};
 
 use crate::content::content_with;
 use crate::ending::end_line;
@@ -16,8 +16,8 @@ use rv_step::{Machine, Run, Stage};
 use std::alloc::{AllocError, Global};
 use std::marker::Model;
 
-/// A replay of one call of a block, over the storage that the calls before it left. It stands at a
-/// moment: the number of steps that were made.
+/// A replay of one call of a block, over the storage that the calls before it left. It is at a moment: the number of steps that
+/// were made.
 #[derive(Drop)]
 pub struct Replay {
     alloc: Global,
@@ -48,11 +48,11 @@ impl Replay {
     ghost use Rattle.debugger.specs.declared.fault.ReplayFault.TheVariants.{AtEnd, AtStart, Memory};
     ghost use Rattle.debugger.specs.Further.{GoesFurther};
     ghost use Rattle.debugger.specs.More.{GoesTo, RunsToChange, content_now, end_line, has_changed};
-    ghost use Rattle.debugger.specs.Replay.{GoesOnBefore, Moves, Opens, RunsTo, Shows, bytes_seen, has_pc, is_at_end, is_in_memory, machine_at, next_of, opened, previous_of, where_text};
+    ghost use Rattle.debugger.specs.Replay.{GoesOnBefore, Moves, Opens, RunsTo, Shows, are_bytes_in_memory, bytes_seen, has_pc, is_at_end, next_of, opened, previous_of, standing_machine, where_text};
 
-    /// Opens the replay of a call of an outcome's job, at moment 0. `index` counts the calls from 0.
-    /// The replay is over the job's storage with the writes of the receipts before the call. Refused as
-    /// NoSuchCall where there is no call at that index, and as Memory where memory ran out.
+    /// Opens the replay of a call of an outcome's job, at moment 0. `index` counts the calls from 0. The replay is over the
+    /// job's storage with the writes of the receipts before the call. Refused as NoSuchCall if there is no call at that index,
+    /// and as Memory if memory ran out.
     pub fn open(alloc: Global, outcome: &Outcome, index: usize) -> Result<Replay, ReplayFault>
         ensures { Opens result (opened outcome.now index) }
     {
@@ -69,7 +69,7 @@ impl Replay {
         }
     }
 
-    /// The replay of a call over a storage, at moment 0; refused where memory ran out.
+    /// The replay of a call over a storage, at moment 0. Refused if memory ran out.
     #[tactic(auto, unfolding(rv_step::specs::Moment::moment_from))]
     pub fn start(alloc: Global, call: &Call, store: Store) -> Result<Replay, AllocError>
         ensures { IfOk result (λ r. r ≡ record { call = call.now; store = store; moment = 0 }) }
@@ -84,8 +84,7 @@ impl Replay {
         })
     }
 
-    /// Goes to the next moment. Refused as AtEnd where the call is over, and as Memory where memory ran
-    /// out; then nothing changes.
+    /// Goes to the next moment. Refused as AtEnd if the call is over, and as Memory if memory ran out; then nothing changes.
     pub fn step(&mut self) -> Result<(), ReplayFault>
         ensures { Moves AtEnd result (next_of self.old) self.old self.new }
     {
@@ -101,8 +100,8 @@ impl Replay {
         }
     }
 
-    /// Goes to the moment before, by running the call again from its start. Refused as AtStart at
-    /// moment 0, and as Memory where memory ran out; then nothing changes.
+    /// Goes to the moment before, by running the call again from its start. Refused as AtStart at moment 0, and as Memory if
+    /// memory ran out; then nothing changes.
     pub fn back(&mut self) -> Result<(), ReplayFault>
         ensures { Moves AtStart result (previous_of self.old) self.old self.new }
     {
@@ -120,9 +119,8 @@ impl Replay {
         }
     }
 
-    /// Goes to the first later moment at which the pc is the given one or the call is over. Refused as
-    /// AtEnd where the call is over already, and then nothing changes. Refused as Memory where memory
-    /// ran out, and then the replay stands at a moment before that one.
+    /// Goes to the first later moment at which the pc is the given one or the call is over. Refused as AtEnd if the call is
+    /// over already; then nothing changes. Refused as Memory if memory ran out; the replay is then at a moment before that one.
     pub fn run_to(&mut self, pc: u32) -> Result<(), ReplayFault>
         ensures { RunsTo (has_pc pc) result self.old self.new }
     {
@@ -133,8 +131,8 @@ impl Replay {
         Ok(())
     }
 
-    /// Goes to a later moment: by `most` steps at most, and not behind the first moment at which the call is over or its pc is
-    /// `stop`. Refused as AtEnd where the call is over already, and as Memory where memory ran out; then nothing changes.
+    /// Goes to a later moment: by at most `most` steps, and not past the first moment at which the call is over or its pc is
+    /// `stop`. Refused as AtEnd if the call is over already, and as Memory if memory ran out; then nothing changes.
     fn go_further(&mut self, stop: Option<u32>, most: u64) -> Result<(), ReplayFault>
         requires { 0 < most }
         ensures { GoesFurther stop most result self.old self.new }
@@ -151,9 +149,9 @@ impl Replay {
         }
     }
 
-    /// Goes to a moment: on by steps, or back by running the call again from its start. Refused as AtEnd where the call is
-    /// over before it, and then nothing changes. Refused as Memory where memory ran out, and then the replay stands where it
-    /// stood, or at a later moment on the way.
+    /// Goes to a moment: forward by steps, or back by running the call again from its start. Refused as AtEnd if the call is
+    /// over before it; then nothing changes. Refused as Memory if memory ran out; the replay is then at its old moment, or at a
+    /// later one on the way.
     pub fn go_to(&mut self, moment: u64) -> Result<(), ReplayFault>
         ensures { GoesTo moment result self.old self.new }
     {
@@ -179,8 +177,8 @@ impl Replay {
         Ok(())
     }
 
-    /// Goes to a moment that is not behind this one, by running the call again from its start. Refused as Memory where
-    /// memory ran out; then nothing changes.
+    /// Goes to a moment that is not after this one, by running the call again from its start. Refused as Memory if memory ran
+    /// out; then nothing changes.
     fn go_back_to(&mut self, moment: u64) -> Result<(), ReplayFault>
         requires { moment ≤ self.old.moment }
         ensures ok { OnOk result (self.new ≡ record self.old { moment = moment }) }
@@ -197,9 +195,9 @@ impl Replay {
         }
     }
 
-    /// Goes to the first later moment at which one of `len` bytes from an address on is another than now, or the call is
-    /// over. Refused as BadRange where the range does not lie in memory, and else as AtEnd where the call is over already;
-    /// then nothing changes. Refused as Memory where memory ran out, and then the replay stands at a moment before that one.
+    /// Goes to the first later moment at which one of `len` bytes from an address on differs from now, or the call is over.
+    /// Refused as BadRange if the range is not in memory, and otherwise as AtEnd if the call is over already; then nothing
+    /// changes. Refused as Memory if memory ran out; the replay is then at a moment before that one.
     pub fn run_to_change(&mut self, address: u32, len: u32) -> Result<(), ReplayFault>
         ensures { RunsToChange address len result self.old self.new }
     {
@@ -219,8 +217,8 @@ impl Replay {
         self.run_while_same(address, len, before.as_slice(), &mut now)
     }
 
-    /// Goes to the first later moment at which `len` bytes from an address on are others than these, or the call is over;
-    /// it is not over yet. `now` has room for them. Refused as Memory where memory ran out, and then the replay stands at a
+    /// Goes to the first later moment at which `len` bytes from an address on differ from `before`, or the call is over. The
+    /// call must not be over yet. `now` has room for the bytes. Refused as Memory if memory ran out; the replay is then at a
     /// moment before that one.
     fn run_while_same(
         &mut self,
@@ -230,7 +228,7 @@ impl Replay {
         now: &mut [u8],
     ) -> Result<(), ReplayFault>
         requires going { is_at_end self.old ≡ false }
-        requires memory { is_in_memory address len ≡ true }
+        requires memory { are_bytes_in_memory address len ≡ true }
         requires room { length now.old ≡ len }
         ensures { RunsTo (has_changed address len before.now) result self.old self.new }
     {
@@ -243,16 +241,16 @@ impl Replay {
 
     /// Whether `len` bytes of memory from an address on are these. `now` has room for them.
     fn has_bytes(&self, address: u32, len: u32, bytes: &[u8], now: &mut [u8]) -> bool
-        requires memory { is_in_memory address len ≡ true }
+        requires memory { are_bytes_in_memory address len ≡ true }
         requires room { length now.old ≡ len }
-        ensures value { has_changed address len bytes.now (machine_at self.now) ≡ not result }
+        ensures value { has_changed address len bytes.now (standing_machine self.now) ≡ not result }
         ensures room { length now.new ≡ length now.old }
     {
         self.machine().memory.inspect(address, now);
         *now == *bytes
     }
 
-    /// The line of how the call ends, by running it again from its start; refused where memory ran out.
+    /// The line of how the call ends, by running it again from its start. Refused if memory ran out.
     pub(crate) fn end_line(&self) -> Result<String, AllocError>
         ensures { IfOk result (λ t. string_bytes t ≡ end_line self.now) }
     {
@@ -267,7 +265,7 @@ impl Replay {
         content_with(self.machine().own.get(key), self.store.get(key))
     }
 
-    /// The moment: the number of steps that were made. The call goes on at each moment before it.
+    /// The moment: the number of steps that were made. The call is not over at any moment before it.
     pub fn moment(&self) -> u64
         ensures value { result ≡ self.now.moment }
         ensures earlier { GoesOnBefore self.now }
@@ -284,28 +282,27 @@ impl Replay {
 
     /// The machine at the moment.
     fn machine(&self) -> &Machine
-        ensures { result.now ≡ machine_at self.now }
+        ensures { result.now ≡ standing_machine self.now }
     {
         self.run.machine()
     }
 
     /// The address of the next instruction, or of the one that ended the call.
     pub fn pc(&self) -> u32
-        ensures { result ≡ (machine_at self.now).pc }
+        ensures { result ≡ (standing_machine self.now).pc }
     {
         self.machine().pc
     }
 
     /// The registers.
     pub fn regs(&self) -> &Regs
-        ensures { result.now ≡ (machine_at self.now).regs }
+        ensures { result.now ≡ (standing_machine self.now).regs }
     {
         &self.machine().regs
     }
 
-    /// `len` bytes of memory from an address on, whatever the rights of their pages. Memory is
-    /// 0x00010000 to 0x0010ffff. Refused as BadRange where the range does not lie in memory, even where
-    /// it is empty, and as Memory where memory ran out.
+    /// `len` bytes of memory from an address on, whatever the rights of their pages. Memory is 0x00010000 to 0x0010ffff.
+    /// Refused as BadRange if the range is not in memory, even if it is empty, and as Memory if memory ran out.
     pub fn bytes(&self, alloc: Global, address: u32, len: u32) -> Result<Vec<u8>, ReplayFault>
         ensures { Shows (λ v. v.items) result (bytes_seen self.now address len) }
     {
@@ -319,9 +316,8 @@ impl Replay {
         Ok(bytes)
     }
 
-    /// Appends the moment in decimal, the pc in eight hex digits, and the text of the word there or
-    /// `fetch-fault` where it may not be fetched. One blank separates them. Refused as Memory where
-    /// memory ran out; the string is then as before.
+    /// Appends the moment in decimal, the pc in eight hex digits, and the text of the word there, or `fetch-fault` if it may
+    /// not be fetched. One blank separates them. Refused as Memory if memory ran out; the string is then as before.
     pub fn where_text(&self, text: &mut String) -> Result<(), ReplayFault>
         ensures { MatchResult result
             (λ _. string_bytes text.new ≡ string_bytes text.old ++ where_text self.now)
@@ -339,7 +335,7 @@ impl Replay {
 
 /// Whether `len` bytes from an address on lie in memory.
 fn is_in_memory(address: u32, len: u32) -> bool
-    ensures { result ≡ is_in_memory address len }
+    ensures { result ≡ are_bytes_in_memory address len }
 {
     FIRST_ADDRESS <= address && u64::from(address) + u64::from(len) <= u64::from(END_ADDRESS)
 }

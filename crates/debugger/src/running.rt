@@ -5,15 +5,14 @@ ghost use Rattle.rv_step.specs.Run.{asked_key};
 ghost use Rattle.rv_step.specs.Moment.{moment_over};
 ghost use Rattle.rv_step.specs.Step.{Going};
 ghost use Rattle.debugger.specs.Further.{GoesOver};
-ghost use Rattle.debugger.specs.ReplayMoment.{GoesOn, IsAnswered, IsRunAt, advance_over};
+ghost use Rattle.debugger.specs.ReplayMoment.{GoesOnUntil, IsAnswered, IsRunAt, advance_over};
 
 use read_set::Origin;
 use rv_ledger::{Call, LentValue, Store};
 use rv_step::{Run, Stage};
 use std::alloc::{AllocError, Global};
 
-/// Makes one step of a run that goes on, over a storage. Refused where memory ran out, and then the
-/// run stands where it stood.
+/// Makes one step over a storage, in a run whose call is not over. Refused if memory ran out; the run then stays at its moment.
 pub(crate) fn step_run(alloc: Global, run: &mut Run, store: &Store) -> Result<(), AllocError>
     requires { IsRunAt (Going run.old.machine) run.old }
     ensures ok { OnOk result (IsRunAt (advance_over store.now (Going run.old.machine)) run.new) }
@@ -25,9 +24,9 @@ pub(crate) fn step_run(alloc: Global, run: &mut Run, store: &Store) -> Result<()
     answer_from(alloc, run, store)
 }
 
-/// Makes steps of a run that goes on, over a storage: one at least, `most` at most, and none behind the first moment at which
-/// the call is over or its pc is `stop`. Returns how many. Refused where memory ran out before the first of them is made, and
-/// then the run stands where it stood.
+/// Makes steps over a storage, in a run whose call is not over: at least one, at most `most`, and none past the first moment at
+/// which the call is over or its pc is `stop`. Returns the number of steps. Refused if memory ran out before the first of them
+/// was made; the run then stays at its moment.
 pub(crate) fn go_run(
     alloc: Global,
     run: &mut Run,
@@ -56,8 +55,8 @@ pub(crate) fn go_run(
     }
 }
 
-/// Answers a run that asks for a key, from a storage. A run that does not ask stays as it is. Refused
-/// where memory ran out, and then nothing changes.
+/// Answers a run that asks for a key, from a storage. A run that does not ask stays as it is. Refused if memory ran out; then
+/// nothing changes.
 fn answer_from(alloc: Global, run: &mut Run, store: &Store) -> Result<(), AllocError>
     ensures ok { OnOk result (IsAnswered store.now run.old run.new) }
     ensures err { OnErr result (run.new ≡ run.old) }
@@ -71,8 +70,7 @@ fn answer_from(alloc: Global, run: &mut Run, store: &Store) -> Result<(), AllocE
     Ok(())
 }
 
-/// The run of a call over a storage after `steps` steps; the call is not over at any moment before.
-/// Refused where memory ran out.
+/// The run of a call over a storage after `steps` steps. The call is not over at any moment before. Refused if memory ran out.
 #[tactic(auto, unfolding(rv_step::specs::Moment::moment_from))]
 pub(crate) fn run_after(
     alloc: Global,
@@ -80,7 +78,7 @@ pub(crate) fn run_after(
     store: &Store,
     steps: u64,
 ) -> Result<Run, AllocError>
-    requires { GoesOn call.now store.now steps }
+    requires { GoesOnUntil call.now store.now steps }
     ensures { IfOk result (λ run. IsRunAt (moment_over call.now store.now steps) run) }
 {
     let mut run = Run::start(alloc, call)?;

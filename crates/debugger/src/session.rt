@@ -22,8 +22,8 @@ const LINE_END: u8 = b'\n';
 /// The greatest number of bytes that are read at once.
 const READ_SIZE: usize = 256;
 
-/// Reads lines up to a line `q` or the end of the input; the lines of `--more` are no commands. What is done and refused is
-/// said at `debug_lines_to`.
+/// Reads lines up to a line `q` or the end of the input. The lines of `--more` are not commands. `debug_lines_to` says what is
+/// done and what is refused.
 pub fn debug_to<R: Source, W: Destination>(
     alloc: Global,
     replay: &mut Replay,
@@ -40,13 +40,14 @@ pub fn debug_to<R: Source, W: Destination>(
     debug_lines_to(alloc, false, replay, lines, out)
 }
 
-/// Reads lines up to a line `q` or the end of the input, where `has_more` is true also those of `--more`. Does the command of each line as soon as the line
-/// is read, and writes what it prints. The last line needs no LF. The first refusal ends the session,
-/// and the lines before it are answered: their moves were made, and their answers written in whole.
-/// Unreadable where a read failed, or the input is longer than 2^64 - 2 bytes: nothing else was done. Output where a write failed: the move of the
-/// line whose answer was being written was made, and a beginning of that answer was written. Memory where
-/// memory ran out: nothing of the next line's answer was written, and its move was made or not; a run, or a move to a
-/// moment, may also have gone a part of its way.
+/// Reads lines up to a line `q` or the end of the input. If `has_more` is true, the lines of `--more` are commands too. Does
+/// the command of each line as soon as the line is read, and writes what it prints. The last line needs no LF. The first
+/// refusal ends the session. The lines before it are answered: their moves were made, and their answers were written in full.
+/// Unreadable if a read failed, or if the input is longer than 2^64 - 2 bytes: nothing else was done.
+/// Output if a write failed: the move of the line whose answer was being written was made, and a beginning of that answer was
+/// written.
+/// Memory if memory ran out: nothing of the next line's answer was written, and its move was made or not. A run, or a move to a
+/// moment, may also have gone part of its way.
 pub fn debug_lines_to<R: Source, W: Destination>(
     alloc: Global,
     has_more: bool,
@@ -91,8 +92,8 @@ pub fn debug_lines_to<R: Source, W: Destination>(
     Err(DebugFault::Unreadable)
 }
 
-/// Reads the next part of the input, as `read_part` does, behind the answers to a writer: where there are any, the last of
-/// them is flushed.
+/// Reads the next part of the input, as `read_part` does, after the answers so far. If `has_answered` is true, the last answer
+/// must be flushed.
 fn read_behind<R: Source, W: Destination>(
     lines: &mut R,
     part: &mut [u8],
@@ -132,9 +133,9 @@ fn hear_end<W: Destination>(
     }
 }
 
-/// Takes a part of the input. `line` is the beginning of a line that came before it. Returns whether the
-/// session goes on; then `line` is the beginning of the next line, and `has_answered` says whether a line was answered, here or
-/// before: the last answer is flushed.
+/// Takes a part of the input. `line` is the beginning of a line that came before it. Returns whether the session continues. If
+/// it does, `line` is then the beginning of the next line, and `has_answered` says whether a line was answered, here or before.
+/// The last answer is flushed.
 fn hear<W: Destination>(
     alloc: Global,
     has_more: bool,
@@ -173,7 +174,7 @@ fn hear<W: Destination>(
     Ok(true)
 }
 
-/// Does the command of a line, and writes what it prints. Returns whether the session goes on.
+/// Does the command of a line, and writes what it prints. Returns whether the session continues.
 fn answer_line<W: Destination>(
     alloc: Global,
     has_more: bool,

@@ -1,12 +1,12 @@
 //! The storage before a call.
 
 ghost use Rattle.std.specs.Prelude.{◌≡◌, take, IfOk};
-ghost use Rattle.debugger.specs.Replay.{store_left};
+ghost use Rattle.debugger.specs.Replay.{store_with_receipts};
 
 use rv_ledger::{Receipt, Store, apply_writes};
 use std::alloc::AllocError;
 
-/// The first `count` receipts, or all where there are fewer.
+/// The first `count` receipts, or all if there are fewer.
 pub(crate) fn first_receipts(receipts: &[Receipt], count: usize) -> &[Receipt]
     ensures { result.now ≡ take count receipts.now }
 {
@@ -17,10 +17,10 @@ pub(crate) fn first_receipts(receipts: &[Receipt], count: usize) -> &[Receipt]
     }
 }
 
-/// The storage that receipts leave; refused where memory ran out.
-#[tactic(auto, unfolding(crate::specs::Replay::store_left))]
+/// The storage that receipts leave. Refused if memory ran out.
+#[tactic(auto, unfolding(crate::specs::Replay::store_with_receipts))]
 pub(crate) fn store_left(store: &Store, receipts: &[Receipt]) -> Result<Store, AllocError>
-    ensures { IfOk result (λ s. s ≡ store_left store.now receipts.now) }
+    ensures { IfOk result (λ s. s ≡ store_with_receipts store.now receipts.now) }
 {
     let mut left = store.copy()?;
     for receipt in receipts {

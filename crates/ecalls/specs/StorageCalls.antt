@@ -27,7 +27,7 @@ a2 registers = slice_index registers 12
 abbrev pub a7 : List ℕ → ℕ
 a7 registers = slice_index registers 17
 
--- ADD, where the rules know it
+-- ADD, if the rules know it
 abbrev pub add_under : Rules → Option StorageCall
 add_under rules.One = None
 add_under rules.Two = None
@@ -134,7 +134,7 @@ request_with call.Return r memory = request.Return (bytes_at memory (a0 r) (a1 r
 request_with call.Revert r memory = request.Revert (bytes_at memory (a0 r) (a1 r))
 request_with call.Add r memory = request.Add (bytes_at memory (a0 r) 32) (added_amount r)
 
--- what a call asks for, or MemoryFault where it lacks a right
+-- what a call asks for, or MemoryFault if it lacks a right
 abbrev pub request_by : StorageCall → List ℕ → Space → Result StorageRequest Trap
 request_by call registers memory =
     if has_rights call registers memory then Ok (request_with call registers memory) else Err MemoryFault

@@ -7,7 +7,7 @@ ghost use Rattle.ecalls.specs.StorageCalls.{is_readable};
 use rv_ledger::{InlineBytes, Key};
 use rv_mem::Memory;
 
-/// The key at an address, or None where a byte of it may not be read.
+/// The key at an address, or None if a byte of it may not be read.
 #[inline(always)]
 pub fn key_at(memory: &Memory, address: u32) -> Option<Key>
     ensures { result ≡ (if is_readable memory.now address 32 then Some (bytes_at memory.now address 32) else None) }
@@ -17,7 +17,7 @@ pub fn key_at(memory: &Memory, address: u32) -> Option<Key>
     Some(Key::new(bytes))
 }
 
-/// The `len` bytes at an address, or None where one of them may not be read.
+/// The `len` bytes at an address, or None if one of them may not be read.
 #[inline(always)]
 pub fn bytes_at<const LIMIT: usize>(
     memory: &Memory,

@@ -13,8 +13,8 @@ use rv_isa::{Reg, Regs};
 use rv_ledger::{Change, Output, Rules, Trap, Write};
 use rv_mem::Memory;
 
-/// What the ECALL asks for, or the first trap that it meets: UnknownCall, BadLength, or MemoryFault
-/// where a byte of its key, buffer, value or output lacks the right that it needs.
+/// What the ECALL asks for, or the first trap that it meets: UnknownCall, BadLength, or MemoryFault if a byte of its key,
+/// buffer, value or output lacks the right that it needs.
 #[tactic(auto, unfolding(crate::specs::StorageCalls::request_of))]
 pub fn request(registers: &Regs, memory: &Memory, rules: Rules) -> Result<StorageRequest, Trap>
     ensures { result ≡ request_of registers.now memory.now rules }
@@ -22,8 +22,8 @@ pub fn request(registers: &Regs, memory: &Memory, rules: Rules) -> Result<Storag
     request_by(requested_call(registers, rules)?, registers, memory)
 }
 
-/// What a storage call asks for, or MemoryFault where a byte of its key, buffer, value or output lacks
-/// the right that it needs. The length of the call must be at most 256 bytes, which no limit is above.
+/// What a storage call asks for, or MemoryFault if a byte of its key, buffer, value or output lacks the right that it
+/// needs. The length of the call must be at most 256 bytes; no limit is above this.
 fn request_by(call: StorageCall, registers: &Regs, memory: &Memory) -> Result<StorageRequest, Trap>
     requires { length_of call registers.now ≤ 256 }
     ensures { result ≡ request_by call registers.now memory.now }

@@ -22,7 +22,7 @@ pub enum StorageCall {
     Return = 3,
     /// Ends the call with an output; its writes are dropped.
     Revert = 4,
-    /// Adds an amount to the number at a key without reading it; known under rules three alone.
+    /// Adds an amount to the number at a key without reading it; only rules three know it.
     Add = 5,
 }
 
@@ -47,7 +47,7 @@ impl StorageCall {
         self as u32
     }
 
-    /// The storage call that has a number under some rules, or None where none has it.
+    /// The storage call that has a number under some rules, or None if none has it.
     fn of(rules: Rules, number: u32) -> Option<StorageCall>
         ensures { result ≡ numbered_call rules number }
     {
@@ -62,7 +62,7 @@ impl StorageCall {
         }
     }
 
-    /// ADD, or None where the rules do not know it.
+    /// ADD, or None if the rules do not know it.
     fn add_under(rules: Rules) -> Option<StorageCall>
         ensures { result ≡ add_under rules }
     {
@@ -95,8 +95,7 @@ impl StorageCall {
         }
     }
 
-    /// The gas of the call before it acts, 10 to 1,424. Its length must be at most 256 bytes, which no
-    /// limit is above.
+    /// The gas of the call before it acts, 10 to 1,424. Its length must be at most 256 bytes; no limit is above this.
     pub fn charge(self, registers: &Regs) -> u32
         requires { length_of self registers.now ≤ 256 }
         ensures { result ≡ charge_of self registers.now }
@@ -110,9 +109,9 @@ impl StorageCall {
     }
 }
 
-/// The storage call whose number is in a7. Traps UnknownCall where no call has that number under the rules,
-/// and else BadLength where its length is above the limit: a2 above the rules' longest value for READ and
-/// WRITE, or a1 above 256 for RETURN and REVERT.
+/// The storage call whose number is in a7. Traps UnknownCall if no call has that number under the rules; otherwise
+/// BadLength if its length is above the limit. That is a2 above the rules' longest value for READ and WRITE, and a1 above
+/// 256 for RETURN and REVERT.
 #[tactic(auto, unfolding(crate::specs::StorageCalls::requested_call))]
 pub fn requested_call(registers: &Regs, rules: Rules) -> Result<StorageCall, Trap>
     ensures call { result ≡ requested_call registers.now rules }
@@ -127,8 +126,8 @@ pub fn requested_call(registers: &Regs, rules: Rules) -> Result<StorageCall, Tra
     Ok(call)
 }
 
-/// The charge of an ECALL in gas before it acts, 10 to 1,424. Traps UnknownCall, and else BadLength; these
-/// two traps cost nothing.
+/// The charge of an ECALL in gas before it acts, 10 to 1,424. Traps UnknownCall, or otherwise BadLength; these two traps
+/// cost nothing.
 pub fn ecall_charge(registers: &Regs, rules: Rules) -> Result<u32, Trap>
     ensures { result ≡ ecall_charge registers.now rules }
 {

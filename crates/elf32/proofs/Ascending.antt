@@ -1,4 +1,4 @@
--- The words of a file without fault ascend.
+-- The addresses of the words of a file without fault ascend.
 use Rattle.std.proofs.Common.{◌≡◌, ℕ, suc, ◌+◌, ◌-◌, ◌/◌, ◌<◌, ◌≤◌, Bool, true, false, cond, ◌&&◌, List, [], ◌∷◌, ◌++◌, length, map, Option, Some, None, Ok, All, nat_lt, nat_le, refl, arith, length-take, zero-add}
 use Rattle.std.specs.Prelude.{flat_map, AllPairs}
 use Rattle.std.specs.List.{list_any, range_with_len}
@@ -50,7 +50,7 @@ each_pair s = pair_by s s.rights.executable
 
 -- ---- words of segments
 
--- where both have file bytes, those of s lie below t
+-- if both have file bytes, those of s lie below t
 abbrev Before : Segment → Segment → Type 0
 Before s t = 0 < length s.content → 0 < length t.content → s.address + length s.content ≤ t.address
 

@@ -1,4 +1,4 @@
--- The pages of a program while they are made: those of memory's first pages are there.
+-- The pages of a program while they are made: those of the first pages of memory are already there.
 use Rattle.std.proofs.Common.{◌≡◌, ℕ, ◌+◌, ◌<◌, ◌≤◌, List, [], ◌∷◌, ◌++◌, length, get_or, set, replicate, All, refl, sym, ap, ◌∙◌, arith}
 use Rattle.std.specs.Prelude.{flat_map}
 use native.Mathlib.Decide.{dec_lt}
@@ -7,7 +7,7 @@ use Rattle.std.proofs.lemmas.List.Elements.{All-push, All-set}
 use Rattle.elf32.specs.Pages.{ArePages, bytes_of_page, page_at, zeros}
 use Rattle.elf32.proofs.Paged.{by_pages, length_zeros}
 
--- the first n pages of memory are there, and each page that is left is one of zeros
+-- the first n pages of memory have their bytes, and each later one is still the page of zeros
 pub record Filled (pages : List (List ℕ)) (index : List ℕ) (n : ℕ) (memory : List ℕ) : Type 0 where
   pub first : page_at pages 0 ≡ zeros 4096
   pub some : 1 ≤ length pages
@@ -36,7 +36,7 @@ filled_none pages index memory one all =
     }
 
 module _ (pages : List (List ℕ)) (index : List ℕ) (k : ℕ) (memory : List ℕ) (below : k < 256) (h : Filled pages index k memory) where
-  -- a page more
+  -- one more page
   pub filled_page : (p : List ℕ) → p ≡ bytes_of_page k memory → length p ≡ 4096 → Filled (pages ++ p ∷ []) (set index k (length pages)) (k + 1) memory
   filled_page p is size =
       let more = length_push pages p in
@@ -68,7 +68,7 @@ module _ (pages : List (List ℕ)) (index : List ℕ) (k : ℕ) (memory : List �
             λ i d low high. get_or-set_other index k i (length pages) d (omega arith) ∙ h.left i d (omega arith) high;
       }
 
-  -- a page of zeros more
+  -- one more page of zeros
   pub filled_zeros : bytes_of_page k memory ≡ zeros 4096 → Filled pages index (k + 1) memory
   filled_zeros is =
       let count = h.count in

@@ -1,4 +1,4 @@
--- A mask of one bit against that bit as a quotient.
+-- A mask of one bit, compared with that bit as a quotient.
 use Rattle.std.proofs.Common.{◌≡◌, ℕ, ◌/◌, ◌%◌, ◌*◌, not, nat_eq, bit_and, arith}
 use Rattle.std.proofs.lemmas.Nat.Bits.{and_pow}
 use Rattle.std.proofs.lemmas.Bool.Decides.{nat_tests}

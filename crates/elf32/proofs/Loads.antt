@@ -61,7 +61,7 @@ table_start : (count : ℕ) (rest : List ℕ) → word (elf_header count ++ rest
 unfolding word elf_header half_bytes word_bytes
 table_start count rest = refl
 
--- fault 1 does not hold where the program headers are there
+-- fault 1 does not hold if the program headers are there
 not_truncated : (count : ℕ) (rest : List ℕ) → 1 ≤ count → count ≤ 8 → 32 * count ≤ length rest → is_truncated (elf_header count ++ rest) ≡ false
 unfolding is_truncated
 not_truncated count rest some h long =
@@ -127,7 +127,7 @@ two_segments bytes t d headers entry some fit more small long = record {
 
 -- ---- the whole file
 
--- no fault holds where each test is false
+-- no fault holds if each test is false
 none_holds : (bytes : List ℕ) → is_truncated bytes ≡ false → has_bad_count bytes ≡ false → HeaderClear bytes → SegmentsClear bytes → least_fault bytes ≡ None
 unfolding least_fault
 none_holds bytes long count h s =
@@ -149,11 +149,11 @@ entry_back : (count : ℕ) (rest : List ℕ) → e_entry (elf_header count ++ re
 unfolding word elf_header half_bytes word_bytes
 entry_back count rest = refl
 
--- the file of a program without data, its parts to the right
+-- the file of a program without data, with its parts associated to the right
 abbrev one_file : List ℕ → List ℕ
 one_file text = elf_header 1 ++ (program_header_bytes (load_header 84 65536 (4 * length text) 5) ++ (text_bytes text ++ []))
 
--- the file of a program with data, its parts to the right
+-- the file of a program with data, with its parts associated to the right
 abbrev two_file : List ℕ → List ℕ → List ℕ
 two_file text bytes =
     elf_header 2 ++ (program_header_bytes (load_header 116 65536 (4 * length text) 5) ++ (program_header_bytes (load_header (116 + 4 * length text) 131072 (length bytes) 6) ++ (text_bytes text ++ bytes)))
@@ -173,22 +173,22 @@ table_length : (p : ProgramHeader) (rest : List ℕ) → length (program_header_
 unfolding program_header_bytes word_bytes
 table_length p rest = omega arith
 
--- the bytes of text, where there are no data
+-- the bytes of text, if there are no data
 one_text : (text : List ℕ) → take (4 * length text) (drop 84 (one_file text)) ≡ text_bytes text
 unfolding elf_header program_header_bytes half_bytes word_bytes
 one_text text = take_at (text_bytes text) [] (4 * length text) (text_length text)
 
--- the bytes of text, where there are data
+-- the bytes of text, if there are data
 two_text : (text bytes : List ℕ) → take (4 * length text) (drop 116 (two_file text bytes)) ≡ text_bytes text
 unfolding elf_header program_header_bytes half_bytes word_bytes
 two_text text bytes = take_at (text_bytes text) bytes (4 * length text) (text_length text)
 
--- what stands before the data
+-- the bytes before the data
 two_before : List ℕ → List ℕ → List ℕ
 two_before text bytes =
     elf_header 2 ++ (program_header_bytes (load_header 116 65536 (4 * length text) 5) ++ (program_header_bytes (load_header (116 + 4 * length text) 131072 (length bytes) 6) ++ text_bytes text))
 
--- where the data begin
+-- the number of bytes before the data
 two_before_length : (text bytes : List ℕ) → length (two_before text bytes) ≡ 116 + 4 * length text
 unfolding two_before elf_header program_header_bytes half_bytes word_bytes
 two_before_length text bytes = let h = text_length text in omega arith
@@ -250,7 +250,7 @@ some_words : (text : List ℕ) → text ≢ [] → 1 ≤ length text
 some_words [] h = absurd (h refl)
 some_words (w ∷ text) h = omega arith
 
--- by whether there are data
+-- the file loads, by cases: without data and with data
 loads_by : (text bytes : List ℕ) → IsSized (record { text = text; data_bytes = bytes }) → text ≢ [] → image_of (file_of (record { text = text; data_bytes = bytes })) ≡ Ok (program_layout (record { text = text; data_bytes = bytes }))
 loads_by text [] sized some = rw (file_one text) (one_loads text (some_words text some) sized.text)
 loads_by text (b ∷ bytes) sized some = rw (file_two text b bytes) (two_loads text b bytes (some_words text some) sized.text sized.data_bytes)

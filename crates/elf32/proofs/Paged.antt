@@ -1,4 +1,4 @@
--- What bytes laid over memory make of one page of it, and memory by its pages.
+-- What bytes written over memory make of one page of it, and memory put together from its pages.
 use Rattle.std.proofs.Common.{◌≡◌, ℕ, suc, ◌+◌, ◌-◌, ◌*◌, ◌<◌, ◌≤◌, List, [], ◌∷◌, ◌++◌, length, get_or, take, drop, fold, min, max, All, refl, sym, ap, ◌∙◌, arith, length-append, length-drop}
 use Rattle.std.specs.Prelude.{flat_map}
 use native.Mathlib.Decide.{dec_lt}
@@ -9,7 +9,7 @@ use Rattle.elf32.specs.declared.segment.Segment.{Segment}
 use Rattle.elf32.specs.Layout.{IsPlaced}
 use Rattle.elf32.specs.Pages.{overwritten_at, zeros, segment_bytes, with_segment, bytes_of_page}
 
--- ---- a place of a list laid over another
+-- ---- one place of a list over which another list is written
 
 read_before : (xs new : List ℕ) (at i d : ℕ) → at ≤ length xs → i < at → get_or (overwritten_at xs at new) i d ≡ get_or xs i d
 unfolding overwritten_at
@@ -40,7 +40,7 @@ length_over xs new at fits =
     let front : length (take at xs) ≡ at = length-take-le at xs (omega arith) in
     omega (arith, length-append (take at xs ++ new) (drop (at + length new) xs), length-append (take at xs) new, length-drop (at + length new) xs)
 
--- ---- the bytes from s on, as many as n
+-- ---- n bytes from s on
 
 read_part : (xs : List ℕ) (s n k d : ℕ) → k < n → get_or (take n (drop s xs)) k d ≡ get_or xs (s + k) d
 read_part xs s n k d below = get_or-take n (drop s xs) k d below ∙ get_or-drop s xs k d
@@ -48,7 +48,7 @@ read_part xs s n k d below = get_or-take n (drop s xs) k d below ∙ get_or-drop
 pub length_part : (xs : List ℕ) (s n : ℕ) → s + n ≤ length xs → length (take n (drop s xs)) ≡ n
 length_part xs s n fits = length-take-le n (drop s xs) (omega (arith, length-drop s xs))
 
--- a part that has none of what is laid over
+-- a part that has none of the bytes written over the list
 module _ (xs new : List ℕ) (at s n : ℕ) (fits : at + length new ≤ length xs) (inside : s + n ≤ length xs) where
   size : length (take n (drop s (overwritten_at xs at new))) ≡ n
   size = length_part (overwritten_at xs at new) s n (omega (arith, length_over xs new at fits))
@@ -64,7 +64,7 @@ module _ (xs new : List ℕ) (at s n : ℕ) (fits : at + length new ≤ length x
       ]
       ∙ sym (read_part xs s n k d low))
 
-  -- a part that has some of it
+  -- a part that has some of them
   pub over_here : (from to : ℕ) → from ≡ max at s → to ≡ min (at + length new) (s + n) → from < to → take n (drop s (overwritten_at xs at new)) ≡ overwritten_at (take n (drop s xs)) (from - s) (take (to - from) (drop (from - at) new))
   over_here from to first last some =
       let part = take n (drop s xs) in
@@ -90,7 +90,7 @@ module _ (xs new : List ℕ) (at s n : ℕ) (fits : at + length new ≤ length x
         ]
       ])
 
--- ---- zeros, and segments laid over them
+-- ---- zeros, and segments written over them
 
 pub part_of_zeros : (m s n : ℕ) → s + n ≤ m → take n (drop s (zeros m)) ≡ zeros n
 unfolding zeros
@@ -107,7 +107,7 @@ length_segments memory (s ∷ segments) h placed =
     let fits : s.address - 65536 + length s.content ≤ length memory = omega arith in
     length_segments (with_segment memory s) segments (length_over memory s.content (s.address - 65536) fits ∙ h) (All-tail IsPlaced s segments placed)
 
--- one segment more
+-- one more segment
 pub one_more : (memory : List ℕ) (segments : List Segment) (i : ℕ) (s : Segment) → i < length segments → s ≡ get_or segments i s → fold with_segment memory (take (i + 1) segments) ≡ with_segment (fold with_segment memory (take i segments)) s
 one_more memory segments i s below is =
     fold_more with_segment memory segments i s below

@@ -1,4 +1,4 @@
--- What is known of the PT_LOADs of a file that has not fault 11.
+-- The PT_LOADs of a file without fault 11 are in their range.
 use Rattle.std.proofs.Common.{◌≡◌, ℕ, Bool, true, false, ◌||◌, List, [], ◌∷◌, length, map, All, arith, length-take, length-drop}
 use Rattle.std.specs.List.{list_any}
 use Rattle.std.proofs.lemmas.Bool.Decides.{nat_tests}

@@ -1,4 +1,4 @@
--- The words of a program are those that stand in its segments.
+-- The words of a program are exactly those that its segments have.
 use Rattle.std.proofs.Common.{◌≡◌, ℕ, zero, suc, ◌+◌, ◌-◌, ◌*◌, ◌/◌, ◌%◌, ◌<◌, ◌≤◌, Bool, true, false, cond, List, [], ◌∷◌, ◌++◌, length, map, refl, sym, ap, ◌∙◌, arith, zero-add, length-append}
 use Rattle.std.specs.Prelude.{flat_map}
 use native.Mathlib.Decide.{dec_lt}

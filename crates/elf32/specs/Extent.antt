@@ -1,7 +1,6 @@
 -- The addresses of memory, and its pages of 4,096 bytes.
 use Rattle.std.specs.Prelude.{ℕ}
 
--- the first address
 abbrev pub first_address : ℕ
 first_address = 0x1_0000
 
@@ -9,7 +8,7 @@ first_address = 0x1_0000
 abbrev pub end_address : ℕ
 end_address = 0x11_0000
 
--- where the input stands; segments end before it
+-- the address of the input; segments end before it
 abbrev pub input_address : ℕ
 input_address = 0x10_0000
 

@@ -1,5 +1,5 @@
--- The faults of a file, in the order of their numbers; 9 stands first, since 1 uses it. Sums are of whole numbers
--- and don't wrap.
+-- The faults of a file, in the order of their numbers; 9 comes first, since 1 uses it. Sums are of whole numbers and don't
+-- wrap.
 use Rattle.std.specs.Prelude.{ℕ, ◌+◌, ◌-◌, ◌*◌, ◌/◌, ◌%◌, ◌==◌, Bool, false, not, ◌&&◌, ◌||◌, nat_lt, nat_le, List, [], ◌∷◌, length, take, slice_index, bytes_eq, filter, Option, Some, None, if◌then◌else◌}
 use Rattle.std.specs.List.{list_any}
 use Rattle.elf32.specs.declared.error.ElfError.{ElfError}

@@ -33,7 +33,7 @@ unless_fault None layout = Ok layout
 unfoldable pub image_of : List ℕ → Result Layout ElfError
 image_of bytes = unless_fault (least_fault bytes) (layout_of bytes)
 
--- a call answers what is wanted, or Memory where a program is wanted
+-- a call returns what is wanted, or Memory if a program is wanted
 abbrev pub Gives : Result Layout ElfError → Result Layout ElfError → Type 0
 Gives (Ok layout) want = want ≡ Ok layout
 Gives (Err Memory) want = IsOk want

@@ -3,7 +3,7 @@ use Rattle.std.specs.Prelude.{ℕ, ◌+◌, ◌≤◌, List, length}
 use Rattle.elf32.specs.Extent.{first_address, input_address}
 use Rattle.elf32.specs.declared.segment.Segment.{Segment}
 
--- a loaded program: where it begins, and its PT_LOAD segments in the order of their headers
+-- a loaded program: the address at which it begins, and its PT_LOAD segments in the order of their headers
 pub record Layout : Type 0 where
   pub entry : ℕ
   pub segments : List Segment

@@ -1,5 +1,4 @@
--- Memory as a program stands in it before its first instruction: the bytes, in pages of 4,096, and the
--- rights of the pages.
+-- The memory of a program before its first instruction: the bytes, in pages of 4,096, and the rights of the pages.
 use Rattle.std.specs.Prelude.{◌≡◌, ◌≤◌, ◌<◌, ℕ, ◌+◌, ◌-◌, ◌*◌, nat_lt, max, min, Bool, true, false, List, [], ◌++◌, length, take, drop, slice_index_or, map, flat_map, fold, find, replicate, All}
 use Rattle.std.specs.List.{range_with_len}
 use Rattle.std.specs.Option.{option_map_or}
@@ -36,7 +35,7 @@ has_page k s = nat_lt (max s.address (page_start k)) (min (s.address + s.size) (
 abbrev pub data_rights : Rights
 data_rights = record { readable = true; writable = true; executable = false }
 
--- the rights of the page k: those of the first segment with an address in it, or data_rights where none has
+-- the rights of the page k: those of the first segment with an address in it, or data_rights if there is none
 abbrev pub rights_of_page : List Segment → ℕ → Rights
 rights_of_page segments k = option_map_or (λ s. s.rights) (find (has_page k) segments) data_rights
 

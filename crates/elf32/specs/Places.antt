@@ -1,5 +1,5 @@
--- Where a page of a call's memory stands, as one number: its place among the pages of the program, or first_own and its
--- place among the call's own.
+-- The place of a page of a call's memory, as one number: its place among the pages of the program, or first_own plus its place
+-- among the call's own.
 use Rattle.std.specs.Prelude.{ℕ}
 
 -- the number of the first of the call's own pages

@@ -4,7 +4,6 @@ use Rattle.std.specs.Fmt.{decimal}
 use Rattle.elf32.specs.declared.error.ElfError.{ElfError}
 use Rattle.elf32.specs.declared.error.ElfError.TheVariants.{Truncated, BadMagic, BadClassOrData, BadVersion, NotExec, NotRiscv, BadFlags, BadHeaderSize, BadCount, BadType, SegmentRange, SegmentOrder, PageShared, WriteExecute, BadEntry, Memory}
 
--- the number of a refusal
 abbrev pub number_of : ElfError → ℕ
 number_of Truncated = 1
 number_of BadMagic = 2
@@ -23,7 +22,6 @@ number_of WriteExecute = 14
 number_of BadEntry = 15
 number_of Memory = 16
 
--- its name
 abbrev pub name_of : ElfError → List ℕ
 name_of Truncated = codes "Truncated"
 name_of BadMagic = codes "BadMagic"
@@ -42,6 +40,6 @@ name_of WriteExecute = codes "WriteExecute"
 name_of BadEntry = codes "BadEntry"
 name_of Memory = codes "Memory"
 
--- both, as they are printed
+-- the name and the number, as they are printed
 unfoldable pub error_text : ElfError → List ℕ
 error_text fault = name_of fault ++ codes " " ++ decimal (number_of fault)

@@ -33,6 +33,6 @@ pub record StandsIn (w : PlacedWord) (s : Segment) : Type 0 where
   pub last : w.address + 4 ≤ s.address + length s.content
   pub bytes : w.word ≡ word s.content (w.address - s.address)
 
--- the words of a program are those that stand in one of its segments
+-- the words of a program are exactly those that one of its segments has in this way
 abbrev pub StandInSegments : Layout → Type 0
 StandInSegments layout = (w : PlacedWord) → Contains (words_of layout) w ↔ Any (StandsIn w) layout.segments

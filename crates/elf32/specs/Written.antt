@@ -16,7 +16,7 @@ half_bytes n = little_bytes 2 n
 unfoldable pub word_bytes : ℕ → List ℕ
 word_bytes n = little_bytes 4 n
 
--- where text and data begin in memory
+-- the addresses at which text and data begin in memory
 abbrev pub text_address : ℕ
 text_address = first_address
 
@@ -27,7 +27,7 @@ data_address = 131072
 unfoldable pub text_bytes : List ℕ → List ℕ
 text_bytes text = flat_map word_bytes text
 
--- x, where the data are not empty, else nothing
+-- x if the data are not empty, otherwise nothing
 abbrev pub where_data : {X : Type 0} → List ℕ → X → List X
 where_data [] x = []
 where_data (b ∷ bytes) x = x ∷ []
@@ -36,7 +36,7 @@ where_data (b ∷ bytes) x = x ∷ []
 abbrev pub e_ident : List ℕ
 e_ident = 0x7f ∷ 0x45 ∷ 0x4c ∷ 0x46 ∷ 1 ∷ 1 ∷ 1 ∷ 0 ∷ 0 ∷ 0 ∷ 0 ∷ 0 ∷ 0 ∷ 0 ∷ 0 ∷ 0 ∷ []
 
--- what kind of file it is, and where it is entered
+-- the kind of the file, and its entry
 abbrev pub kind_fields : List ℕ
 kind_fields =
     half_bytes 2  -- e_type: ET_EXEC
@@ -44,7 +44,7 @@ kind_fields =
     ++ word_bytes 1  -- e_version: EV_CURRENT
     ++ word_bytes text_address  -- e_entry
 
--- where the program headers stand and how many there are; there are no section headers
+-- the offset and the number of the program headers; there are no section headers
 abbrev pub table_fields : ℕ → List ℕ
 table_fields count =
     word_bytes 52  -- e_phoff
@@ -73,7 +73,7 @@ program_header_bytes p =
     ++ word_bytes p.p_flags
     ++ word_bytes 4  -- p_align
 
--- where the text begins in a file with `count` program headers
+-- the offset of the text in a file with `count` program headers
 abbrev pub sections_offset : ℕ → ℕ
 sections_offset count = 52 + 32 * count
 
@@ -88,7 +88,7 @@ load_header offset address size flags = record {
   p_flags = flags;
 }
 
--- the number of program headers: one for text, and one for data where there are any
+-- the number of program headers: one for text, and one for data if there are any
 abbrev pub header_count : Sections → ℕ
 header_count p = 1 + length (where_data p.data_bytes data_address)
 
@@ -101,7 +101,6 @@ abbrev pub data_header : Sections → ProgramHeader
 data_header p =
     load_header (sections_offset (header_count p) + 4 * length p.text) data_address (length p.data_bytes) 6
 
--- the program headers
 abbrev pub headers_of : Sections → List ProgramHeader
 headers_of p = text_header p ∷ where_data p.data_bytes (data_header p)
 

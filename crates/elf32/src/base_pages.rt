@@ -27,8 +27,8 @@ pub struct BasePages {
     pub rights: [Rights; PAGE_COUNT],
 }
 
-/// The part of the page that has file bytes of the segment: its first place in memory, and the first place
-/// after it. It is empty where the second is not above the first.
+/// The part of the page that has file bytes of the segment: its first place in memory, and the first place after it. It is
+/// empty if the second is not above the first.
 fn part_in_page(segment: &Segment, page: usize) -> (usize, usize)
     requires page { page < page_count }
     requires placed { IsPlaced segment.now }
@@ -88,7 +88,7 @@ fn page_with(segments: &[Segment], page: usize) -> Page
     bytes
 }
 
-/// The pages of the segments; refused where memory ran out.
+/// The pages of the segments; refused if memory ran out.
 pub(crate) fn base_pages(alloc: Global, segments: &[Segment]) -> Result<BasePages, AllocError>
     requires { All IsPlaced segments.now }
     ensures { IfOk result (λ base. HoldSegments base segments.now) }

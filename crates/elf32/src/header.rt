@@ -10,49 +10,49 @@ pub(crate) const HEADER_SIZE: usize = 52;
 /// How many bytes a program header has.
 pub(crate) const PROGRAM_HEADER_SIZE: usize = 32;
 
-/// Where the type stands in the ELF header.
+/// The place of the type in the ELF header.
 pub(crate) const E_TYPE: usize = 16;
 
-/// Where the machine stands in the ELF header.
+/// The place of the machine in the ELF header.
 pub(crate) const E_MACHINE: usize = 18;
 
-/// Where the version stands in the ELF header.
+/// The place of the version in the ELF header.
 pub(crate) const E_VERSION: usize = 20;
 
-/// Where the entry stands in the ELF header.
+/// The place of the entry in the ELF header.
 pub(crate) const E_ENTRY: usize = 24;
 
-/// Where the offset of the program headers stands in the ELF header.
+/// The place of the offset of the program headers in the ELF header.
 pub(crate) const E_PHOFF: usize = 28;
 
-/// Where the flags stand in the ELF header.
+/// The place of the flags in the ELF header.
 pub(crate) const E_FLAGS: usize = 36;
 
-/// Where the size of the ELF header stands in it.
+/// The place of the size of the ELF header in it.
 pub(crate) const E_EHSIZE: usize = 40;
 
-/// Where the size of a program header stands in the ELF header.
+/// The place of the size of a program header in the ELF header.
 pub(crate) const E_PHENTSIZE: usize = 42;
 
-/// Where the number of program headers stands in the ELF header.
+/// The place of the number of program headers in the ELF header.
 pub(crate) const E_PHNUM: usize = 44;
 
-/// Where the type stands in a program header.
+/// The place of the type in a program header.
 const P_TYPE: usize = 0;
 
-/// Where a segment's offset in the file stands in a program header.
+/// The place of a segment's offset in the file, in a program header.
 const P_OFFSET: usize = 4;
 
-/// Where a segment's address stands in a program header.
+/// The place of a segment's address in a program header.
 const P_VADDR: usize = 8;
 
-/// Where a segment's size in the file stands in a program header.
+/// The place of a segment's size in the file, in a program header.
 const P_FILESZ: usize = 16;
 
-/// Where a segment's size in memory stands in a program header.
+/// The place of a segment's size in memory, in a program header.
 const P_MEMSZ: usize = 20;
 
-/// Where a segment's flags stand in a program header.
+/// The place of a segment's flags in a program header.
 const P_FLAGS: usize = 24;
 
 /// A program header, without p_paddr and p_align.
@@ -60,9 +60,9 @@ const P_FLAGS: usize = 24;
 pub struct ProgramHeader {
     /// PT_NULL or PT_LOAD; any other number is BadType.
     pub p_type: u32,
-    /// Where the segment's bytes begin in the file.
+    /// The place in the file at which the segment's bytes begin.
     pub p_offset: u32,
-    /// Where they begin in memory.
+    /// The address at which they begin in memory.
     pub p_vaddr: u32,
     /// How many bytes of the segment are in the file.
     pub p_filesz: u32,

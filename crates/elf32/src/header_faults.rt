@@ -16,7 +16,7 @@ pub(crate) const MAGIC: [u8; 4] = [0x7f, b'E', b'L', b'F'];
 /// The class of 32-bit files.
 pub(crate) const ELFCLASS32: u8 = 1;
 
-/// The data encoding in which the lowest byte stands first.
+/// The data encoding with the lowest byte first.
 pub(crate) const ELFDATA2LSB: u8 = 1;
 
 /// The one version of the format.

@@ -6,8 +6,8 @@ use std::alloc::{AllocError, Global};
 use std::marker::Model;
 use std::sync::Arc;
 
-/// A program as it stands before its first instruction: its entry, its segments, and the pages that they
-/// fill. The runs of the program share these pages; a run copies a page when it first writes it.
+/// A program before its first instruction: its entry, its segments, and the pages that they fill. The runs of the program share
+/// these pages; a run copies a page when it first writes it.
 #[derive(Drop)]
 pub struct Image {
     entry: u32,
@@ -34,7 +34,7 @@ impl Image {
     ghost use Rattle.elf32.specs.Layout.{IsPlaced};
     ghost use Rattle.elf32.specs.Pages.{HoldSegments};
 
-    /// The program with this entry and these segments; refused where memory ran out.
+    /// The program with this entry and these segments; refused if memory ran out.
     pub(crate) fn new(alloc: Global, entry: u32, segments: Vec<Segment>) -> Result<Self, AllocError>
         requires { All IsPlaced segments.items }
         ensures { IfOk result (λ i. i ≡ record { entry = entry; segments = segments.items }) }

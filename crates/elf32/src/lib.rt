@@ -1,5 +1,5 @@
-//! Programs as ELF32 files: loading a file, with the least-numbered fault where it is refused, and writing
-//! the file of an assembled program.
+//! Programs as ELF32 files: loading a file, with the least-numbered fault if it is refused, and writing the file of an
+//! assembled program.
 #![tactic(auto)]
 
 mod base_pages;

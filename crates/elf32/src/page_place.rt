@@ -1,4 +1,4 @@
-//! Where a page of memory stands.
+//! The place of a page of memory.
 
 ghost use Rattle.std.specs.Prelude.{◌≡◌, ◌<◌, ◌≤◌, ◌+◌, ◌-◌, nat_lt};
 ghost use Rattle.elf32.specs.Extent.{page_count};
@@ -9,9 +9,9 @@ use std::marker::Model;
 /// The number of the first of a call's own pages. Those below are pages of the program.
 const FIRST_OWN: usize = 512;
 
-/// Where a page of memory stands: its place among the pages of the program, which its calls share, or its place among
-/// the call's own. Both are packed into one number of two bytes. An enum of the two places would take four bytes, and
-/// the places of the 256 pages are copied at the start of each call: that copy would have 512 bytes more.
+/// The place of a page of memory: among the pages of the program, which its calls share, or among the call's own. Both kinds of
+/// place are packed into one number of two bytes. An enum of the two places would take four bytes. The places of the 256 pages
+/// are copied at the start of each call: that copy would have 512 bytes more.
 #[derive(Clone, Copy, Debug, PartialEq, Eq)]
 pub struct PagePlace {
     number: u16,

@@ -21,7 +21,7 @@ use crate::segment_faults::{
 use crate::table::program_headers;
 use std::alloc::{AllocError, Global};
 
-/// The least-numbered fault from BadType on, or None where none of them holds.
+/// The least-numbered fault from BadType on, or None if none of them holds.
 #[tactic(auto, unfolding(crate::specs::Faults::loads, crate::specs::Faults::has_bad_type, crate::specs::Faults::has_bad_range, crate::specs::Faults::is_out_of_order, crate::specs::Faults::shares_page, crate::specs::Faults::is_write_execute, crate::specs::Faults::has_bad_entry))]
 fn segment_fault(bytes: &[u8]) -> Option<ElfError>
     requires { IsReadable bytes.now }
@@ -48,7 +48,7 @@ fn segment_fault(bytes: &[u8]) -> Option<ElfError>
     }
 }
 
-/// The least-numbered fault of a file, or None where it has none.
+/// The least-numbered fault of a file, or None if it has none.
 #[tactic(auto, unfolding(crate::specs::Faults::least_fault))]
 fn fault(bytes: &[u8]) -> Option<ElfError>
     ensures value { result ≡ least_fault bytes.now }
@@ -79,7 +79,7 @@ fn fault(bytes: &[u8]) -> Option<ElfError>
     }
 }
 
-/// The segment of a PT_LOAD; refused where memory ran out.
+/// The segment of a PT_LOAD; refused if memory ran out.
 fn segment(alloc: Global, bytes: &[u8], load: &ProgramHeader) -> Result<Segment, AllocError>
     requires { IsInRange (length bytes.now) load.now }
     ensures { IfOk result (λ s. s ≡ segment_of bytes.now load.now) }
@@ -98,7 +98,7 @@ fn segment(alloc: Global, bytes: &[u8], load: &ProgramHeader) -> Result<Segment,
     })
 }
 
-/// The segments of the PT_LOADs, in order; refused where memory ran out.
+/// The segments of the PT_LOADs, in order; refused if memory ran out.
 fn segments(
     alloc: Global,
     bytes: &[u8],
@@ -114,7 +114,7 @@ fn segments(
     Ok(segments)
 }
 
-/// The program that a file without a fault stands for; refused where memory ran out.
+/// The program that a file without a fault stands for; refused if memory ran out.
 #[tactic(auto, unfolding(crate::specs::Faults::loads))]
 fn image(alloc: Global, bytes: &[u8]) -> Result<Image, AllocError>
     requires readable { IsReadable bytes.now }
@@ -126,9 +126,8 @@ fn image(alloc: Global, bytes: &[u8]) -> Result<Image, AllocError>
     Image::new(alloc, word_at(bytes, E_ENTRY), segments)
 }
 
-/// The program that an ELF32 file stands for, or the least-numbered fault in it. Running out of memory comes
-/// last: `Memory` is answered only for a file without a fault. A PT_LOAD with p_memsz 0 gives a segment of
-/// size 0.
+/// The program that an ELF32 file stands for, or the least-numbered fault in it. Running out of memory comes last: `Memory` is
+/// returned only for a file without a fault. A PT_LOAD with p_memsz 0 gives a segment of size 0.
 #[tactic(auto, unfolding(crate::specs::Image::image_of))]
 pub fn load(alloc: Global, bytes: &[u8]) -> Result<Image, ElfError>
     ensures { Gives result (image_of bytes.now) }

@@ -25,7 +25,7 @@ fn has_page(segment: &Segment, page: usize) -> bool
     segment.address.max(first) < (segment.address + segment.size).min(first + PAGE_SIZE as u32)
 }
 
-/// The rights of a page: those of the first segment with an address in it, or `DATA_RIGHTS` where none has.
+/// The rights of a page: those of the first segment with an address in it, or `DATA_RIGHTS` if there is none.
 fn rights_of_page(segments: &[Segment], page: usize) -> Rights
     requires page { page < page_count }
     requires placed { All IsPlaced segments.now }

@@ -10,7 +10,7 @@ use crate::image::Image;
 use crate::segment::Segment;
 use std::alloc::{AllocError, Global};
 
-/// A word that may be executed, and where it stands.
+/// A word that may be executed, and its address.
 #[derive(Clone, Copy, Debug, PartialEq, Eq)]
 pub struct PlacedWord {
     /// A multiple of 4.
@@ -52,7 +52,7 @@ impl Segment {
         }
     }
 
-    /// Adds the segment's words where it may be executed, else nothing; refused where memory ran out.
+    /// Adds the segment's words if it may be executed, otherwise nothing; refused if memory ran out.
     #[tactic(auto, unfolding(crate::specs::Words::words_of_segment))]
     fn put_words(&self, words: &mut Vec<PlacedWord>) -> Result<(), AllocError>
         requires { IsPlaced self.now }
@@ -69,10 +69,9 @@ impl Segment {
 }
 
 impl Image {
-    /// The words at multiples of 4 whose four bytes are file bytes of a segment with PF_X, each with its
-    /// address, in the order of the segments. Refused where memory ran out. The law `words_stand_in_segments`
-    /// says which words these are. The law `words_ascend` says that their addresses ascend if the program was
-    /// loaded from a file.
+    /// The words at multiples of 4 whose four bytes are file bytes of a segment with PF_X, each with its address, in the order
+    /// of the segments. Refused if memory ran out. The law `words_stand_in_segments` says which words these are. The law
+    /// `words_ascend` says that their addresses ascend if the program was loaded from a file.
     pub fn words(&self, alloc: Global) -> Result<Vec<PlacedWord>, AllocError>
         ensures { IfOk result (λ v. v.items ≡ words_of self.now) }
     {
@@ -91,8 +90,8 @@ pub fn words_ascend()
         → AllPairs (λ v w. v.address < w.address) (words_of layout) }
 {}
 
-/// A law, and no code: a word with its address is among a program's words just where the address is a
-/// multiple of 4 and a segment that may be executed has the word there in four of its file bytes.
+/// A law, and no code: when a word with its address is among a program's words. It is exactly if the address is a multiple of 4
+/// and a segment that may be executed has the word there in four of its file bytes.
 pub fn words_stand_in_segments()
     ensures { (layout : Layout) → StandInSegments layout }
 {}

@@ -108,7 +108,7 @@ fn put_text(file: &mut Vec<u8>, text: &[u32]) -> Result<(), AllocError>
     Ok(())
 }
 
-/// The number of program headers: one for text, and one for data where there are any.
+/// The number of program headers: one for text, and one for data if there are any.
 fn header_count(program: &Program) -> u16
     ensures value { result ≡ header_count program.now }
     ensures few { result ≤ 2 }
@@ -116,7 +116,7 @@ fn header_count(program: &Program) -> u16
     if program.data().is_empty() { 1 } else { 2 }
 }
 
-/// Where the text begins in the file; the data follow it.
+/// The place in the file at which the text begins; the data follow it.
 fn sections_offset(program: &Program) -> u32
     ensures value { result ≡ sections_offset (header_count program.now) }
     ensures few { result ≤ 116 }
@@ -165,7 +165,7 @@ fn put_program_headers(file: &mut Vec<u8>, program: &Program) -> Result<(), Allo
     put_program_header(file, &data_header(program))
 }
 
-/// The file of a program; refused where memory ran out.
+/// The file of a program; refused if memory ran out.
 #[tactic(auto, unfolding(crate::specs::Written::file_of))]
 fn file(alloc: Global, program: &Program) -> Result<Vec<u8>, AllocError>
     ensures { IfOk result (λ file. file.items ≡ file_of program.now) }
@@ -178,9 +178,8 @@ fn file(alloc: Global, program: &Program) -> Result<Vec<u8>, AllocError>
     Ok(file)
 }
 
-/// The ELF32 file of an assembled program. Its entry is the first text word. Refused with `BadEntry` where
-/// the program has no text words, and with `Memory` where memory ran out. The law `file_loads` says that the
-/// file loads as the program.
+/// The ELF32 file of an assembled program. Its entry is the first text word. Refused with `BadEntry` if the program has no text
+/// words, and with `Memory` if memory ran out. The law `file_loads` says that the file loads as the program.
 pub fn write(alloc: Global, program: &Program) -> Result<Vec<u8>, ElfError>
     ensures file { IfOk result (λ file. file.items ≡ file_of program.now) }
     ensures loads { IfOk result (λ file. image_of file.items ≡ Ok (program_layout program.now)) }

@@ -2,8 +2,7 @@
 
 use std::alloc::{AllocError, Global};
 
-/// The words of an ELF header and of one program header: a segment of so many bytes at 0x10000, to read
-/// and execute.
+/// The words of an ELF header and of one program header: a segment of this many bytes at 0x10000, to read and execute.
 fn header_words(size: u32) -> [u32; 16] {
     [
         1,
@@ -59,7 +58,7 @@ pub fn block_of(alloc: Global, programs: usize, lines: &str) -> Result<String, A
     Ok(block)
 }
 
-/// The call lines of so many counts of a key.
+/// The call lines of this many counts of a key.
 pub fn count_lines(alloc: Global, calls: usize) -> Result<String, AllocError> {
     let mut text = String::new(alloc);
     for _ in 0..calls {
@@ -91,7 +90,7 @@ fn push_count(alloc: Global, text: &mut String, call: u32) -> Result<(), AllocEr
     text.push_str(lines.as_str())
 }
 
-/// The result of so many counts of a key, fewer than 65,536.
+/// The result of this many counts of a key, fewer than 65,536.
 fn result_of_counts(alloc: Global, calls: u32) -> Result<String, AllocError> {
     let mut text = String::new(alloc);
     for call in 0..calls {

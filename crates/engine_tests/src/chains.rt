@@ -43,7 +43,7 @@ fn blocks_of(alloc: Global, rows: &[(&str, usize)]) -> Result<Blocks, Fail> {
     Ok(blocks)
 }
 
-/// Three blocks of forty counts by 8 workers, and behind the first of them one that 33 workers are to run.
+/// Three blocks of forty counts by 8 workers, and after the first of them one that 33 workers have to run.
 fn four_blocks(alloc: Global) -> Result<Blocks, Fail> {
     let lines = forty_count_lines(alloc)?;
     let forty = lines.as_str();
@@ -53,7 +53,7 @@ fn four_blocks(alloc: Global) -> Result<Blocks, Fail> {
     )
 }
 
-/// The number to which calls counted the key up from a number; None where one of them did not.
+/// The number to which calls counted the key up from a number; None if one of them did not.
 fn counted_up(receipts: &[Receipt], from: u32) -> Option<u32> {
     let mut count = from;
     for receipt in receipts {
@@ -65,7 +65,7 @@ fn counted_up(receipts: &[Receipt], from: u32) -> Option<u32> {
     Some(count)
 }
 
-/// Whether these are the answers to the four blocks, of which the second alone is refused.
+/// Whether these are the answers to the four blocks, of which only the second is refused.
 fn are_answers(answers: &[Answer]) -> bool {
     match answers {
         [
@@ -99,7 +99,7 @@ fn three_chained_blocks(rt: HostRuntime) -> Result<(), Fail> {
     Ok(())
 }
 
-/// Whether each answer is that of one call of COUNT, which counts up to the block's number from 1.
+/// Whether each answer is that of one call of COUNT, which counts up to the number of its block, from 1 on.
 fn are_single_counts(answers: &[Answer]) -> bool {
     let mut count = 0_u32;
     for answer in answers {
@@ -123,7 +123,7 @@ fn a_chain_of_100_blocks(rt: HostRuntime) -> Result<(), Fail> {
     Ok(())
 }
 
-/// A block of too many calls, which 33 workers are to run.
+/// A block of too many calls, which 33 workers have to run.
 fn too_large_block(alloc: Global) -> Result<Blocks, Fail> {
     let lines = count_lines(alloc, 1)?;
     let calls = calls_of(alloc, &[COUNT], lines.as_str())?;

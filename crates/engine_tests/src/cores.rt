@@ -13,7 +13,7 @@ const NO_INPUTS: &[&[u8]] = &[];
 
 const THREE_INPUTS: &[&[u8]] = &[b"", b"", b""];
 
-/// What a worker without a task is answered when it asks for work; None where it owes another step.
+/// The answer to a worker without a task that asks for work; None if the worker owes another step.
 fn asked(core: &mut Core, worker: usize) -> Option<AskResult> {
     if worker >= core.workers() || core.counts(worker).steps >= COUNT_LIMIT {
         return None;

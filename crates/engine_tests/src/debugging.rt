@@ -26,8 +26,8 @@ const PRINTED: [u64; 4] = [0, 17, 22, 47];
 /// Lines that are typed one after another. Nothing may be read after the last.
 const TYPED_LINES: [&str; 4] = ["s\n", "x\n", "b\n", "q\n"];
 
-/// Someone who types a line once all is shown that is printed for the lines before it. A read that comes
-/// earlier, or after the last line, fails.
+/// Someone who types a line once everything that is printed for the lines before it is shown. A read that comes earlier, or after
+/// the last line, fails.
 #[derive(Drop)]
 struct Typist<'a> {
     /// How many lines were typed.
@@ -98,8 +98,8 @@ impl Destination for Screen<'_> {
     }
 }
 
-/// Whether typing at a screen that can be flushed so often is answered so, when so many lines were answered; and whether the
-/// replay stands where those lead to.
+/// Whether typing at a screen that can be flushed this often gets the wanted answer, after this many lines were answered; and
+/// whether the replay is at the moment that these lines lead to.
 fn is_typed(
     alloc: Global,
     flushes: usize,

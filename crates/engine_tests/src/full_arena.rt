@@ -1,4 +1,4 @@
-//! A block whose run by threads is refused, since the arena is full.
+//! A block whose run by threads is refused, because the arena is full.
 
 use crate::calls::image_of;
 use rv_ledger::{Call, Job, Store};
@@ -40,41 +40,41 @@ const FLOOD: &[u32] = &[
 /// The gas limit of each call.
 const GAS: u32 = 200_000;
 
-/// The first key that a call writes, and the one behind the last. The calls behind the first ones write 256 keys.
+/// The first key that each call after the first ones writes, and the key past the last: each of them writes 256 keys.
 const MANY: (u32, u32) = (256, 512);
 
-/// How many workers there are. The first calls are as many, each of which writes one of the keys that all read: so each worker
-/// comes to the gate first with one of them.
+/// How many workers there are. There are as many first calls, and each of them writes one of the keys that all calls read. So
+/// each worker first reaches the gate with one of the first calls.
 const WORKERS: u32 = 5;
 
-/// How many workers are held, each until the calls behind have run once more. The last one goes on before the arena is full: a
+/// How many workers are held, each until the later calls have run once more. The last one continues before the arena is full: a
 /// worker that was held then would look in vain.
 const HELD: u64 = 4;
 
-/// How many calls of 256 writes run behind the first ones. They run again whenever a worker that was held goes on, so they write
-/// 1,280,000 versions by their fifth run.
+/// How many calls of 256 writes come after the first ones. They run again whenever a worker that was held continues, so they
+/// write 1,280,000 versions by their fifth run.
 const ROUND: usize = 1_000;
 
-/// How often they have run, all together, when the arena is full: it has room for 1,048,576 versions.
+/// How many runs they have made in total when the arena is full: it has room for 1,048,576 versions.
 const RUNS: u64 = 4_096;
 
 /// How often they run at most.
 const MOST_RUNS: usize = 10_000;
 
-/// How often a worker that is held looks in vain for another run before it goes on.
+/// How often a worker that is held looks in vain for another run before it continues.
 const WAITS: usize = 1_000_000;
 
-/// Where the first workers are held, each until the calls behind have run once more.
+/// A gate at which the first workers are held, each until the later calls have run once more.
 #[derive(Drop)]
 struct Rounds {
-    /// How many runs came here.
+    /// How many runs came to the gate.
     arrived: AtomicU64,
     /// How many of them were not held.
     passed: AtomicU64,
 }
 
 impl Rounds {
-    /// Where nobody was yet.
+    /// A gate at which nobody was yet.
     fn new() -> Rounds {
         Rounds {
             arrived: AtomicU64::new(0),
@@ -128,7 +128,7 @@ fn flood(alloc: Global) -> Result<Job, Fail> {
     Ok(Job::new(calls, Store::new(alloc))?)
 }
 
-/// Whether a run by threads, one more than are held, is refused when the arena is full.
+/// Whether a run by threads, one more than are held, is refused because the arena is full.
 fn is_refused<R: Threads + Wait + Sync>(rt: &R, alloc: Global, job: Job) -> bool {
     let mut executor = Executor::new(alloc);
     let gate = Rounds::new();

@@ -21,7 +21,7 @@ use workers::{
     WrittenFault, work, work_spinning,
 };
 
-/// How often a worker has looked when the other one, which is held at the end of its run, goes on.
+/// How often a worker has looked when the other one, which is held at the end of its run, continues.
 const HELD_LOOKS: u64 = 200;
 
 /// How often one worker waits for the other, at most.
@@ -70,7 +70,7 @@ fn an_idle_worker_looks_64_times(rt: HostRuntime) -> Result<(), Fail> {
     Ok(())
 }
 
-/// Where a worker is held at the end of its run, until the other one has looked often enough.
+/// A gate at which a worker is held at the end of its run, until the other one has looked often enough.
 #[derive(Drop)]
 struct Held {
     here: AtomicBool,
@@ -101,7 +101,7 @@ impl Gate for Held {
     }
 }
 
-/// The share of a worker that finds no work until the other one, on a thread of its own, goes on.
+/// The share of a worker that finds no work until the other one, on a thread of its own, continues.
 fn idle_share<J: JobName + Send + Sync, R: Threads + Wait + Sync>(
     rt: &R,
     alloc: Global,
@@ -136,7 +136,7 @@ fn idle_share<J: JobName + Send + Sync, R: Threads + Wait + Sync>(
     )
 }
 
-/// How often a worker of two was answered that there is no task for it, and how often it looked then.
+/// How often one of two workers got the answer that there is no task for it, and how often it looked after that.
 fn rows_and_looks<J: JobName + Send + Sync, R: Threads + Wait + Sync + Abort>(
     rt: &R,
     alloc: Global,
@@ -167,7 +167,7 @@ fn rows_of_a_call<R: Threads + Wait + Sync + Abort>(
     rows_and_looks::<Brand, R>(rt, alloc, &job)
 }
 
-/// Each row of looks but the last has all of them: in that one the block is done.
+/// Each row of looks except the last has all of them: in the last one the block is done.
 #[test]
 fn a_worker_looks_once_between_two_asks(rt: HostRuntime) -> Result<(), Fail> {
     let (rows, looks) = rows_of_a_call(&rt, rt.alloc())?;

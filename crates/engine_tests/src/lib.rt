@@ -1,5 +1,5 @@
-//! Tests of the engines by their functions: workers and their threads, chains of blocks, and the debugger. They are here,
-//! and not in the crates of these, since a crate with tests is proved twice.
+//! Tests of the engines by their functions: workers and their threads, chains of blocks, and the debugger. They are here, and not
+//! in the crates of the engines, because a crate with tests is proved twice.
 #![tactic(auto)]
 
 #[cfg(test)]
@@ -18,5 +18,7 @@ mod full_arena;
 mod idling;
 #[cfg(test)]
 mod rows;
+#[cfg(test)]
+mod sums;
 #[cfg(test)]
 mod threads;

@@ -21,7 +21,7 @@ use workers::{Executor, Gate, JobName, Open, RunFault, Share, Shared, settle, wo
 /// How often a gate looks for the other worker.
 const LOOKS: usize = 1_000_000;
 
-/// How often two workers are tried to be met at once.
+/// How often the test tries to have two workers meet at the gate.
 const TRIES: usize = 50;
 
 const ONE_ECHO: &str = "call 0 100 0102\n";
@@ -43,7 +43,7 @@ const TWO_RESULTS: &str = "call 0 returned gas 13 pc 00010004 out 0102\n\
 
 const THREE_ECHOES: &str = "call 0 1000 -\ncall 0 1000 01\ncall 0 1000 0102\n";
 
-/// The text of the outcome of a job that so many workers run.
+/// The text of the outcome of a job that this many workers run.
 fn run_text<R: Threads + Wait + Sync>(
     rt: &R,
     alloc: Global,
@@ -55,7 +55,7 @@ fn run_text<R: Threads + Wait + Sync>(
     Ok(text_of(alloc, &outcome)?)
 }
 
-/// Whether so many workers come to the right text of forty counts.
+/// Whether this many workers get the right text of forty counts.
 fn are_counted<R: Threads + Wait + Sync>(
     rt: &R,
     alloc: Global,
@@ -79,7 +79,7 @@ fn forty_counts_by_threads(rt: HostRuntime) -> Result<(), Fail> {
     Ok(())
 }
 
-/// Whether no job is run by so many workers.
+/// Whether no job is run by this many workers.
 fn is_bad_count<R: Threads + Wait + Sync>(
     rt: &R,
     alloc: Global,
@@ -147,7 +147,7 @@ fn work_in_turn<J: JobName, R: Wait>(
     Ok(back)
 }
 
-/// The shares of workers who work one after another, that of the given one first, in the order of the workers.
+/// The shares of workers who work one after another, the given one first. The shares are in the order of the workers.
 fn work_from<J: JobName, R: Wait + Abort>(
     rt: &R,
     alloc: Global,
@@ -166,7 +166,7 @@ fn work_from<J: JobName, R: Wait + Abort>(
     Ok(back)
 }
 
-/// The counts of so many steps and asks, and of so many calls run and validated once.
+/// The counts of this many steps and asks, and of this many calls that were each run and validated once.
 fn counts(steps: u64, asks: u64, calls: u64) -> Counts {
     Counts {
         steps,
@@ -176,8 +176,7 @@ fn counts(steps: u64, asks: u64, calls: u64) -> Counts {
     }
 }
 
-/// Whether of three workers the first to work ran three echoes, and each of the others asked once. Each was answered once
-/// that all is done.
+/// Whether worker `first` of three ran three echoes, and each of the others asked once. Each got the answer Done once.
 fn are_shares(shares: &[Share], first: usize) -> bool {
     let mut number = 0;
     for share in shares {
@@ -194,7 +193,7 @@ fn are_shares(shares: &[Share], first: usize) -> bool {
     number == 3
 }
 
-/// Whether three workers, of whom the given one works first, come to what three echoes come to in order.
+/// Whether three workers, of whom the given one works first, have the same outcome as three echoes in order.
 fn is_alone<J: JobName, R: Wait + Abort>(
     rt: &R,
     alloc: Global,
@@ -271,7 +270,7 @@ impl Meeting {
         }
     }
 
-    /// Whether each worker saw the other when it came there first.
+    /// Whether each worker saw the other when it first reached the gate.
     fn is_met(&self) -> bool {
         self.met[0].load(Ordering::SeqCst) && self.met[1].load(Ordering::SeqCst)
     }
@@ -291,7 +290,7 @@ impl Gate for Meeting {
     }
 }
 
-/// Whether two workers who run two echoes come to the right text; and whether they met.
+/// Whether two workers who run two echoes get the right text; and whether they met.
 fn echo_at_gate<R: Threads + Wait + Sync>(
     rt: &R,
     alloc: Global,

@@ -6,8 +6,8 @@ use Rattle.std.specs.Prelude.{⊤, Option, Some, None, Result, Ok, IfOk, IfSome,
 use Rattle.std.specs.Io.KnownBytes.{Appends}
 use Rattle.std.specs.Option.{option_map}
 use Rattle.std.specs.Result.{result_map_both}
-use Rattle.block_file.specs.Block.{block_of}
-use Rattle.block_file.specs.Schedule.{schedule_of}
+use Rattle.block_file.specs.Block.{parsed_block}
+use Rattle.block_file.specs.Schedule.{parsed_schedule}
 use Rattle.block_file.specs.declared.fault.BlockFault.{BlockFault}
 use Rattle.byte_streams.specs.declared.fault.WriteFault.{WriteFault}
 use Rattle.clap.specs.Words.{Text}
@@ -33,7 +33,7 @@ use Rattle.engines.specs.Dis.{IsListingFault, listing_of_file}
 use Rattle.engines.specs.Drive.{IsDriveFault, IsScheduledFault, text_along}
 use Rattle.engines.specs.Engine.{answer_of, loaded_job, text_of, IsOutputFault, IsRefusedJob, IsRunFault}
 use Rattle.engines.specs.Headline.{BeginsResult, BeginsSession, IsPartOfNext, PrintsAtMost, PrintsPart}
-use Rattle.engines.specs.Program.{AreCountsAsked, Contents, IsCutKept, IsCutSession, IsRefusedAs, Prints, settings_of}
+use Rattle.engines.specs.Program.{AreCountsAsked, Contents, IsCutKept, IsCutSession, IsRefusedAs, Prints, chain_settings}
 use Rattle.engines.specs.Run.{IsWorkersFault}
 use Rattle.engines.specs.declared.counts.RunCounts.{RunCounts}
 use Rattle.engines.specs.declared.fault.Refusal.{Refusal}
@@ -49,7 +49,7 @@ of_output may_refuse text old new e h = absurd h
 -- ---- the result of a job
 
 abbrev IsOfJob : Contents → Option (List ℕ) → Job → Type 0
-IsOfJob content input job = IfSome input (λ bytes. IfSome (loaded_job content (block_of bytes)) (λ wanted. wanted ≡ Ok job))
+IsOfJob content input job = IfSome input (λ bytes. IfSome (loaded_job content (parsed_block bytes)) (λ wanted. wanted ≡ Ok job))
 
 of_loaded : (loaded : Option (Result Job Refusal)) (job : Job) (P : List ℕ → Type 0) → IfSome loaded (λ wanted. wanted ≡ Ok job) → P (text_of job)
     → IfSome (option_map (result_map_both text_of (λ fault. fault)) loaded) (λ answer. IsOkAnd answer P)
@@ -57,9 +57,9 @@ of_loaded None job P is h = tt
 of_loaded (Some wanted) job P is h = subst (λ w. IsOkAnd (result_map_both text_of (λ fault. fault) w) P) (sym is) h
 
 of_input : (content : Contents) (input : Option (List ℕ)) (job : Job) (P : List ℕ → Type 0) → IsOfJob content input job → P (text_of job)
-    → IfSome (option_and_then (λ bytes. answer_of content (block_of bytes)) input) (λ answer. IsOkAnd answer P)
+    → IfSome (option_and_then (λ bytes. answer_of content (parsed_block bytes)) input) (λ answer. IsOkAnd answer P)
 of_input content None job P is h = tt
-of_input content (Some bytes) job P is h = of_loaded (loaded_job content (block_of bytes)) job P is h
+of_input content (Some bytes) job P is h = of_loaded (loaded_job content (parsed_block bytes)) job P is h
 
 module _ (content : Contents) (may_refuse : WriteFault → Type 0) (old new : Option (List ℕ)) (file : Text) where
   of_job : (job : Job) → IsOfJob content (content file) job → ((fault : WriteFault) × may_refuse fault) × AppendsBeginning old new (text_of job) → PrintsPart may_refuse old new (BeginsResult content old new file)
@@ -87,13 +87,13 @@ module _ (content : Contents) (may_refuse : WriteFault → Type 0) (old new : Op
   of_drive job may_fail workers schedule e is (inr h) = along job workers h.0 e is h.2
 
   of_conflicts : (job : Job) (e : Refusal) → IsOfJob content (content file) job → IsConflictsFault may_refuse old new job e
-      → PrintsPart may_refuse old new (IfSome (content file) (λ input. IfSome (loaded_job content (block_of input)) (λ wanted. IsOkAnd wanted (λ job. (text : List ℕ) × IsConflictsText job text × AppendsBeginning old new text))))
+      → PrintsPart may_refuse old new (IfSome (content file) (λ input. IfSome (loaded_job content (parsed_block input)) (λ wanted. IsOkAnd wanted (λ job. (text : List ℕ) × IsConflictsText job text × AppendsBeginning old new text))))
   of_conflicts job e is (inl h) = inl h.0
   of_conflicts job e is (inr h) =
       let cut = of_output may_refuse h.0 old new e h.2 in
       inr (
         cut.0,
-        IfSome_then (content file) is (λ input loaded. IfSome_then (loaded_job content (block_of input)) loaded
+        IfSome_then (content file) is (λ input loaded. IfSome_then (loaded_job content (parsed_block input)) loaded
             (λ wanted w. subst (λ x. IsOkAnd x (λ job. (text : List ℕ) × IsConflictsText job text × AppendsBeginning old new text)) (sym w) (h.0, h.1, cut.1))),
       )
 
@@ -121,13 +121,13 @@ module _ (content : Contents) (old new : Option (List ℕ)) (more : Bool) (call 
 
   of_replay : (may_fail : Type 0) (may_refuse : WriteFault → Type 0) (job : Job) (input typed : Option (List ℕ)) (e : Refusal) → IsOfJob content input job
       → IsReplayedFault may_fail may_refuse call old new job e
-      → IfSome input (λ bytes. IfSome typed (λ lines. IfSome (loaded_job content (block_of bytes)) (λ j. IfOk (replayed_text more j call lines) (AppendsBeginning old new))))
-      → (new ≡ old) ⊎ IfSome input (λ bytes. IfSome typed (λ lines. IfSome (loaded_job content (block_of bytes)) (λ j. IsOkAnd (replayed_text more j call lines) (AppendsBeginning old new))))
+      → IfSome input (λ bytes. IfSome typed (λ lines. IfSome (loaded_job content (parsed_block bytes)) (λ j. IfOk (replayed_text more j call lines) (AppendsBeginning old new))))
+      → (new ≡ old) ⊎ IfSome input (λ bytes. IfSome typed (λ lines. IfSome (loaded_job content (parsed_block bytes)) (λ j. IsOkAnd (replayed_text more j call lines) (AppendsBeginning old new))))
   of_replay may_fail may_refuse job input typed e is (inl h) cut = inl h.0
   of_replay may_fail may_refuse job None typed e is (inr h) cut = inr tt
   of_replay may_fail may_refuse job (Some bytes) None e is (inr h) cut = inr tt
   of_replay may_fail may_refuse job (Some bytes) (Some lines) e is (inr h) cut =
-      inr (both (loaded_job content (block_of bytes)) (λ j. j ≡ Ok job) _ is cut (λ j same c. of_session j job h.0 lines same h.1 c))
+      inr (both (loaded_job content (parsed_block bytes)) (λ j. j ≡ Ok job) _ is cut (λ j same c. of_session j job h.0 lines same h.1 c))
 
 -- ---- a session of requests
 
@@ -184,8 +184,8 @@ over_input (Some bytes) P Q h f = f bytes h
 
 of_debug : (content : Contents) (may_fail : Type 0) (may_refuse : WriteFault → Type 0) (old new : Option (List ℕ)) (more : Bool) (call : ℕ) (file : Text) (typed : Option (List ℕ)) (e : Refusal)
     → IsRefusedJob (refusal.Seq Memory) (IsReplayedFault may_fail may_refuse call) (content file ≡ None) (content file) content old new e
-    → IfSome (content file) (λ bytes. IfSome typed (λ lines. IfSome (loaded_job content (block_of bytes)) (λ j. IfOk (replayed_text more j call lines) (AppendsBeginning old new))))
-    → (new ≡ old) ⊎ IfSome (content file) (λ bytes. IfSome typed (λ lines. IfSome (loaded_job content (block_of bytes)) (λ j. IsOkAnd (replayed_text more j call lines) (AppendsBeginning old new))))
+    → IfSome (content file) (λ bytes. IfSome typed (λ lines. IfSome (loaded_job content (parsed_block bytes)) (λ j. IfOk (replayed_text more j call lines) (AppendsBeginning old new))))
+    → (new ≡ old) ⊎ IfSome (content file) (λ bytes. IfSome typed (λ lines. IfSome (loaded_job content (parsed_block bytes)) (λ j. IsOkAnd (replayed_text more j call lines) (AppendsBeginning old new))))
 of_debug content may_fail may_refuse old new more call file typed e (inl h) cut = inl h.0
 of_debug content may_fail may_refuse old new more call file typed e (inr h) cut = of_replay content old new more call may_fail may_refuse h.0 (content file) typed e h.1 h.2 cut
 
@@ -199,16 +199,16 @@ refused_prints content may_fail typed may_refuse old new (ConflictsOf file) e (i
 refused_prints content may_fail typed may_refuse old new (ConflictsOf file) e (inr h) = of_conflicts content may_refuse old new file h.0 e h.1 h.2
 refused_prints content may_fail typed may_refuse old new (DriveOf file workers schedule counts) e (inl h) = inl (inl h.0)
 refused_prints content may_fail typed may_refuse old new (DriveOf file workers schedule counts) e (inr h) =
-    inl (of_drive content may_refuse old new file h.0 (content schedule ≡ None) workers (option_map schedule_of (content schedule)) e h.1 h.2)
+    inl (of_drive content may_refuse old new file h.0 (content schedule ≡ None) workers (option_map parsed_schedule (content schedule)) e h.1 h.2)
 refused_prints content may_fail typed may_refuse old new (AsmOf file out) e h = h.0
 refused_prints content may_fail typed may_refuse old new (DisOf file) e h = of_listing content may_refuse old new file (content file ≡ None) e h
 refused_prints content may_fail typed may_refuse old new (DebugOf file call more) e h =
     of_debug content (MayBeCutOff may_fail typed) may_refuse old new more call file typed e h.0 h.1
 refused_prints content may_fail typed may_refuse old new (MigrateOf file out) e h = h.0
 refused_prints content may_fail typed may_refuse old new (ChainOf workers limit gas digest brief None) e h =
-    over_input typed _ _ h (λ bytes cut. of_cut (settings_of limit gas digest brief) old new bytes e cut)
+    over_input typed _ _ h (λ bytes cut. of_cut (chain_settings limit gas digest brief) old new bytes e cut)
 refused_prints content may_fail typed may_refuse old new (ChainOf workers limit gas digest brief (Some file)) e h =
-    over_input typed _ _ h (λ bytes cut. of_kept ⊤ (record (settings_of limit gas digest brief) { keeps_digest = true }) old new bytes e cut)
+    over_input typed _ _ h (λ bytes cut. of_kept ⊤ (record (chain_settings limit gas digest brief) { keeps_digest = true }) old new bytes e cut)
 
 -- a command that was done, whose counts could not be printed
 pub counted_prints : (content : Contents) (typed : Option (List ℕ)) (may_refuse : WriteFault → Type 0) (old new : Option (List ℕ)) (asked : Asked) (counts : RunCounts)

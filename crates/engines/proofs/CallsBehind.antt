@@ -1,4 +1,4 @@
--- Calls behind calls that were run.
+-- Calls after calls that were run.
 use Rattle.std.proofs.Common.{◌≡◌, ℕ, List, ◌++◌, take, drop, append_assoc, ap, sym, ◌∙◌}
 use Rattle.std.proofs.lemmas.List.{take-append-drop}
 use Rattle.rv_ledger.specs.Call.{Invocation}

@@ -35,7 +35,7 @@ no_doubt_less settings first [] text after h = subst (λ (m : FileMoment). doubt
 no_doubt_less settings first (ask ∷ asks) text after h =
     let one = h.4.0.clean in let more = no_doubt_less settings h.1 asks h.2 after h.5 in omega arith
 
--- where it was opened, its files held the session that it went on from
+-- if it was opened, its files held the session that it continued from
 pub opened_and_kept : {T E : Type 0} (done : Result T E) (settings : Settings) (first : FileMoment) (trees : Trees) (before now : TreesAt) (mid : TreesAt) (file : List ℕ) (typed old new : Option (List ℕ))
     → IfSome (before file) (λ db. trees ≡ db) → KeepsOthers before mid file → KeepsOthers mid now file → (doubt first.is_clean ≡ 0 → IsFoundIn settings trees first.session)
     → OnOk done (IfSome typed (KeepsFrom settings first (now file) old new)) → OnOk done (KeepsSessionAt settings before now file typed old new)

@@ -6,7 +6,7 @@ use Rattle.clap.specs.Words.{IsAmong, Kinds, Text, fault_of, kind_of}
 use Rattle.clap.specs.declared.error.Error.{Error}
 use Rattle.clap.specs.declared.error.kind.ErrorKind.{ErrorKind}
 use Rattle.clap.specs.declared.error.kind.ErrorKind.TheVariants as kind
-use Rattle.cmdline.specs.Line.{Asked, asked_by, requested, rvstm_app}
+use Rattle.cmdline.specs.Line.{Asked, asked_by_request, requested, rvstm_app}
 use Rattle.cmdline.specs.declared.Request.{Request}
 use Rattle.engines.specs.Program.{asked_on, if_right, IsShown}
 
@@ -41,7 +41,7 @@ of_fault : (k : ErrorKind) (kinds : Kinds) (asked : Option Asked) (P : Type 0) �
 of_fault k [] asked P h = absurd h
 of_fault k (x ∷ kinds) asked P h = tt
 
--- where an error comes of a line without a fault, memory ran out
+-- if a line without a fault gives an error, memory ran out
 pub right_memory : (words : List Text) (e : Error) (P : Type 0) → HasKind (fault_of rvstm_app words) e → (kind_of e ≡ kind.OutOfMemory → P) → IfSome (asked_on words) (λ _. P)
 unfolding asked_on
 right_memory words e P (inl memory) h = any_of (if_right (fault_of rvstm_app words) (requested words)) P (h memory)
@@ -63,10 +63,10 @@ module _ (words : List Text) (e : Error) where
   no_line shown h = among_none (kind_of e) (fault_of rvstm_app words) (requested words) (shown_so shown h)
 
 -- the request that was found on a line without a fault
-pub right_found : (words : List Text) (found : Option Request) (request : Request) → found ≡ Some request → fault_of rvstm_app words ≡ [] → option_map asked_by found ≡ requested words
-    → asked_on words ≡ Some (asked_by request)
-right_found words found request is none h = right_line words (asked_by request) none (subst (λ f. option_map asked_by f ≡ requested words) is h)
+pub right_found : (words : List Text) (found : Option Request) (request : Request) → found ≡ Some request → fault_of rvstm_app words ≡ [] → option_map asked_by_request found ≡ requested words
+    → asked_on words ≡ Some (asked_by_request request)
+right_found words found request is none h = right_line words (asked_by_request request) none (subst (λ f. option_map asked_by_request f ≡ requested words) is h)
 
--- what holds of what was asked for, where nothing was written before
+-- what holds of what was asked for, if nothing was written before
 pub at_asked : {O E : Type 0} (P : O → E → Asked → Type 0) (o first : O) (e second : E) (asked : Option Asked) (a : Asked) → first ≡ o → second ≡ e → asked ≡ Some a → P first second a → IfSome asked (P o e)
 at_asked P o first e second asked a same kept is h = subst (λ x. IfSome asked (P x e)) same (subst (λ y. IfSome asked (P first y)) kept (rw is h))

@@ -2,7 +2,7 @@
 use Rattle.std.proofs.Common.{◌≤◌, Bool, true, false, ℕ, List, lit≤, refl, inr, if◌then◌else◌}
 use Rattle.std.specs.Prelude.{IfErr, Result, Ok, Err}
 use Rattle.std.specs.Result.{result_map_both}
-use Rattle.block_file.specs.Block.{BlockValue, block_of}
+use Rattle.block_file.specs.Block.{BlockValue, parsed_block}
 use Rattle.block_file.specs.Line.{cut}
 use Rattle.block_file.specs.Migrate.{in_second_format, is_first_format, migrated}
 use Rattle.block_file.specs.declared.fault.BlockFault.{BlockFault}
@@ -20,4 +20,4 @@ behind_header false block text h = lit≤ tt
 
 -- so want of memory on line 1 comes before any
 pub memory_is_first : (may_fail : Type 0) (bytes : List ℕ) → IsBlockFault may_fail (migrated bytes) (Block (record { line = 1; cause = Memory }))
-memory_is_first may_fail bytes = inr (refl, behind_header (is_first_format bytes) (block_of bytes) (in_second_format bytes) (from_first (cut 10 bytes)))
+memory_is_first may_fail bytes = inr (refl, behind_header (is_first_format bytes) (parsed_block bytes) (in_second_format bytes) (from_first (cut 10 bytes)))

@@ -17,17 +17,17 @@ use Rattle.session_states.specs.declared.fault.StoreFault.TheVariants.{Busy, Hot
 use Rattle.sqlite_trees.specs.declared.error.StoreError.{StoreError}
 use Rattle.sqlite_trees.specs.declared.error.StoreError.TheVariants as failure
 use Rattle.session_turns.specs.declared.settings.Settings.{Settings}
-use Rattle.engines.specs.Chain.{durably_cut, fault_of}
-use Rattle.engines.specs.Opened.{Asks}
+use Rattle.engines.specs.Chain.{durably_cut, opening_fault}
+use Rattle.engines.specs.Opened.{OrdersFollow}
 use Rattle.engines.specs.Stores.{AsksAsTold, AsksForNone, AsksForSession, AsksInVain, IsOfSession, StoreOrder}
 use Rattle.engines.specs.declared.fault.Refusal.{Refusal}
 use Rattle.engines.specs.declared.fault.Refusal.TheVariants.{Seq, Store}
 
--- orders behind orders
-pub asks_then : {X : Type 0} (old mid new : Option (List X)) (first next : List X) → Asks old mid first → Asks mid new next → Asks old new (first ++ next)
+-- orders after orders
+pub asks_then : {X : Type 0} (old mid new : Option (List X)) (first next : List X) → OrdersFollow old mid first → OrdersFollow mid new next → OrdersFollow old new (first ++ next)
 asks_then None mid new first next h k = tt
 asks_then (Some orders) mid new first next h k =
-    let done : new ≡ Some ((orders ++ first) ++ next) = subst (λ m. Asks m new next) h k in done ∙ ap Some (append_assoc orders first next)
+    let done : new ≡ Some ((orders ++ first) ++ next) = subst (λ m. OrdersFollow m new next) h k in done ∙ ap Some (append_assoc orders first next)
 
 -- what holds whatever a call answers
 pub if_done : {T E : Type 0} (r : Result T E) (P : Type 0) → P → OnOk r P
@@ -44,7 +44,7 @@ if_any None P h = tt
 if_any (Some bytes) P h = h
 
 -- a file that was not opened
-at_fault : (fault : OpenFault) (old new : Option (List StoreOrder)) (path : List ℕ) → new ≡ old → AsksAsTold old new path (Store (fault_of fault))
+at_fault : (fault : OpenFault) (old new : Option (List StoreOrder)) (path : List ℕ) → new ≡ old → AsksAsTold old new path (Store (opening_fault fault))
 at_fault disk.Busy old new path same = same
 at_fault disk.HotJournal old new path same = same
 at_fault disk.Unreadable old new path same = inl same
@@ -52,7 +52,7 @@ at_fault disk.NotASession old new path same = inl same
 at_fault disk.Full old new path same = inl same
 at_fault disk.Memory old new path same = inl same
 
-pub not_opened : (input : Option (List ℕ)) (fault : OpenFault) (told : StoreFault) (old new : Option (List StoreOrder)) (path : List ℕ) → told ≡ fault_of fault → new ≡ old → IfSome input (λ _. AsksAsTold old new path (Store told))
+pub not_opened : (input : Option (List ℕ)) (fault : OpenFault) (told : StoreFault) (old new : Option (List StoreOrder)) (path : List ℕ) → told ≡ opening_fault fault → new ≡ old → IfSome input (λ _. AsksAsTold old new path (Store told))
 not_opened input fault told old new path is same = rw is (if_any input _ (at_fault fault old new path same))
 
 -- one that keeps no session of the settings
@@ -85,7 +85,7 @@ ended (Store OtherSettings) old new path never asks = absurd never
 ended (Store fault) old new path _ asks = inr (inr asks)
 ended fault old new path _ asks = asks
 
--- how a session ends
+-- the end of a session is a refusal of an opened one
 of_end : (may_fail : Type 0) (settings : Settings) (fault : ServeFault StoreFault) (old new : FileMoment) (bytes : List ℕ) (before after : Option (List ℕ))
     → IsEndedBy may_fail (IsFileAnswer settings) (IsShutBy settings) fault old bytes new before after → IsOfSession (durably_cut fault)
 of_end may_fail settings (serve.Broken request.BadLine) old new bytes before after h = tt

@@ -10,7 +10,7 @@ use Rattle.elf32.specs.declared.error.ElfError.{ElfError}
 use Rattle.programs.specs.Programs.{IsProgramFault, file_limit, program_of_file, programs_of, with_program}
 use Rattle.programs.specs.declared.fault.ProgramFault.{ProgramFault}
 use Rattle.programs.specs.declared.fault.ProgramFault.TheVariants.{Elf, TooLong, Unreadable}
-use Rattle.engines.specs.Engine.{IsFileFault, IsJobFault, job_over, programs_in, refusal_of}
+use Rattle.engines.specs.Engine.{IsFileFault, IsJobFault, job_over, program_refusal, programs_in}
 
 -- a program that was loaded from an open file
 pub file_program : (content remaining : Option (List ℕ)) (read : List ℕ) (image : Layout) → IfSome content (λ bytes. remaining ≡ Some bytes) → IfSome remaining (λ bytes. read ≡ bytes) → program_of_file read ≡ Ok image → IfSome (option_map program_of_file content) (λ wanted. wanted ≡ Ok image)
@@ -45,17 +45,17 @@ readable : (content : List ℕ → Option (List ℕ)) (paths : List (List ℕ)) 
 readable content [] is = cc
 readable content (path ∷ paths) is = at_path (content path) (programs_of (programs_in content) paths) (readable content paths) is
 
-of_programs : (block : BlockValue) (programs : Option (Result (List Layout) ProgramFault)) (fault : ProgramFault) → IfSome programs (λ w. w ≡ Err fault) → IfSome (option_map (result_map_both (job_over block) refusal_of) programs) (λ w. w ≡ Err (refusal_of fault))
+of_programs : (block : BlockValue) (programs : Option (Result (List Layout) ProgramFault)) (fault : ProgramFault) → IfSome programs (λ w. w ≡ Err fault) → IfSome (option_map (result_map_both (job_over block) program_refusal) programs) (λ w. w ≡ Err (program_refusal fault))
 of_programs block None fault h = tt
 of_programs block (Some (Ok images)) fault h = cc
 of_programs block (Some (Err first)) fault h = cc
 
-unknown : (block : BlockValue) (programs : Option (Result (List Layout) ProgramFault)) → (programs ≡ Some (Err Unreadable) → ⊥) → IfSome programs (λ w. w ≡ Err Unreadable) → option_map (result_map_both (job_over block) refusal_of) programs ≡ None
+unknown : (block : BlockValue) (programs : Option (Result (List Layout) ProgramFault)) → (programs ≡ Some (Err Unreadable) → ⊥) → IfSome programs (λ w. w ≡ Err Unreadable) → option_map (result_map_both (job_over block) program_refusal) programs ≡ None
 unknown block None never h = refl
 unknown block (Some w) never h = absurd (never cc)
 
 -- a fault of the programs of a block is one of its job
-pub job_fault : (content : List ℕ → Option (List ℕ)) (block : BlockValue) (fault : ProgramFault) → IsProgramFault (programs_of (programs_in content) block.programs) fault → IsJobFault ⊥ content (Ok block) (refusal_of fault)
+pub job_fault : (content : List ℕ → Option (List ℕ)) (block : BlockValue) (fault : ProgramFault) → IsProgramFault (programs_of (programs_in content) block.programs) fault → IsJobFault ⊥ content (Ok block) (program_refusal fault)
 job_fault content block (Elf fault) (inl memory) = inl (cc, refl)
 job_fault content block (Elf fault) (inr w) = inr (of_programs block (programs_of (programs_in content) block.programs) (Elf fault) w)
 job_fault content block TooLong (inl memory) = cc

@@ -5,8 +5,8 @@ use Rattle.std.specs.Prelude.{All, Option, Some, None, Result, Ok, Err, IfOk, If
 use Rattle.std.specs.Io.KnownBytes.{Appends}
 use Rattle.std.specs.Option.{option_map}
 use Rattle.std.specs.Result.{result_map_both}
-use Rattle.block_file.specs.Block.{BlockValue, block_of}
-use Rattle.block_file.specs.Schedule.{schedule_of}
+use Rattle.block_file.specs.Block.{BlockValue, parsed_block}
+use Rattle.block_file.specs.Schedule.{parsed_schedule}
 use Rattle.block_file.specs.declared.fault.BlockFault.{BlockFault}
 use Rattle.clap.specs.Words.{Text}
 use Rattle.cmdline.specs.Line.{Asked, RunOf, SeqOf, ConflictsOf, DriveOf, AsmOf, DisOf, DebugOf, MigrateOf, ChainOf}
@@ -20,7 +20,7 @@ use Rattle.rv_step.specs.Fold.{receipts_of, store_after}
 use Rattle.stm_state.specs.Drive.{DriveRefusal, drive_of}
 use Rattle.stm_state.specs.State.{State}
 use Rattle.engines.specs.Drive.{drive_fault, driven_answer, text_along, text_by, text_over}
-use Rattle.engines.specs.Engine.{answer_of, job_over, programs_in, refusal_of, text_of}
+use Rattle.engines.specs.Engine.{answer_of, job_over, program_refusal, programs_in, text_of}
 use Rattle.engines.specs.Headline.{HaveSameFiles, IsOfResult, result_of}
 use Rattle.engines.specs.Program.{Contents, Prints, PrintsResult}
 use Rattle.engines.specs.declared.fault.Refusal.{Refusal}
@@ -45,26 +45,26 @@ module _ (P : List ℕ → Type 0) where
   by_schedule block images workers (Ok entries) h = text_is (calls_over block images) block.store workers entries h
 
   over_programs : (block : BlockValue) (workers : ℕ) (bytes : List ℕ) (programs : Option (Result (List Layout) ProgramFault))
-      → IfSome (option_and_then (text_over block workers (Some (schedule_of bytes))) programs) (λ answer. IsOkAnd answer P)
-      → IfSome (option_map (result_map_both text_of (λ fault. fault)) (option_map (result_map_both (job_over block) refusal_of) programs)) (λ answer. IsOkAnd answer P)
+      → IfSome (option_and_then (text_over block workers (Some (parsed_schedule bytes))) programs) (λ answer. IsOkAnd answer P)
+      → IfSome (option_map (result_map_both text_of (λ fault. fault)) (option_map (result_map_both (job_over block) program_refusal) programs)) (λ answer. IsOkAnd answer P)
   over_programs block workers bytes None h = tt
   over_programs block workers bytes (Some (Err fault)) h = absurd h
-  over_programs block workers bytes (Some (Ok images)) h = by_schedule block images workers (schedule_of bytes) h
+  over_programs block workers bytes (Some (Ok images)) h = by_schedule block images workers (parsed_schedule bytes) h
 
   of_block : (content : Contents) (block : Result BlockValue BlockFault) (workers : ℕ) (bytes : List ℕ)
-      → IfSome (driven_answer content block workers (Some (schedule_of bytes))) (λ answer. IsOkAnd answer P) → IfSome (answer_of content block) (λ answer. IsOkAnd answer P)
+      → IfSome (driven_answer content block workers (Some (parsed_schedule bytes))) (λ answer. IsOkAnd answer P) → IfSome (answer_of content block) (λ answer. IsOkAnd answer P)
   of_block content (Err fault) workers bytes h = h
   of_block content (Ok block) workers bytes h = over_programs block workers bytes (programs_of (programs_in content) block.programs) h
 
   of_file : (content : Contents) (input : Option (List ℕ)) (workers : ℕ) (bytes : List ℕ)
-      → IfSome input (λ b. IfSome (driven_answer content (block_of b) workers (Some (schedule_of bytes))) (λ answer. IsOkAnd answer P))
-      → IfSome input (λ b. IfSome (answer_of content (block_of b)) (λ answer. IsOkAnd answer P))
+      → IfSome input (λ b. IfSome (driven_answer content (parsed_block b) workers (Some (parsed_schedule bytes))) (λ answer. IsOkAnd answer P))
+      → IfSome input (λ b. IfSome (answer_of content (parsed_block b)) (λ answer. IsOkAnd answer P))
   of_file content None workers bytes h = tt
-  of_file content (Some b) workers bytes h = of_block content (block_of b) workers bytes h
+  of_file content (Some b) workers bytes h = of_block content (parsed_block b) workers bytes h
 
   at_schedule : (content : Contents) (input schedule : Option (List ℕ)) (workers : ℕ) → IsSome schedule
-      → IfSome input (λ b. IfSome (driven_answer content (block_of b) workers (option_map schedule_of schedule)) (λ answer. IsOkAnd answer P))
-      → IfSome input (λ b. IfSome (answer_of content (block_of b)) (λ answer. IsOkAnd answer P))
+      → IfSome input (λ b. IfSome (driven_answer content (parsed_block b) workers (option_map parsed_schedule schedule)) (λ answer. IsOkAnd answer P))
+      → IfSome input (λ b. IfSome (answer_of content (parsed_block b)) (λ answer. IsOkAnd answer P))
   at_schedule content input None workers known h = cc
   at_schedule content input (Some bytes) workers known h = of_file content input workers bytes h
 
@@ -81,15 +81,15 @@ programs_same first second (path ∷ paths) h = ap₂ with_program (ap (option_m
 answer_same : (first second : Contents) (block : Result BlockValue BlockFault) → IfOk block (λ b. All (λ path. first path ≡ second path) b.programs) → answer_of first block ≡ answer_of second block
 answer_same first second (Err fault) h = refl
 answer_same first second (Ok block) h =
-    ap (λ programs. option_map (result_map_both text_of (λ fault. fault)) (option_map (result_map_both (job_over block) refusal_of) programs)) (programs_same first second block.programs h)
+    ap (λ programs. option_map (result_map_both text_of (λ fault. fault)) (option_map (result_map_both (job_over block) program_refusal) programs)) (programs_same first second block.programs h)
 
-at_input : (first second : Contents) (input : Option (List ℕ)) → IfSome input (λ b. IfOk (block_of b) (λ block. All (λ path. first path ≡ second path) block.programs))
-    → option_and_then (λ b. answer_of first (block_of b)) input ≡ option_and_then (λ b. answer_of second (block_of b)) input
+at_input : (first second : Contents) (input : Option (List ℕ)) → IfSome input (λ b. IfOk (parsed_block b) (λ block. All (λ path. first path ≡ second path) block.programs))
+    → option_and_then (λ b. answer_of first (parsed_block b)) input ≡ option_and_then (λ b. answer_of second (parsed_block b)) input
 at_input first second None h = refl
-at_input first second (Some b) h = answer_same first second (block_of b) h
+at_input first second (Some b) h = answer_same first second (parsed_block b) h
 
 pub result_same : (first second : Contents) (file : Text) → HaveSameFiles first second file → result_of first file ≡ result_of second file
-result_same first second file same = at_input first second (first file) same.programs ∙ ap (λ input. option_and_then (λ b. answer_of second (block_of b)) input) same.block
+result_same first second file same = at_input first second (first file) same.programs ∙ ap (λ input. option_and_then (λ b. answer_of second (parsed_block b)) input) same.block
 
 -- ---- so what they print is one text
 
@@ -100,10 +100,10 @@ nested (Some x) f P h = h
 -- what is printed at the end is the result
 pub prints_result : (content : Contents) (typed old new : Option (List ℕ)) (file : Text) (asked : Asked) → IsOfResult content file asked → Prints content typed old new asked
     → IfSome (result_of content file) (λ answer. IsOkAnd answer (Appends old new))
-prints_result content typed old new file (RunOf named workers counts) is h = nested (content file) (λ b. answer_of content (block_of b)) (λ answer. IsOkAnd answer (Appends old new)) (subst (λ f. PrintsResult content old new f) is h)
-prints_result content typed old new file (SeqOf named) is h = nested (content file) (λ b. answer_of content (block_of b)) (λ answer. IsOkAnd answer (Appends old new)) (subst (λ f. PrintsResult content old new f) is h)
+prints_result content typed old new file (RunOf named workers counts) is h = nested (content file) (λ b. answer_of content (parsed_block b)) (λ answer. IsOkAnd answer (Appends old new)) (subst (λ f. PrintsResult content old new f) is h)
+prints_result content typed old new file (SeqOf named) is h = nested (content file) (λ b. answer_of content (parsed_block b)) (λ answer. IsOkAnd answer (Appends old new)) (subst (λ f. PrintsResult content old new f) is h)
 prints_result content typed old new file (DriveOf named workers schedule counts) is h =
-    nested (content file) (λ b. answer_of content (block_of b)) (λ answer. IsOkAnd answer (Appends old new))
+    nested (content file) (λ b. answer_of content (parsed_block b)) (λ answer. IsOkAnd answer (Appends old new))
     (subst (λ f. PrintsResult content old new f) is.0 (drive_is_seq content typed old new named workers schedule counts is.1 h))
 prints_result content typed old new file (ConflictsOf named) is h = absurd is
 prints_result content typed old new file (AsmOf named out) is h = absurd is

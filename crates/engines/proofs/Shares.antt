@@ -1,4 +1,4 @@
--- What the workers of a run did, by the shares that they gave back.
+-- What the workers of a run did, by the shares that they returned.
 use Rattle.std.proofs.Common.{◌≡◌, ◌∙◌, ℕ, suc, List, [], ◌∷◌, length, map, ap, ap₂, arith, refl, subst, sym}
 use Rattle.std.specs.Prelude.{Some, get_or, slice_get}
 use Rattle.rv_ledger.specs.declared.job.Job.{Job}

@@ -19,7 +19,7 @@ abbrev pub broken_of : RequestFault → Refusal
 broken_of request.BadLine = Request BadLine
 broken_of request.Cut = Request Cut
 
--- why it is refused if a fault ended its session in memory, which nothing shuts
+-- why the command is refused if a fault ended its session in memory, which nothing shuts
 abbrev pub cut_of : ServeFault Infallible → Refusal
 cut_of (serve.Broken fault) = broken_of fault
 cut_of serve.Unreadable = Request Unreadable
@@ -30,18 +30,18 @@ cut_of (serve.Shut never) = elim never [ ]
 abbrev pub never_shut : Shutting State Infallible
 never_shut s ask fault next = ⊥
 
--- why it is refused if a fault ended its session over a file
+-- why the command is refused if a fault ended its session over a file
 abbrev pub durably_cut : ServeFault StoreFault → Refusal
 durably_cut (serve.Broken fault) = broken_of fault
 durably_cut serve.Unreadable = Request Unreadable
 durably_cut (serve.Output fault) = Output fault
 durably_cut (serve.Shut fault) = Store fault
 
--- what is told of a file that is not opened
-abbrev pub fault_of : OpenFault → StoreFault
-fault_of disk.Busy = told.Busy
-fault_of disk.HotJournal = told.HotJournal
-fault_of disk.Unreadable = told.Unreadable
-fault_of disk.NotASession = told.NotASession
-fault_of disk.Full = told.Full
-fault_of disk.Memory = told.Memory
+-- the fault that is reported for a file that is not opened
+abbrev pub opening_fault : OpenFault → StoreFault
+opening_fault disk.Busy = told.Busy
+opening_fault disk.HotJournal = told.HotJournal
+opening_fault disk.Unreadable = told.Unreadable
+opening_fault disk.NotASession = told.NotASession
+opening_fault disk.Full = told.Full
+opening_fault disk.Memory = told.Memory

@@ -8,7 +8,7 @@ use Rattle.conflicts.specs.Sums.{keys_of_calls}
 use Rattle.conflicts.specs.Text.{conflicts_text}
 use Rattle.conflicts.specs.Waits.{calls_of}
 use Rattle.rv_ledger.specs.declared.job.Job.{Job}
-use Rattle.engines.specs.Engine.{IsOutputFault, IsRefused}
+use Rattle.engines.specs.Engine.{IsCommandRefused, IsOutputFault}
 use Rattle.engines.specs.declared.fault.Refusal.{Refusal}
 use Rattle.engines.specs.declared.fault.Refusal.TheVariants.{Seq}
 use Rattle.engines.specs.declared.fault.SeqFault.TheVariants.{Memory}
@@ -26,4 +26,4 @@ AppendsConflicts job old new = (text : List ℕ) × IsConflictsText job text × 
 
 -- a refusal of finding the conflicts of a job and writing them: Memory, or one of the output of their text
 abbrev pub IsConflictsFault : (WriteFault → Type 0) → Option (List ℕ) → Option (List ℕ) → Job → Refusal → Type 0
-IsConflictsFault may_refuse old new job = IsRefused old new (λ e. e ≡ Seq Memory) (IsConflictsText job) (λ text. IsOutputFault may_refuse text old new)
+IsConflictsFault may_refuse old new job = IsCommandRefused old new (λ e. e ≡ Seq Memory) (IsConflictsText job) (λ text. IsOutputFault may_refuse text old new)

@@ -27,7 +27,6 @@ counts_before steps asks executions validations rest =
     codes " steps " ++ (decimal steps ++ (codes " asks " ++ (decimal asks
     ++ (codes " executions " ++ (decimal executions ++ (codes " validations " ++ (decimal validations ++ rest)))))))
 
--- the line of a worker
 abbrev pub worker_line : ℕ → Counts → List ℕ
 worker_line worker c = codes "worker " ++ (decimal worker ++ counts_before c.steps c.asks c.executions c.validations (codes "\n"))
 

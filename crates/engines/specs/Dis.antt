@@ -18,7 +18,7 @@ use Rattle.rv_text.specs.declared.fault.AsmCause.TheVariants as cause
 use Rattle.engines.specs.declared.fault.Refusal.{Refusal}
 use Rattle.engines.specs.declared.fault.Refusal.TheVariants.{File, Elf, Output, Asm}
 use Rattle.engines.specs.declared.fault.FileFault.TheVariants.{Unreadable}
-use Rattle.engines.specs.Engine.{refusal_of, IsFileFault, IsOutputFault, IsRefused}
+use Rattle.engines.specs.Engine.{program_refusal, IsFileFault, IsOutputFault, IsCommandRefused}
 use Rattle.programs.specs.Programs.{program_of_file}
 use Rattle.programs.specs.declared.fault.ProgramFault.{ProgramFault}
 
@@ -32,12 +32,12 @@ listing_of image = flat_map listing_line (words_of image)
 
 -- what `dis` prints of a file, or its fault
 abbrev pub listing_of_file : List ℕ → Result (List ℕ) Refusal
-listing_of_file bytes = result_map_both listing_of refusal_of (program_of_file bytes)
+listing_of_file bytes = result_map_both listing_of program_refusal (program_of_file bytes)
 
--- a refusal of `dis`: a fault of the file, or one of the output of its listing, but for Memory
+-- a refusal of `dis`: a fault of the file, or one of the output of its listing, except Memory
 abbrev pub IsListingFault : Type 0 → (WriteFault → Type 0) → Option (List ℕ) → Option (List ℕ) → Option (List ℕ) → Refusal → Type 0
 IsListingFault may_fail may_refuse input old new =
-    IsRefused old new (λ e. (fault : ProgramFault) × (e ≡ refusal_of fault) × IsFileFault may_fail (option_map program_of_file input) fault)
+    IsCommandRefused old new (λ e. (fault : ProgramFault) × (e ≡ program_refusal fault) × IsFileFault may_fail (option_map program_of_file input) fault)
     (λ text. IfSome input (λ bytes. listing_of_file bytes ≡ Ok text))
     (λ text e. (e ≢ Output output.Memory) × IsOutputFault may_refuse text old new e)
 
@@ -53,9 +53,9 @@ file_of_program (Err fault) = Err (Asm fault)
 abbrev pub file_of_source : List ℕ → Result (List ℕ) Refusal
 file_of_source source = file_of_program (assembled source)
 
--- a refusal of `asm` before anything is written: a fault of a source in UTF-8 is the first one. Memory of the assembler
--- has line 1, and Memory for the file comes only where the source has no fault. Unreadable comes only where a read may
--- fail or the source is not in UTF-8
+-- a refusal of `asm` before anything is written: a fault of a source in UTF-8 is the first one. Memory of the assembler has
+-- line 1, and Memory for the file comes only if the source has no fault. Unreadable comes only if a read may fail or the source
+-- is not in UTF-8
 abbrev pub IsSourceFault : Type 0 → List ℕ → Refusal → Type 0
 IsSourceFault may_fail source (Asm fault) = ((fault.cause ≡ cause.Memory) × (fault.line ≡ 1)) ⊎ (IsUtf8 source × (file_of_source source ≡ Err (Asm fault)))
 IsSourceFault may_fail source (Elf fault) = IsUtf8 source × (((fault ≡ elf.Memory) × IsOk (file_of_source source)) ⊎ (file_of_source source ≡ Err (Elf fault)))

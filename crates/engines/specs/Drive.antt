@@ -17,7 +17,7 @@ use Rattle.block_file.specs.Block.{BlockValue}
 use Rattle.block_file.specs.declared.fault.BlockFault.{BlockFault}
 use Rattle.programs.specs.Programs.{calls_over, programs_of}
 use Rattle.programs.specs.declared.fault.ProgramFault.{ProgramFault}
-use Rattle.engines.specs.Engine.{programs_in, refusal_of, IsOutputFault, IsRefused, IsTextFault}
+use Rattle.engines.specs.Engine.{programs_in, program_refusal, IsOutputFault, IsCommandRefused, IsTextFault}
 use Rattle.engines.specs.declared.fault.Refusal.{Refusal}
 use Rattle.engines.specs.declared.fault.Refusal.TheVariants.{File, Block, Schedule, Drive, Output}
 use Rattle.engines.specs.declared.fault.FileFault.TheVariants.{Unreadable}
@@ -29,8 +29,8 @@ drive_fault list.BadWorker = drive.BadWorker
 drive_fault (list.Limited ArenaFull) = drive.ArenaFull
 drive_fault (list.Limited IncarnationLimit) = drive.IncarnationLimit
 
--- the text of the result of calls along a list of worker numbers: where the list is not refused, it is the text of the
--- calls run in order
+-- the text of the result of calls along a list of worker numbers: if the list is not refused, it is the text of the calls run
+-- in order
 abbrev pub text_along : List Invocation → Storage → ℕ → List ℕ → Result (List ℕ) Refusal
 text_along calls store workers entries = result_map_both (λ s. result_text (receipts_of calls store) (store_after calls store))
     (λ refusal. Drive (drive_fault refusal)) (list.drive_of calls store workers entries)
@@ -40,19 +40,19 @@ abbrev pub text_by : BlockValue → List Layout → ℕ → Result (List ℕ) Bl
 text_by block images workers (Err fault) = Err (Schedule fault)
 text_by block images workers (Ok entries) = text_along (calls_over block images) block.store workers entries
 
--- the same over the files of programs; their first fault comes before those of the schedule. None where they have no
--- fault and the schedule's bytes are unknown
+-- the same over the files of programs; their first fault comes before those of the schedule. None if they have no fault and the
+-- schedule's bytes are unknown
 abbrev pub text_over : BlockValue → ℕ → Option (Result (List ℕ) BlockFault) → Result (List Layout) ProgramFault → Option (Result (List ℕ) Refusal)
-text_over block workers schedule (Err fault) = Some (Err (refusal_of fault))
+text_over block workers schedule (Err fault) = Some (Err (program_refusal fault))
 text_over block workers schedule (Ok images) = option_map (text_by block images workers) schedule
 
--- what is to be written for a block file and a schedule file, or the first fault: in the block file, in the files of
--- its programs, in the schedule file, then along the schedule. None where the bytes that decide this are unknown
+-- what must be written for a block file and a schedule file, or the first fault: in the block file, in the files of its
+-- programs, in the schedule file, then along the schedule. None if the bytes that decide this are unknown
 abbrev pub driven_answer : (List ℕ → Option (List ℕ)) → Result BlockValue BlockFault → ℕ → Option (Result (List ℕ) BlockFault) → Option (Result (List ℕ) Refusal)
 driven_answer content (Err fault) workers schedule = Some (Err (Block fault))
 driven_answer content (Ok block) workers schedule = option_and_then (text_over block workers schedule) (programs_of (programs_in content) block.programs)
 
--- a refusal met in the schedule file: the wanted one, Memory with no fault before it, or Unreadable where a read may fail
+-- a refusal met in the schedule file: the wanted one, Memory with no fault before it, or Unreadable if a read may fail
 abbrev pub IsScheduleFault : Type 0 → Option (Result (List ℕ) BlockFault) → Refusal → Type 0
 IsScheduleFault may_fail wanted (Schedule fault) = IfSome wanted (λ w. IsTextFault w fault)
 IsScheduleFault may_fail wanted (File Unreadable) = may_fail
@@ -64,9 +64,9 @@ IsDriveFault may_refuse wanted old new (Drive fault) = (new ≡ old) × ((fault 
 IsDriveFault may_refuse wanted old new (Output fault) = IsOkAnd wanted (λ text. IsOutputFault may_refuse text old new (Output fault))
 IsDriveFault may_refuse wanted old new _ = ⊥
 
--- a refusal of a run along a schedule file: one met in this file, or one of the run along its list, which is any list
--- where the file is unknown
+-- a refusal of a run along a schedule file: one met in this file, or one of the run along its list, which is any list if the
+-- file is unknown
 abbrev pub IsScheduledFault : Type 0 → (WriteFault → Type 0) → ℕ → Option (Result (List ℕ) BlockFault) → Option (List ℕ) → Option (List ℕ) → Job → Refusal → Type 0
 IsScheduledFault may_fail may_refuse workers schedule old new job =
-    IsRefused old new (IsScheduleFault may_fail schedule) (λ entries. IfSome schedule (λ wanted. wanted ≡ Ok entries))
+    IsCommandRefused old new (IsScheduleFault may_fail schedule) (λ entries. IfSome schedule (λ wanted. wanted ≡ Ok entries))
     (λ entries. IsDriveFault may_refuse (text_along job.block job.store workers entries) old new)

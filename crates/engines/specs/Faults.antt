@@ -26,19 +26,17 @@ use Rattle.engines.specs.declared.fault.InputFault.TheVariants.{BadLine, Cut}
 use Rattle.engines.specs.declared.fault.Refusal.{Refusal}
 use Rattle.engines.specs.declared.fault.Refusal.TheVariants.{File, Block, Elf, Asm, Seq, Schedule, Run, Drive, Debug, Request, Store, Output}
 
--- the number of a refusal of a file
 abbrev pub file_number : FileFault → ℕ
 file_number Unreadable = 1
 file_number Unwritable = 2
 file_number TooLong = 3
 
--- its name
 abbrev pub file_name : FileFault → List ℕ
 file_name Unreadable = codes "Unreadable"
 file_name Unwritable = codes "Unwritable"
 file_name TooLong = codes "TooLong"
 
--- both, as they are printed
+-- the name and the number of a refusal of a file, as they are printed
 unfoldable pub file_text : FileFault → List ℕ
 file_text fault = file_name fault ++ codes " " ++ decimal (file_number fault)
 
@@ -109,6 +107,5 @@ parts_of (Request fault) = without_line (codes "request") (input_name fault) (in
 parts_of (Store fault) = store.store_fault_parts fault
 parts_of (Output fault) = without_line (codes "output") (output.name_of fault) (output.number_of fault)
 
--- the line of a refusal
 abbrev pub refusal_line : Refusal → List ℕ
 refusal_line refusal = line_text (codes "rvstm: ") (parts_of refusal)

@@ -6,11 +6,11 @@ pub data FileOrder : Type 0 where
   Open : (path : List ℕ) → FileOrder
   Close : FileOrder
 
--- where the orders so far are known, these follow, and no others
-abbrev pub Asks : {X : Type 0} → Option (List X) → Option (List X) → List X → Type 0
-Asks None new orders = ⊤
-Asks (Some old) new orders = new ≡ Some (old ++ orders)
+-- if the orders so far are known, these follow, and no others
+abbrev pub OrdersFollow : {X : Type 0} → Option (List X) → Option (List X) → List X → Type 0
+OrdersFollow None new orders = ⊤
+OrdersFollow (Some old) new orders = new ≡ Some (old ++ orders)
 
 -- the file at a path was opened and closed again, or it could not be opened
 abbrev pub AsksForFile : Option (List FileOrder) → Option (List FileOrder) → List ℕ → Type 0
-AsksForFile old new path = Asks old new (Open path ∷ Close ∷ []) ⊎ (new ≡ old)
+AsksForFile old new path = OrdersFollow old new (Open path ∷ Close ∷ []) ⊎ (new ≡ old)

@@ -3,9 +3,9 @@ use Rattle.std.specs.Prelude.{◌≡◌, ◌⊎◌, ⊤, ℕ, Bool, true, codes,
 use Rattle.std.specs.Io.KnownBytes.{Appends}
 use Rattle.std.specs.Option.{option_map, unwrap_or}
 use Rattle.std.specs.declared.convert.Infallible.{Infallible}
-use Rattle.block_file.specs.Block.{block_of}
+use Rattle.block_file.specs.Block.{parsed_block}
 use Rattle.block_file.specs.Migrate.{migrated}
-use Rattle.block_file.specs.Schedule.{schedule_of}
+use Rattle.block_file.specs.Schedule.{parsed_schedule}
 use Rattle.byte_streams.specs.declared.fault.WriteFault.{WriteFault}
 use Rattle.byte_streams.specs.declared.fault.WriteFault.TheVariants.{Io, WroteNothing}
 use Rattle.byte_streams.specs.Written.{AppendsPart}
@@ -43,7 +43,7 @@ use Rattle.engines.specs.declared.fault.Refusal.{Refusal}
 use Rattle.engines.specs.declared.fault.Refusal.TheVariants.{Drive, File, Output, Run, Seq, Store}
 use Rattle.engines.specs.declared.fault.SeqFault.TheVariants.{Memory}
 
--- the bytes of the files, by their paths; None where they are not known
+-- the bytes of the files, by their paths; None if they are not known
 abbrev pub Contents : Type 0
 Contents = List ℕ → Option (List ℕ)
 
@@ -54,22 +54,22 @@ abbrev pub if_right : Kinds → Option Asked → Option Asked
 if_right [] asked = asked
 if_right (kind ∷ kinds) asked = None
 
--- what a line asks for, with the program's name first; None where it has a fault, or asks for help or the version
+-- what a line asks for, with the program's name first; None if it has a fault, or asks for help or the version
 unfoldable pub asked_on : List Text → Option Asked
 asked_on words = if_right (fault_of rvstm_app words) (requested words)
 
 -- ---- what is printed
 
--- what is printed of a job where it is run
+-- what is printed of a job that is run
 abbrev pub PrintsResult : Contents → Option (List ℕ) → Option (List ℕ) → Text → Type 0
 PrintsResult content old new file = IfSome (content file) (λ input.
-    IfSome (answer_of content (block_of input)) (λ answer. IsOkAnd answer (Appends old new)))
+    IfSome (answer_of content (parsed_block input)) (λ answer. IsOkAnd answer (Appends old new)))
 
 -- the settings of a session, by the options
-abbrev pub settings_of : Option ℕ → Option ℕ → Bool → Bool → Settings
-settings_of limit gas digest brief = record { frame_limit = unwrap_or limit 67108864; frame_gas = gas; keeps_digest = digest; is_brief = brief }
+abbrev pub chain_settings : Option ℕ → Option ℕ → Bool → Bool → Settings
+chain_settings limit gas digest brief = record { frame_limit = unwrap_or limit 67108864; frame_gas = gas; keeps_digest = digest; is_brief = brief }
 
--- what a session prints that a file keeps: it goes on from what the file has
+-- what a session prints that a file keeps: it continues from what the file has
 abbrev pub PrintsKept : Settings → Option (List ℕ) → Option (List ℕ) → List ℕ → Type 0
 PrintsKept settings old new bytes = (first after : FileMoment) × IsServed (IsFileAnswer settings) None first bytes after old new
 
@@ -83,31 +83,31 @@ abbrev pub Prints : Contents → Option (List ℕ) → Option (List ℕ) → Opt
 Prints content typed old new (RunOf file workers counts) = PrintsResult content old new file
 Prints content typed old new (SeqOf file) = PrintsResult content old new file
 Prints content typed old new (ConflictsOf file) = IfSome (content file) (λ input.
-    IfSome (loaded_job content (block_of input)) (λ wanted. IsOkAnd wanted (λ job. AppendsConflicts job old new)))
+    IfSome (loaded_job content (parsed_block input)) (λ wanted. IsOkAnd wanted (λ job. AppendsConflicts job old new)))
 Prints content typed old new (DriveOf file workers schedule counts) = IfSome (content file) (λ input.
-    IfSome (driven_answer content (block_of input) workers (option_map schedule_of (content schedule))) (λ answer. IsOkAnd answer (Appends old new)))
+    IfSome (driven_answer content (parsed_block input) workers (option_map parsed_schedule (content schedule))) (λ answer. IsOkAnd answer (Appends old new)))
 Prints content typed old new (AsmOf file out) = new ≡ old
 Prints content typed old new (DisOf file) = IfSome (content file) (λ bytes. IsOkAnd (listing_of_file bytes) (Appends old new))
 Prints content typed old new (DebugOf file call more) = IfSome (content file) (λ input. IfSome typed (λ lines.
-    IfSome (loaded_job content (block_of input)) (λ job. IsOkAnd (replayed_text more job call lines) (Appends old new))))
+    IfSome (loaded_job content (parsed_block input)) (λ job. IsOkAnd (replayed_text more job call lines) (Appends old new))))
 Prints content typed old new (MigrateOf file out) = new ≡ old
 Prints content typed old new (ChainOf workers limit gas digest brief store) =
-    IfSome typed (PrintsSession (settings_of limit gas digest brief) store old new)
+    IfSome typed (PrintsSession (chain_settings limit gas digest brief) store old new)
 
--- the counts that it prints on standard error, where `--counts` stands: those of the run
+-- the counts that it prints on standard error, if `--counts` is given: those of the run
 abbrev pub AreCountsAsked : Contents → Asked → Option RunCounts → Type 0
 AreCountsAsked content (RunOf file workers true) (Some counts) = IfSome (content file) (λ input.
-    IfSome (loaded_job content (block_of input)) (λ wanted. IsOkAnd wanted (λ job. AreCountsOfRun job workers counts)))
+    IfSome (loaded_job content (parsed_block input)) (λ wanted. IsOkAnd wanted (λ job. AreCountsOfRun job workers counts)))
 AreCountsAsked content (RunOf file workers true) None = ⊥
 AreCountsAsked content (DriveOf file workers schedule true) (Some counts) = IfSome (content file) (λ input. IfSome (content schedule) (λ bytes.
-    IfSome (loaded_job content (block_of input)) (λ wanted. IsOkAnd wanted (λ job.
-    IsOkAnd (schedule_of bytes) (λ entries. AreCountsAlong job workers entries counts)))))
+    IfSome (loaded_job content (parsed_block input)) (λ wanted. IsOkAnd wanted (λ job.
+    IsOkAnd (parsed_schedule bytes) (λ entries. AreCountsAlong job workers entries counts)))))
 AreCountsAsked content (DriveOf file workers schedule true) None = ⊥
 AreCountsAsked content asked counts = counts ≡ None
 
 -- ---- what is put into files
 
--- what it puts at a path, `leads` being where a path leads to
+-- what it puts at a path; `leads` resolves a path
 abbrev pub PutsFile : Contents → (List ℕ → List ℕ) → Option Entries → Option Entries → Asked → Type 0
 PutsFile content leads old new (AsmOf file out) = IfSome (content file) (λ source. IsOkAnd (file_of_source source) (IsPut old new (leads out)))
 PutsFile content leads old new (MigrateOf file out) = IfSome (content file) (λ block. IsOkAnd (migrated block) (IsPut old new (leads out)))
@@ -119,7 +119,7 @@ PutsNothing leads old new (AsmOf file out) = Stays old new (leads out)
 PutsNothing leads old new (MigrateOf file out) = Stays old new (leads out)
 PutsNothing leads old new asked = ⊤
 
--- whatever comes of a command, `asm` and `migrate` leave FILE as it was, and all others the whole disk
+-- however a command ends, `asm` and `migrate` leave FILE as it was, and all others the whole disk
 abbrev pub KeepsDisk : {D : Type 0} → (List ℕ → List ℕ) → (D → Option Entries) → D → D → Asked → Type 0
 KeepsDisk leads entries old new (AsmOf file out) = KeepsFile (entries old) (entries new) (leads file) (leads out)
 KeepsDisk leads entries old new (MigrateOf file out) = KeepsFile (entries old) (entries new) (leads file) (leads out)
@@ -142,13 +142,13 @@ abbrev pub ClosesStore : {F : Type 0} → (F → View → Type 0) → Asked → 
 ClosesStore {F} are_folded (ChainOf workers limit gas digest brief (Some file)) = AreClosed are_folded
 ClosesStore {F} are_folded asked = ⊤
 
--- what a session printed from a moment on, and what its files hold in the end, if that is known: the session after its last answer;
--- and no wrong answer of the disk was taken as true
+-- what a session printed from a moment on, and what its files hold in the end, if that is known: the session after its last
+-- answer; and no wrong answer of the disk was taken as true
 abbrev pub KeepsFrom : Settings → FileMoment → Option Trees → Option (List ℕ) → Option (List ℕ) → List ℕ → Type 0
 KeepsFrom settings first now old new bytes = (after : FileMoment) × IsServed (IsFileAnswer settings) None first bytes after old new
     × IfSome now (λ db. (doubt after.is_clean ≡ 0) × HoldsState settings after.session db)
 
--- It went on from the session that its files held before, or began a new one if they held no rows.
+-- the session continued from the one that its files held before, or began a new one if they held no rows
 abbrev pub KeepsSession : Settings → Option Trees → Option Trees → Option (List ℕ) → Option (List ℕ) → List ℕ → Type 0
 KeepsSession settings before now old new bytes = (first : FileMoment) × KeepsFrom settings first now old new bytes
     × IfSome now (λ _. IfSome before (λ found. IsFoundIn settings found first.session))
@@ -160,7 +160,7 @@ KeepsSessionAt settings before now file typed old new = KeepsOthers before now f
 -- what the files of sessions hold after a command that is done
 abbrev pub KeepsSessions : Option (List ℕ) → TreesAt → TreesAt → Option (List ℕ) → Option (List ℕ) → Asked → Type 0
 KeepsSessions typed before now old new (ChainOf workers limit gas digest brief (Some file)) =
-    KeepsSessionAt (record (settings_of limit gas digest brief) { keeps_digest = true }) before now file typed old new
+    KeepsSessionAt (record (chain_settings limit gas digest brief) { keeps_digest = true }) before now file typed old new
 KeepsSessions typed before now old new asked = now ≡ before
 
 -- ---- refusals
@@ -170,7 +170,7 @@ abbrev pub IsCutSession : Settings → Option (List ℕ) → Option (List ℕ) �
 IsCutSession settings old new bytes e = ((new ≡ old) × (e ≡ Seq Memory))
     ⊎ ((fault : ServeFault Infallible) × (after : State) × (e ≡ cut_of fault) × IsEndedBy ⊤ (IsAnswer settings) never_shut fault (new_session settings) bytes after old new)
 
--- the same of one that a file keeps: also what the file is refused as, before the session or where it is closed behind it
+-- the same of one that a file keeps: also what the file is refused as, before the session or when it is closed after it
 abbrev pub IsCutKept : Type 0 → Settings → Option (List ℕ) → Option (List ℕ) → List ℕ → Refusal → Type 0
 IsCutKept may_fail settings old new bytes e = ((new ≡ old) × ((e ≡ Seq Memory) ⊎ ((fault : StoreFault) × (e ≡ Store fault))))
     ⊎ ((fault : ServeFault StoreFault) × (first after : FileMoment) × (e ≡ durably_cut fault) × IsEndedBy may_fail (IsFileAnswer settings) (IsShutBy settings) fault first bytes after old new)
@@ -189,7 +189,7 @@ IsRefusedAs content may_fail typed may_refuse old new (SeqOf file) =
 IsRefusedAs content may_fail typed may_refuse old new (ConflictsOf file) =
     IsRefusedJob (Seq Memory) (IsConflictsFault may_refuse) (content file ≡ None) (content file) content old new
 IsRefusedAs content may_fail typed may_refuse old new (DriveOf file workers schedule counts) =
-    IsRefusedJob (Drive drive.Memory) (IsScheduledFault (content schedule ≡ None) may_refuse workers (option_map schedule_of (content schedule)))
+    IsRefusedJob (Drive drive.Memory) (IsScheduledFault (content schedule ≡ None) may_refuse workers (option_map parsed_schedule (content schedule)))
     (content file ≡ None) (content file) content old new
 IsRefusedAs content may_fail typed may_refuse old new (AsmOf file out) =
     λ e. (new ≡ old) × ((e ≡ File Unwritable) ⊎ IfSome (content file) (λ bytes. IsSourceFault (content file ≡ None) bytes e))
@@ -197,34 +197,34 @@ IsRefusedAs content may_fail typed may_refuse old new (DisOf file) =
     IsListingFault (content file ≡ None) may_refuse (content file) old new
 IsRefusedAs content may_fail typed may_refuse old new (DebugOf file call more) =
     λ e. IsRefusedJob (Seq Memory) (IsReplayedFault (MayBeCutOff may_fail typed) may_refuse call) (content file ≡ None) (content file) content old new e
-    × IfSome (content file) (λ input. IfSome typed (λ lines. IfSome (loaded_job content (block_of input)) (λ job.
+    × IfSome (content file) (λ input. IfSome typed (λ lines. IfSome (loaded_job content (parsed_block input)) (λ job.
     IfOk (replayed_text more job call lines) (AppendsBeginning old new))))
 IsRefusedAs content may_fail typed may_refuse old new (MigrateOf file out) =
     λ e. (new ≡ old) × ((e ≡ File Unwritable) ⊎ IfSome (content file) (λ bytes. IsBlockFault (content file ≡ None) (migrated bytes) e))
 IsRefusedAs content may_fail typed may_refuse old new (ChainOf workers limit gas digest brief store) =
-    λ e. IfSome typed (λ bytes. IsRefusedSession (settings_of limit gas digest brief) store old new bytes e)
+    λ e. IfSome typed (λ bytes. IsRefusedSession (chain_settings limit gas digest brief) store old new bytes e)
 
--- ---- what is told on standard error
+-- ---- what is printed on standard error
 
--- the counts were printed, where some are to be
+-- the counts were printed, if there are any
 abbrev pub TellsCounts : Option (List ℕ) → Option (List ℕ) → Option RunCounts → Type 0
 TellsCounts old new None = new ≡ old
 TellsCounts old new (Some counts) = Appends old new (counts_text counts)
 
--- they could not all be printed, and that is told
+-- the counts could not all be printed, and the refusal that says so was printed, or a beginning of it
 abbrev pub CutsCounts : Option (List ℕ) → Option (List ℕ) → RunCounts → Type 0
 CutsCounts old new counts = (mid : Option (List ℕ)) × (fault : WriteFault) × AppendsPart old mid (counts_text counts)
     × AppendsBeginning mid new (refusal_line (Output fault))
 
--- the counts that are asked for are told
+-- the counts that are asked for were printed
 abbrev pub TellsAsked : (Option RunCounts → Type 0) → Option (List ℕ) → Option (List ℕ) → Type 0
 TellsAsked counted old new = (counts : Option RunCounts) × counted counts × TellsCounts old new counts
 
--- a text is told: a beginning of it, and all of it where no write may fail
+-- a text was printed: a beginning of it, and all of it if no write may fail
 abbrev pub TellsText : (WriteFault → Type 0) → Option (List ℕ) → Option (List ℕ) → List ℕ → Type 0
 TellsText may_refuse old new text = AppendsBeginning old new text × (¬ (may_refuse Io) → ¬ (may_refuse WroteNothing) → Appends old new text)
 
--- a command was refused, and it is told why; or it was done, and its counts could not all be printed
+-- a command was refused, and the refusal was printed; or it was done, and its counts could not all be printed
 abbrev pub IsTold : (WriteFault → Type 0) → (Refusal → Type 0) → Type 0 → (Option RunCounts → Type 0) → Option (List ℕ) → Option (List ℕ) → Type 0
 IsTold may_refuse refused printed counted old new = ((e : Refusal) × refused e × TellsText may_refuse old new (refusal_line e))
     ⊎ ((counts : RunCounts) × printed × counted (Some counts) × CutsCounts old new counts)
@@ -233,6 +233,6 @@ IsTold may_refuse refused printed counted old new = ((e : Refusal) × refused e 
 abbrev pub IsShown : List Text → Type 0
 IsShown words = IsAmong kind.DisplayHelp (fault_of rvstm_app words) ⊎ IsAmong kind.DisplayVersion (fault_of rvstm_app words)
 
--- what is told where memory for a line ran out
-abbrev pub no_memory : List ℕ
-no_memory = codes "error: out of memory\n"
+-- what is printed if memory for a line ran out
+abbrev pub no_memory_line : List ℕ
+no_memory_line = codes "error: out of memory\n"

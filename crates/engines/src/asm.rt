@@ -16,9 +16,8 @@ pub(crate) const SOURCE_MEMORY: AsmError = AsmError {
     cause: AsmCause::Memory,
 };
 
-/// Reads a source to its end and returns the ELF file of the program that it stands for. Refused
-/// with the source's first fault, as BadEntry where it has no text words, as Unreadable where a
-/// read failed or the source is not UTF-8, and as Memory where memory ran out.
+/// Reads a source to its end and returns the ELF file of its program. Refused with the source's first fault, as BadEntry if it
+/// has no text words, as Unreadable if a read failed or the source is not UTF-8, and as Memory if memory ran out.
 pub fn file_of_source<R: Source>(alloc: Global, source: &mut R) -> Result<Vec<u8>, Refusal>
     ensures ok { IfOk result (λ file. IfSome (R.remaining source.old) (λ bytes. IsUtf8 bytes × (file_of_source bytes ≡ Ok file.items))) }
     ensures err { IfErr result (λ e. IfSome (R.remaining source.old) (λ bytes. IsSourceFault (R.may_fail source.old) bytes e)) }

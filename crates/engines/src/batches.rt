@@ -8,20 +8,20 @@ use rv_ledger::Receipt;
 /// How many calls of a frame run in order first.
 pub(crate) const FIRST_CALLS: usize = 2;
 
-/// How many calls run in order behind those where they used little gas: all of them show what a call takes.
+/// How many more calls run in order if the first ones used little gas: all of them show what a call takes.
 const NEXT_CALLS: usize = 6;
 
-/// The gas that a batch is expected to use at least, where so many calls are left: threads take some hundred microseconds
-/// to begin, and this gas a few milliseconds. Where the first calls used as much, no others run in order.
+/// The least gas that a batch is expected to use, if enough calls are left: threads take some hundred microseconds to begin,
+/// and this gas a few milliseconds. If the first calls used this much, no others run in order.
 const LEAST_GAS: u64 = 1_000_000;
 
-/// The gas that a batch is expected to use at most: where calls begin to read behind it, the calls of one batch alone are run again.
+/// The most gas that a batch is expected to use: if later calls begin to read, only the calls of one batch are run again.
 const MOST_GAS: u64 = 160_000_000;
 
-/// How many steps under the lock a call of a batch is allowed, in the mean, beside those for its gas.
+/// How many steps under the lock a call of a batch is allowed on average, besides those for its gas.
 const STEPS_OF_A_CALL: u64 = 16;
 
-/// How many steps under the lock a call makes, in the mean, beside its reads: those of its record and of its validation.
+/// How many steps under the lock a call makes on average, besides its reads: those of its record and of its validation.
 const STEPS_BESIDE_READS: u64 = 8;
 
 /// For how much gas a call is allowed one more step.
@@ -30,7 +30,7 @@ const GAS_A_STEP: u64 = 512;
 /// How many steps the threads of a batch are allowed together at most. Each read that they keep is one of them.
 const MOST_STEPS: u64 = 131_072;
 
-/// For how much gas of the calls before a batch its threads are allowed one step. A read takes some 1.6 microseconds where four
+/// For how much gas of the calls before a batch its threads are allowed one step. A read takes some 1.6 microseconds when four
 /// threads want the lock, so all steps take a twentieth of the time of those calls in order.
 const GAS_BEFORE_A_STEP: u64 = 6_400;
 
@@ -45,11 +45,11 @@ const STEPS_OF_A_THREAD: u64 = 64;
 pub(crate) struct Batch {
     /// How many.
     pub(crate) calls: usize,
-    /// How many steps, asks aside, each thread makes at most.
+    /// How many steps, not counting asks, each thread makes at most, and how many versions all of them pass.
     pub(crate) work_limit: u64,
 }
 
-/// What the calls of a frame took so far. It sets how many of the others run by threads next. No result rests on it.
+/// What the calls of a frame took so far. It sets how many of the others run by threads next. No result depends on it.
 #[derive(Clone, Copy, Debug)]
 pub(crate) struct Batches {
     workers: usize,
@@ -73,7 +73,7 @@ impl Batches {
         }
     }
 
-    /// How many calls run in order behind the first ones.
+    /// How many calls run in order after the first ones.
     pub(crate) fn calls_in_order(&self) -> usize {
         if self.gas < LEAST_GAS { NEXT_CALLS } else { 0 }
     }
@@ -89,12 +89,12 @@ impl Batches {
         }
     }
 
-    /// The next batch where so many calls are left; None where they run in order, as threads do not pay.
+    /// The next batch if this many calls are left. None if they run in order, as threads do not pay.
     ///
-    /// By what the calls before it took it is expected to take no longer than threads have saved, and one call more; or to use a
-    /// million gas, where that is more; and at most 160 million. So a batch that is given up costs what threads have saved, and one
-    /// call's time. It is expected to make half of the steps that its threads are allowed. Each worker has as many calls of it, but
-    /// where too few are left.
+    /// By what the calls before it took, the batch is expected to take no longer than threads have saved, plus one call, or to
+    /// use a million gas if that is more; and at most 160 million. So a batch that is given up costs what threads have saved
+    /// and the time of one call. It is expected to make half of the steps that its threads are allowed. Each worker has the
+    /// same number of its calls, unless too few are left.
     pub(crate) fn next(&self, left: usize) -> Option<Batch>
         ensures { IfSome result (λ batch. (1 ≤ batch.calls) × (batch.calls ≤ left)) }
     {
@@ -112,7 +112,7 @@ impl Batches {
         })
     }
 
-    /// How many calls of this gas a batch has at most, where its threads are allowed so many steps together: as many for each
+    /// The most calls of this gas in a batch whose threads are allowed this many steps together: the same number for each
     /// worker.
     fn most_calls(&self, gas_of_each: u64, steps: u64) -> usize {
         let workers = self.workers.max(1);
@@ -143,8 +143,8 @@ impl Batches {
     }
 }
 
-/// How many steps, asks aside, each of some threads makes at most in so many calls of this gas, where `most` is a limit for all of
-/// them together. One thread may make twice its part.
+/// How many steps, not counting asks, each of some threads makes at most in this many calls of this gas. `most` is a limit for all
+/// threads together. One thread may make twice its part.
 fn work_limit(workers: usize, gas_of_each: u64, calls: usize, most: u64) -> u64 {
     let steps_of_each = STEPS_OF_A_CALL.saturating_add(gas_of_each / GAS_A_STEP);
     let steps = steps_of_each.saturating_mul(2).saturating_mul(calls as u64);

@@ -1,4 +1,4 @@
-//! Running the calls of a session's frames by threads where that pays.
+//! Runs the calls of a session's frames by threads if that pays.
 
 ghost use Rattle.std.specs.Prelude.{◌≡◌, [], IfOk, IfSome, None, OnOk, OnSome};
 ghost use Rattle.std.specs.Thread.{IsSync};
@@ -15,22 +15,22 @@ use std::sync::Wait;
 use std::thread::Threads;
 use workers::Executor;
 
-/// Runs the first calls of a frame in order, and the others by threads where that pays by what the ones before took: a batch at
-/// a time, with a limit for the steps of each thread. Where a run by threads is refused, as by its limit or since it wants more
-/// memory than there is, these calls and all behind them run in order. So calls that read much cost by threads the steps of one
-/// batch (`engines/src/batches.rt`), and what that batch computed where its reads come last.
+/// Runs the first calls of a frame in order, and the others by threads if that pays by what the calls before took: a batch at a
+/// time, with a limit for the steps of each thread and for the versions that all pass. A run by threads is refused, for example, by
+/// its limit or if it wants more memory than there is. Then its calls and all after them run in order. So calls that read much cost
+/// by threads the work of one batch (`engines/src/batches.rt`), and what that batch computed if its reads come last.
 #[derive(Drop)]
 pub struct ByThreads<'a, R: Threads + Wait + Sync> {
     /// What starts the threads.
     pub threads: &'a R,
     /// What runs blocks by threads.
     pub executor: Executor,
-    /// The number of threads. Where it is not 1 to 32, all calls run in order.
+    /// The number of threads. If it is not 1 to 32, all calls run in order.
     pub workers: usize,
 }
 
 impl<'a, R: Threads + Wait + Sync> ByThreads<'a, R> {
-    /// What runs calls by so many threads. No call was run yet.
+    /// What runs calls by this many threads. No call was run yet.
     pub fn new(threads: &'a R, alloc: Global, workers: usize) -> ByThreads<'a, R>
         ensures workers { result.workers ≡ workers }
         ensures shares { result.executor.shares.items ≡ [] }
@@ -42,8 +42,8 @@ impl<'a, R: Threads + Wait + Sync> ByThreads<'a, R> {
         }
     }
 
-    /// Runs the calls of a frame behind the first ones: some in order where those used little gas, and the others by threads where
-    /// that pays.
+    /// Runs the calls of a frame after the first ones: some in order if the first ones used little gas, and the others by
+    /// threads if that pays.
     #[tactic(auto, using(rv_step::proofs::CallsInOrder::receipts_append, rv_step::proofs::CallsInOrder::after_append))]
     fn run_behind(
         &mut self,
@@ -64,7 +64,7 @@ impl<'a, R: Threads + Wait + Sync> ByThreads<'a, R> {
         Ok(receipts)
     }
 
-    /// Runs the calls of a frame behind those that ran in order, by threads where that pays.
+    /// Runs the calls of a frame after those that ran in order, by threads if that pays.
     fn run_others(
         &mut self,
         alloc: Global,
@@ -93,8 +93,8 @@ impl<'a, R: Threads + Wait + Sync> ByThreads<'a, R> {
         Ok(receipts)
     }
 
-    /// Runs calls by threads, on a storage with changes over it, and adds theirs to the changes. None where that is refused,
-    /// and then the changes stay.
+    /// Runs calls by threads, on a storage with changes over it, and adds theirs to the changes. None if that is refused; then
+    /// the changes stay as they are.
     fn run_batch(
         &mut self,
         alloc: Global,

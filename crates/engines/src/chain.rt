@@ -26,9 +26,9 @@ use std::alloc::Global;
 use std::convert::Infallible;
 
 /// Answers each request of an input in a new session, up to a `q` or the input's end. A runner runs the calls of its frames,
-/// which changes no answer. Each answer is written and flushed before more is read. Refused as BadLine or Cut where the next
-/// bytes are no request, which was answered too; as Unreadable where a read failed, before anything of a request was done;
-/// as Output where a write failed: a beginning of the answer was written.
+/// which changes no answer. Each answer is written and flushed before more is read. Refused as BadLine or Cut if the next bytes
+/// are no request, which is answered too. Refused as Unreadable if a read failed, before anything of a request was done.
+/// Refused as Output if a write failed; a beginning of the answer was then written.
 pub fn chain_to<R: BufferedSource, C: CallRunner, W: Destination>(
     alloc: Global,
     input: &mut R,
@@ -46,37 +46,55 @@ pub fn chain_to<R: BufferedSource, C: CallRunner, W: Destination>(
     let mut state = State::new(alloc, settings);
     match serve(alloc, input, runner, settings, &mut state, out) {
         Ok(()) => Ok(()),
-        Err(fault) => Err(cut_of(fault)),
+        Err(fault) => Err(Refusal::from(fault)),
     }
 }
 
-/// Why the command is refused if a fault ended its session.
-fn cut_of(fault: ServeFault<Infallible>) -> Refusal
-    ensures { result ≡ cut_of fault }
-{
-    match fault {
-        ServeFault::Broken(fault) => broken_of(fault),
-        ServeFault::Unreadable => Refusal::Request(InputFault::Unreadable),
-        ServeFault::Output(fault) => Refusal::Output(fault),
+/// Of bytes that are no request.
+impl From<RequestFault> for Refusal {
+    ghost from_gives = { λ request refusal. refusal ≡ broken_of request };
+
+    fn from(fault: RequestFault) -> Refusal {
+        match fault {
+            RequestFault::BadLine => Refusal::Request(InputFault::BadLine),
+            RequestFault::Cut => Refusal::Request(InputFault::Cut),
+        }
     }
 }
 
-/// Why it is refused if bytes that are no request ended its session.
-fn broken_of(fault: RequestFault) -> Refusal
-    ensures { result ≡ broken_of fault }
-{
-    match fault {
-        RequestFault::BadLine => Refusal::Request(InputFault::BadLine),
-        RequestFault::Cut => Refusal::Request(InputFault::Cut),
+/// Of what ends a session in memory.
+impl From<ServeFault<Infallible>> for Refusal {
+    ghost from_gives = { λ fault refusal. refusal ≡ cut_of fault };
+
+    fn from(fault: ServeFault<Infallible>) -> Refusal {
+        match fault {
+            ServeFault::Broken(fault) => Refusal::from(fault),
+            ServeFault::Unreadable => Refusal::Request(InputFault::Unreadable),
+            ServeFault::Output(fault) => Refusal::Output(fault),
+        }
     }
 }
 
-/// Answers each request of an input in the session of an open file, as `chain_to` does in a new session. What a request changes is
-/// on the disk before a byte of its answer is written. If the file did not take a change, and is open and as before, the answer is
-/// `failed store`, and the request may be given again. Refused as `chain_to` is, and as Store if the file is shut: only another open
-/// mends it, the request that met this has no answer, and the next session shows whether it was kept.
+/// Of what ends a session over a file.
+impl From<ServeFault<StoreFault>> for Refusal {
+    ghost from_gives = { λ fault refusal. refusal ≡ durably_cut fault };
+
+    fn from(fault: ServeFault<StoreFault>) -> Refusal {
+        match fault {
+            ServeFault::Broken(fault) => Refusal::from(fault),
+            ServeFault::Unreadable => Refusal::Request(InputFault::Unreadable),
+            ServeFault::Output(fault) => Refusal::Output(fault),
+            ServeFault::Shut(fault) => Refusal::Store(fault),
+        }
+    }
+}
+
+/// Answers each request of an input in the session of an open file, as `chain_to` does in a new session. What a request changes
+/// is on the disk before a byte of its answer is written. If the file did not take a change, and is open and as before, the
+/// answer is `failed store`, and the request may be given again. Refused as `chain_to` is, and as Store if the file is shut:
+/// only another open mends it, the request that met this has no answer, and the next session shows whether it was kept.
 ///
-/// Wherever the session ends, a crash leaves what the requests that were answered in whole left, or the next one too. By the
+/// However the session ends, a crash leaves what the requests that were answered in full left, or the next one too. By the
 /// crash argument of the file's log the same holds if the machine stops at any moment of it.
 pub fn durable_chain_to<R: BufferedSource, S: Store, C: CallRunner, W: Destination>(
     alloc: Global,
@@ -100,18 +118,6 @@ pub fn durable_chain_to<R: BufferedSource, S: Store, C: CallRunner, W: Destinati
 {
     match serve(alloc, input, runner, settings, session, out) {
         Ok(()) => Ok(()),
-        Err(fault) => Err(durably_cut(fault)),
-    }
-}
-
-/// Why the command is refused if a fault ended its session over a file.
-fn durably_cut(fault: ServeFault<StoreFault>) -> Refusal
-    ensures { result ≡ durably_cut fault }
-{
-    match fault {
-        ServeFault::Broken(fault) => broken_of(fault),
-        ServeFault::Unreadable => Refusal::Request(InputFault::Unreadable),
-        ServeFault::Output(fault) => Refusal::Output(fault),
-        ServeFault::Shut(fault) => Refusal::Store(fault),
+        Err(fault) => Err(Refusal::from(fault)),
     }
 }

@@ -1,4 +1,4 @@
-//! The program over any files, input and writers: the words of a line, its request, and what is told of it.
+//! The program over any files, input and writers: the words of a line, its request, and what is printed about it.
 
 ghost use Rattle.std.specs.Prelude.{◌≡◌, ◌≢◌, ◌≤◌, ◌⊎◌, map, IfErr, IfOk, IfSome, None, OnErr, OnOk, Some};
 ghost use Rattle.std.specs.Io.KnownBytes.{Appends};
@@ -6,10 +6,10 @@ ghost use Rattle.std.specs.String.{string_bytes};
 ghost use Rattle.byte_streams.specs.Written.{AppendsPart};
 ghost use Rattle.clap.specs.Words.{kind_of};
 ghost use Rattle.clap.specs.declared.error.kind.ErrorKind.TheVariants as kind;
-ghost use Rattle.cmdline.specs.Line.{asked_by};
+ghost use Rattle.cmdline.specs.Line.{asked_by_request};
 ghost use Rattle.engines.specs.Counts.{counts_text};
 ghost use Rattle.engines.specs.Headline.{PrintsAtMost};
-ghost use Rattle.engines.specs.Program.{AreCountsAsked, AsksAsRefused, AsksStores, ClosesStore, CutsCounts, IsRefusedAs, IsShown, IsTold, KeepsDisk, KeepsSessions, Prints, PutsFile, PutsNothing, TellsAsked, TellsText, asked_on, no_memory};
+ghost use Rattle.engines.specs.Program.{AreCountsAsked, AsksAsRefused, AsksStores, ClosesStore, CutsCounts, IsRefusedAs, IsShown, IsTold, KeepsDisk, KeepsSessions, Prints, PutsFile, PutsNothing, TellsAsked, TellsText, asked_on, no_memory_line};
 
 use crate::commands::answer;
 use crate::counts::{RunCounts, write_counts};
@@ -49,10 +49,9 @@ where
     ExitCode::from(status(rt, rt, &mut disk, stores, &mut input, &mut out, &mut errors))
 }
 
-/// Does what the command line asks for, and returns the exit status: 0 where it is done, 1 where it is
-/// refused, 2 where the line is wrong. The lines of `debug` and the requests of `chain` are read from `input`. Results,
-/// answers, help and the version are written to `out`. Refusals, what is wrong with the line, and counts are written to
-/// `errors`.
+/// Does what the command line asks for, and returns the exit status: 0 if it is done, 1 if it is refused, 2 if the line is
+/// wrong. The lines of `debug` and the requests of `chain` are read from `input`. Results, answers, help and the version are
+/// written to `out`. Refusals, what is wrong with the line, and counts are written to `errors`.
 pub fn status<R, T, D, K, I, W, E>(
     rt: &R,
     threads: &T,
@@ -116,7 +115,7 @@ pub fn answer_words<
     ensures stored { result ≡ 0 → IfSome (asked_on (map string_bytes words.now)) (AsksStores (K.asked stores.old) (K.asked stores.new)) }
     ensures closed { result ≡ 0 → IfSome (asked_on (map string_bytes words.now)) (ClosesStore K.are_folded) }
     ensures kept { result ≡ 0 → IfSome (asked_on (map string_bytes words.now)) (KeepsSessions (I.remaining input.old) (K.trees_at stores.old) (K.trees_at stores.new) (W.contents out.old) (W.contents out.new)) }
-    // refused: as its engine is, and it is told why; or done, and its counts could not all be printed
+    // refused: as its engine is, and the refusal is printed; or done, and its counts could not all be printed
     ensures refused { result ≡ 1 → IfSome (asked_on (map string_bytes words.now)) (λ asked. IsTold (E.may_refuse errors.old)
         (λ e. IsRefusedAs (D.content disk.old) (I.may_fail input.old) (I.remaining input.old) (W.may_refuse out.old) (W.contents out.old) (W.contents out.new) asked e
         × AsksAsRefused (I.remaining input.old) (K.asked stores.old) (K.asked stores.new) asked e)
@@ -124,12 +123,13 @@ pub fn answer_words<
         (AreCountsAsked (D.content disk.old) asked) (E.contents errors.old) (E.contents errors.new)) }
     ensures at_most { result ≡ 1 → IfSome (asked_on (map string_bytes words.now)) (PrintsAtMost (D.content disk.old) (I.remaining input.old) (W.may_refuse out.old) (W.contents out.old) (W.contents out.new)) }
     ensures stays { result ≡ 1 → IfSome (asked_on (map string_bytes words.now)) (PutsNothing (D.leads disk.old) (D.entries disk.old) (D.entries disk.new)) }
-    // either way: what is not asked for stays, and where help or the version is, everything does
+    // either way: what is not asked for stays; if the line asks for nothing, the whole disk and the stores stay
     ensures keeps { result ≢ 2 → IfSome (asked_on (map string_bytes words.now)) (KeepsDisk (D.leads disk.old) D.entries disk.old disk.new) }
     ensures help { asked_on (map string_bytes words.now) ≡ None → (disk.new ≡ disk.old) × (stores.new ≡ stores.old) }
-    // a wrong line: nothing is done. Where it is not wrong, want of memory is told, and where it asks for nothing and is not, for help
+    // status 2: nothing is done; if the line asks for something, memory ran out, and that is printed. A line that asks for
+    // nothing and has another status asks for help or the version
     ensures wrong { result ≡ 2 → (out.new ≡ out.old) × (disk.new ≡ disk.old) × (stores.new ≡ stores.old) }
-    ensures right { result ≡ 2 → IfSome (asked_on (map string_bytes words.now)) (λ _. TellsText (E.may_refuse errors.old) (E.contents errors.old) (E.contents errors.new) no_memory) }
+    ensures right { result ≡ 2 → IfSome (asked_on (map string_bytes words.now)) (λ _. TellsText (E.may_refuse errors.old) (E.contents errors.old) (E.contents errors.new) no_memory_line) }
     ensures shown { result ≢ 2 → asked_on (map string_bytes words.now) ≡ None → IsShown (map string_bytes words.now) }
 {
     match read_request(alloc, words, out, errors) {
@@ -138,7 +138,7 @@ pub fn answer_words<
     }
 }
 
-/// Does a request, tells what came of it, and returns the exit status.
+/// Does a request, prints what came of it, and returns the exit status.
 fn do_request<
     T: Threads + Wait + Sync,
     D: Disk,
@@ -157,20 +157,20 @@ fn do_request<
     errors: &mut E,
 ) -> u8
     ensures status { result ≤ 1 }
-    ensures printed { result ≡ 0 → Prints (D.content disk.old) (I.remaining input.old) (W.contents out.old) (W.contents out.new) (asked_by request.entry) }
-    ensures counted { result ≡ 0 → TellsAsked (AreCountsAsked (D.content disk.old) (asked_by request.entry)) (E.contents errors.old) (E.contents errors.new) }
-    ensures put { result ≡ 0 → PutsFile (D.content disk.old) (D.leads disk.old) (D.entries disk.old) (D.entries disk.new) (asked_by request.entry) }
-    ensures stored { result ≡ 0 → AsksStores (K.asked stores.old) (K.asked stores.new) (asked_by request.entry) }
-    ensures closed { result ≡ 0 → ClosesStore K.are_folded (asked_by request.entry) }
-    ensures kept { result ≡ 0 → KeepsSessions (I.remaining input.old) (K.trees_at stores.old) (K.trees_at stores.new) (W.contents out.old) (W.contents out.new) (asked_by request.entry) }
+    ensures printed { result ≡ 0 → Prints (D.content disk.old) (I.remaining input.old) (W.contents out.old) (W.contents out.new) (asked_by_request request.entry) }
+    ensures counted { result ≡ 0 → TellsAsked (AreCountsAsked (D.content disk.old) (asked_by_request request.entry)) (E.contents errors.old) (E.contents errors.new) }
+    ensures put { result ≡ 0 → PutsFile (D.content disk.old) (D.leads disk.old) (D.entries disk.old) (D.entries disk.new) (asked_by_request request.entry) }
+    ensures stored { result ≡ 0 → AsksStores (K.asked stores.old) (K.asked stores.new) (asked_by_request request.entry) }
+    ensures closed { result ≡ 0 → ClosesStore K.are_folded (asked_by_request request.entry) }
+    ensures kept { result ≡ 0 → KeepsSessions (I.remaining input.old) (K.trees_at stores.old) (K.trees_at stores.new) (W.contents out.old) (W.contents out.new) (asked_by_request request.entry) }
     ensures refused { result ≡ 1 → IsTold (E.may_refuse errors.old)
-        (λ e. IsRefusedAs (D.content disk.old) (I.may_fail input.old) (I.remaining input.old) (W.may_refuse out.old) (W.contents out.old) (W.contents out.new) (asked_by request.entry) e
-        × AsksAsRefused (I.remaining input.old) (K.asked stores.old) (K.asked stores.new) (asked_by request.entry) e)
-        (Prints (D.content disk.old) (I.remaining input.old) (W.contents out.old) (W.contents out.new) (asked_by request.entry) × AsksStores (K.asked stores.old) (K.asked stores.new) (asked_by request.entry))
-        (AreCountsAsked (D.content disk.old) (asked_by request.entry)) (E.contents errors.old) (E.contents errors.new) }
-    ensures at_most { result ≡ 1 → PrintsAtMost (D.content disk.old) (I.remaining input.old) (W.may_refuse out.old) (W.contents out.old) (W.contents out.new) (asked_by request.entry) }
-    ensures stays { result ≡ 1 → PutsNothing (D.leads disk.old) (D.entries disk.old) (D.entries disk.new) (asked_by request.entry) }
-    ensures keeps { KeepsDisk (D.leads disk.old) D.entries disk.old disk.new (asked_by request.entry) }
+        (λ e. IsRefusedAs (D.content disk.old) (I.may_fail input.old) (I.remaining input.old) (W.may_refuse out.old) (W.contents out.old) (W.contents out.new) (asked_by_request request.entry) e
+        × AsksAsRefused (I.remaining input.old) (K.asked stores.old) (K.asked stores.new) (asked_by_request request.entry) e)
+        (Prints (D.content disk.old) (I.remaining input.old) (W.contents out.old) (W.contents out.new) (asked_by_request request.entry) × AsksStores (K.asked stores.old) (K.asked stores.new) (asked_by_request request.entry))
+        (AreCountsAsked (D.content disk.old) (asked_by_request request.entry)) (E.contents errors.old) (E.contents errors.new) }
+    ensures at_most { result ≡ 1 → PrintsAtMost (D.content disk.old) (I.remaining input.old) (W.may_refuse out.old) (W.contents out.old) (W.contents out.new) (asked_by_request request.entry) }
+    ensures stays { result ≡ 1 → PutsNothing (D.leads disk.old) (D.entries disk.old) (D.entries disk.new) (asked_by_request request.entry) }
+    ensures keeps { KeepsDisk (D.leads disk.old) D.entries disk.old disk.new (asked_by_request request.entry) }
 {
     match answer(threads, alloc, request, disk, stores, input, out) {
         Ok(None) => 0,
@@ -191,10 +191,10 @@ fn tell_counts<E: Destination>(alloc: Global, counts: &RunCounts, errors: &mut E
     }
 }
 
-/// What is printed where clap takes a line that asks for nothing.
+/// What is printed if clap accepts a line that asks for nothing.
 const NO_REQUEST: &str = "error: a value is missing, or a number has a sign or a leading zero\n";
 
-/// The request of a command line. Where there is none, prints why, and refuses with the exit status.
+/// The request of a command line. If there is none, prints why, and refuses with the exit status.
 #[tactic(auto, using(crate::proofs::Lines::right_line, crate::proofs::Lines::shown_line, crate::proofs::Lines::no_line, crate::proofs::Lines::right_memory, crate::proofs::Lines::no_request))]
 fn read_request<'a, W: Destination, E: Destination>(
     alloc: Global,
@@ -202,11 +202,11 @@ fn read_request<'a, W: Destination, E: Destination>(
     out: &mut W,
     errors: &mut E,
 ) -> Result<Request<'a>, u8>
-    ensures ok { IfOk result (λ request. asked_on (map string_bytes words.now) ≡ Some (asked_by request)) }
+    ensures ok { IfOk result (λ request. asked_on (map string_bytes words.now) ≡ Some (asked_by_request request)) }
     ensures quiet { OnOk result ((out.new ≡ out.old) × (errors.new ≡ errors.old)) }
     ensures status { IfErr result (λ status. status ≤ 2) }
     ensures wrong { IfErr result (λ status. status ≡ 2 → out.new ≡ out.old) }
-    ensures right { IfErr result (λ status. status ≡ 2 → IfSome (asked_on (map string_bytes words.now)) (λ _. TellsText (E.may_refuse errors.old) (E.contents errors.old) (E.contents errors.new) no_memory)) }
+    ensures right { IfErr result (λ status. status ≡ 2 → IfSome (asked_on (map string_bytes words.now)) (λ _. TellsText (E.may_refuse errors.old) (E.contents errors.old) (E.contents errors.new) no_memory_line)) }
     ensures none { IfErr result (λ status. status ≢ 2 → asked_on (map string_bytes words.now) ≡ None) }
     ensures shown { IfErr result (λ status. status ≢ 2 → IsShown (map string_bytes words.now)) }
 {
@@ -227,7 +227,7 @@ fn print_error<W: Destination, E: Destination>(
 ) -> u8
     ensures status { result ≤ 2 }
     ensures wrong { result ≡ 2 → out.new ≡ out.old }
-    ensures memory { kind_of error.now ≡ kind.OutOfMemory → TellsText (E.may_refuse errors.old) (E.contents errors.old) (E.contents errors.new) no_memory }
+    ensures memory { kind_of error.now ≡ kind.OutOfMemory → TellsText (E.may_refuse errors.old) (E.contents errors.old) (E.contents errors.new) no_memory_line }
     ensures shown { result ≢ 2 → (kind_of error.now ≡ kind.DisplayHelp) ⊎ (kind_of error.now ≡ kind.DisplayVersion) }
 {
     match error.kind() {

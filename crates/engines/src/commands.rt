@@ -2,11 +2,11 @@
 
 ghost use Rattle.std.specs.Prelude.{◌≡◌, ◌⊎◌, option_map, true, Err, IfErr, IfOk, IfSome, None, Ok, OnErr, OnOk};
 ghost use Rattle.block_file.specs.Migrate.{migrated};
-ghost use Rattle.cmdline.specs.Line.{AsmOf, ConflictsOf, DebugOf, DisOf, DriveOf, MigrateOf, RunOf, SeqOf, asked_by};
+ghost use Rattle.cmdline.specs.Line.{AsmOf, ConflictsOf, DebugOf, DisOf, DriveOf, MigrateOf, RunOf, SeqOf, asked_by_request};
 ghost use Rattle.engines.specs.Dis.{IsSourceFault, file_of_source};
 ghost use Rattle.engines.specs.Engine.{IsBlockFault};
-ghost use Rattle.engines.specs.Named.{bytes_of, may_fail_of};
-ghost use Rattle.engines.specs.Program.{AreCountsAsked, AsksAsRefused, AsksStores, ClosesStore, IsRefusedAs, IsRefusedSession, KeepsDisk, KeepsSessionAt, KeepsSessions, Prints, PrintsSession, PutsFile, PutsNothing, settings_of};
+ghost use Rattle.engines.specs.Named.{bytes_left, may_fail_of};
+ghost use Rattle.engines.specs.Program.{AreCountsAsked, AsksAsRefused, AsksStores, ClosesStore, IsRefusedAs, IsRefusedSession, KeepsDisk, KeepsSessionAt, KeepsSessions, Prints, PrintsSession, PutsFile, PutsNothing, chain_settings};
 ghost use Rattle.engines.specs.Stores.{AreClosed, AsksAsTold, AsksForSession, AsksInVain};
 ghost use Rattle.system_files.specs.Entries.{AreApart, IsPut, KeepsFile, Stays};
 
@@ -33,7 +33,7 @@ use std::sync::Wait;
 use std::thread::Threads;
 use system_files::{OutputDisk, ReplaceFault, replace};
 
-/// Does a request, and returns what the workers did, where that is to be printed.
+/// Does a request, and returns what the workers did, if that must be printed.
 pub(crate) fn answer<
     T: Threads + Wait + Sync,
     D: Disk,
@@ -49,16 +49,16 @@ pub(crate) fn answer<
     input: &mut I,
     out: &mut W,
 ) -> Result<Option<RunCounts>, Refusal>
-    ensures printed { OnOk result (Prints (D.content disk.old) (I.remaining input.old) (W.contents out.old) (W.contents out.new) (asked_by request.entry)) }
-    ensures counted { IfOk result (AreCountsAsked (D.content disk.old) (asked_by request.entry)) }
-    ensures put { OnOk result (PutsFile (D.content disk.old) (D.leads disk.old) (D.entries disk.old) (D.entries disk.new) (asked_by request.entry)) }
-    ensures stored { OnOk result (AsksStores (K.asked stores.old) (K.asked stores.new) (asked_by request.entry)) }
-    ensures closed { OnOk result (ClosesStore K.are_folded (asked_by request.entry)) }
-    ensures kept { OnOk result (KeepsSessions (I.remaining input.old) (K.trees_at stores.old) (K.trees_at stores.new) (W.contents out.old) (W.contents out.new) (asked_by request.entry)) }
-    ensures refused { IfErr result (IsRefusedAs (D.content disk.old) (I.may_fail input.old) (I.remaining input.old) (W.may_refuse out.old) (W.contents out.old) (W.contents out.new) (asked_by request.entry)) }
-    ensures vain { IfErr result (AsksAsRefused (I.remaining input.old) (K.asked stores.old) (K.asked stores.new) (asked_by request.entry)) }
-    ensures stays { OnErr result (PutsNothing (D.leads disk.old) (D.entries disk.old) (D.entries disk.new) (asked_by request.entry)) }
-    ensures keeps { KeepsDisk (D.leads disk.old) D.entries disk.old disk.new (asked_by request.entry) }
+    ensures printed { OnOk result (Prints (D.content disk.old) (I.remaining input.old) (W.contents out.old) (W.contents out.new) (asked_by_request request.entry)) }
+    ensures counted { IfOk result (AreCountsAsked (D.content disk.old) (asked_by_request request.entry)) }
+    ensures put { OnOk result (PutsFile (D.content disk.old) (D.leads disk.old) (D.entries disk.old) (D.entries disk.new) (asked_by_request request.entry)) }
+    ensures stored { OnOk result (AsksStores (K.asked stores.old) (K.asked stores.new) (asked_by_request request.entry)) }
+    ensures closed { OnOk result (ClosesStore K.are_folded (asked_by_request request.entry)) }
+    ensures kept { OnOk result (KeepsSessions (I.remaining input.old) (K.trees_at stores.old) (K.trees_at stores.new) (W.contents out.old) (W.contents out.new) (asked_by_request request.entry)) }
+    ensures refused { IfErr result (IsRefusedAs (D.content disk.old) (I.may_fail input.old) (I.remaining input.old) (W.may_refuse out.old) (W.contents out.old) (W.contents out.new) (asked_by_request request.entry)) }
+    ensures vain { IfErr result (AsksAsRefused (I.remaining input.old) (K.asked stores.old) (K.asked stores.new) (asked_by_request request.entry)) }
+    ensures stays { OnErr result (PutsNothing (D.leads disk.old) (D.entries disk.old) (D.entries disk.new) (asked_by_request request.entry)) }
+    ensures keeps { KeepsDisk (D.leads disk.old) D.entries disk.old disk.new (asked_by_request request.entry) }
 {
     match request {
         Request::Run {
@@ -94,7 +94,7 @@ pub(crate) fn answer<
     }
 }
 
-/// What came of a request of which no counts are printed.
+/// The answer to a request whose counts are not printed.
 fn uncounted(done: Result<(), Refusal>) -> Result<Option<RunCounts>, Refusal>
     ensures done { OnOk done (result ≡ Ok None) }
     ensures refused { IfErr done (λ e. result ≡ Err e) }
@@ -105,7 +105,7 @@ fn uncounted(done: Result<(), Refusal>) -> Result<Option<RunCounts>, Refusal>
     }
 }
 
-/// Answers the requests of the input in one session, whose calls are run by so many workers, or in order.
+/// Answers the requests of the input in one session, whose calls are run by this many workers, or in order.
 fn session<T: Threads + Wait + Sync, K: SessionStores, I: Source, W: Destination>(
     threads: &T,
     alloc: Global,
@@ -135,8 +135,8 @@ fn session<T: Threads + Wait + Sync, K: SessionStores, I: Source, W: Destination
     }
 }
 
-/// Runs the calls of a block file on workers, each on a thread of its own, and prints the result. Returns what
-/// the workers did, where that is asked for.
+/// Runs the calls of a block file on workers, each on a thread of its own, and prints the result. Returns what the workers did,
+/// if that is asked for.
 fn run<T: Threads + Wait + Sync, D: Disk, W: Destination>(
     threads: &T,
     alloc: Global,
@@ -199,8 +199,8 @@ fn conflicts<D: Disk, W: Destination>(
     conflicts_to(alloc, &mut block, &mut ProgramFiles { disk }, out)
 }
 
-/// Runs the calls of a block file along a schedule, and prints the result. Returns what the workers did, where that is
-/// asked for. The schedule file is opened after the files of the programs.
+/// Runs the calls of a block file along a schedule, and prints the result. Returns what the workers did, if that is asked for.
+/// The schedule file is opened after the files of the programs.
 fn drive<D: Disk, W: Destination>(
     alloc: Global,
     disk: &D,
@@ -232,9 +232,9 @@ fn drive<D: Disk, W: Destination>(
     }
 }
 
-/// Assembles a source and puts its ELF file at a path. Where this is refused, an ordinary file at the path stays as it was. Refused
-/// as Unreadable where the source can't be opened; then as Unwritable where both paths name one file, since the source would be lost;
-/// then for what the source has.
+/// Assembles a source and puts its ELF file at a path. If this is refused, an ordinary file at the path stays as it was.
+/// Refused as Unreadable if the source can't be opened; then as Unwritable if both paths name one file, since the source would
+/// be lost; then for a fault of the source.
 fn asm<D: Disk>(alloc: Global, disk: &mut D, file: &str, out: &str) -> Result<(), Refusal>
     ensures put { OnOk result (PutsFile (D.content disk.old) (D.leads disk.old) (D.entries disk.old) (D.entries disk.new) (AsmOf file.now out.now)) }
     ensures stays { OnErr result (Stays (D.entries disk.old) (D.entries disk.new) (D.leads disk.old out.now)) }
@@ -266,8 +266,8 @@ fn assembled<D: Disk>(alloc: Global, disk: &D, file: &str, out: &str) -> Result<
     file_of_source(alloc, &mut source)
 }
 
-/// Rewrites a block file of format 1 as format 2 and puts it at a path. Where this is refused, an ordinary file at the path stays as
-/// it was. Refused as `asm` is, and then for what the block file has.
+/// Rewrites a block file of format 1 as format 2 and puts it at a path. If this is refused, an ordinary file at the path stays
+/// as it was. Refused as `asm` is, and then for a fault of the block file.
 fn migrate<D: Disk>(alloc: Global, disk: &mut D, file: &str, out: &str) -> Result<(), Refusal>
     ensures put { OnOk result (PutsFile (D.content disk.old) (D.leads disk.old) (D.entries disk.old) (D.entries disk.new) (MigrateOf file.now out.now)) }
     ensures stays { OnErr result (Stays (D.entries disk.old) (D.entries disk.new) (D.leads disk.old out.now)) }
@@ -299,15 +299,15 @@ fn rewritten<D: Disk>(alloc: Global, disk: &D, file: &str, out: &str) -> Result<
     migrated_file(alloc, &mut block)
 }
 
-/// Opens a file, which is not to be the one at `out`, and reads nothing of it. Refused as Unreadable where it can't be opened; then
-/// as Unwritable where both paths name one file or that can't be told, and as `memory` where memory ran out.
+/// Opens a file, which must not be the one at `out`, and reads nothing of it. Refused as Unreadable if it can't be opened; then
+/// as Unwritable if both paths name one file or if that can't be found out, and as `memory` if memory ran out.
 fn open_apart<'a, D: Disk>(
     disk: &'a D,
     file: &'a str,
     out: &str,
     memory: Refusal,
 ) -> Result<NamedFile<'a, D>, Refusal>
-    ensures bytes { IfOk result (λ f. IfSome (D.content disk.now file.now) (λ bytes. bytes_of D.File.remaining (D.content f.disk.now f.path.now) f.file ≡ Some bytes)) }
+    ensures bytes { IfOk result (λ f. IfSome (D.content disk.now file.now) (λ bytes. bytes_left D.File.remaining (D.content f.disk.now f.path.now) f.file ≡ Some bytes)) }
     ensures readable { IfOk result (λ f. may_fail_of D.File.may_fail (D.content f.disk.now f.path.now) f.file → D.content disk.now file.now ≡ None) }
     ensures apart { OnOk result (AreApart (D.entries disk.now) (D.leads disk.now file.now) (D.leads disk.now out.now)) }
     ensures err { IfErr result (λ e. (e ≡ Refusal.File FileFault.Unwritable) ⊎ (e ≡ memory) ⊎ ((e ≡ Refusal.File FileFault.Unreadable) × (D.content disk.now file.now ≡ None))) }
@@ -327,8 +327,8 @@ fn open_apart<'a, D: Disk>(
     }
 }
 
-/// Puts bytes at a path, as `replace` does, which is not that of a file. Refused as Unwritable where a file can't be made, written or
-/// renamed, and as `memory` where memory ran out.
+/// Puts bytes at a path, as `replace` does; `file` is another file. Refused as Unwritable if a file can't be made, written or
+/// renamed, and as `memory` if memory ran out.
 #[tactic(auto, using(crate::proofs::Kept::keeps_file))]
 fn put<D: OutputDisk>(
     alloc: Global,
@@ -350,7 +350,7 @@ fn put<D: OutputDisk>(
     }
 }
 
-/// The refusal of a command whose file is not put at its path: `memory` where memory ran out.
+/// The refusal of a command whose file is not put at its path: `memory` if memory ran out.
 fn refusal_of(fault: ReplaceFault, memory: Refusal) -> Refusal
     ensures unwritable { fault ≡ ReplaceFault.Unwritable → result ≡ Refusal.File FileFault.Unwritable }
     ensures memory { fault ≡ ReplaceFault.Memory → result ≡ memory }
@@ -412,7 +412,7 @@ fn settings_of(
     digest: bool,
     brief: bool,
 ) -> Settings
-    ensures { result ≡ settings_of frame_limit frame_gas digest brief }
+    ensures { result ≡ chain_settings frame_limit frame_gas digest brief }
 {
     let mut settings = Settings::new();
     if let Some(most) = frame_limit {

@@ -2,7 +2,7 @@
 
 ghost use Rattle.std.specs.Prelude.{IfErr, IfSome, IsOkAnd, OnOk};
 ghost use Rattle.std.specs.Io.KnownBytes.{Appends};
-ghost use Rattle.block_file.specs.Block.{block_of};
+ghost use Rattle.block_file.specs.Block.{parsed_block};
 ghost use Rattle.conflicts.specs.Text.{conflicts_text};
 ghost use Rattle.engines.specs.Engine.{loaded_job, IsOutputFault, IsRefusedJob};
 ghost use Rattle.engines.specs.Conflicts.{AppendsConflicts, IsConflictsFault};
@@ -15,10 +15,9 @@ use conflicts::{Conflicts, find_conflicts, write_conflicts};
 use rv_ledger::Job;
 use std::alloc::Global;
 
-/// Reads a block file to its end and parses it. Opens, reads and loads its programs in the order of their
-/// numbers. Then runs the calls in order and writes which of them wait for which. The first refusal ends it, and the
-/// refusals are those of `seq_to`. Where the output is refused, a beginning of the text was written; otherwise nothing
-/// was written.
+/// Reads a block file to its end and parses it. Opens, reads and loads its programs in the order of their numbers. Then runs
+/// the calls in order and writes which of them wait for which. The first refusal ends it, and the refusals are those of
+/// `seq_to`. If the output is refused, a beginning of the text was written; before any other refusal nothing was written.
 pub fn conflicts_to<R: Source, P: Programs, W: Destination>(
     alloc: Global,
     block: &mut R,
@@ -26,7 +25,7 @@ pub fn conflicts_to<R: Source, P: Programs, W: Destination>(
     out: &mut W,
 ) -> Result<(), Refusal>
     ensures written { OnOk result (IfSome (R.remaining block.old) (λ input.
-        IfSome (loaded_job (P.content programs.old) (block_of input)) (λ wanted.
+        IfSome (loaded_job (P.content programs.old) (parsed_block input)) (λ wanted.
         IsOkAnd wanted (λ job. AppendsConflicts job (W.contents out.old) (W.contents out.new))))) }
     ensures refused { IfErr result (IsRefusedJob (Refusal.Seq SeqFault.Memory) (IsConflictsFault (W.may_refuse out.old))
         (R.may_fail block.old) (R.remaining block.old) (P.content programs.old) (W.contents out.old) (W.contents out.new)) }

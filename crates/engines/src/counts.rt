@@ -49,7 +49,7 @@ pub fn write_counts<W: Destination>(
     write_whole(text.as_str().as_bytes(), out)
 }
 
-/// All lines; refused where memory ran out.
+/// All lines. Refused if memory ran out.
 fn counts_text(alloc: Global, counts: &RunCounts) -> Result<String, AllocError>
     ensures { IfOk result (λ text. string_bytes text ≡ counts_text counts.now) }
 {
@@ -59,7 +59,7 @@ fn counts_text(alloc: Global, counts: &RunCounts) -> Result<String, AllocError>
     Ok(text)
 }
 
-/// Appends the line of each worker; refused where memory ran out.
+/// Appends the line of each worker. Refused if memory ran out.
 fn push_workers(alloc: Global, counts: &[Counts], text: &mut String) -> Result<(), AllocError>
     ensures { OnOk result (string_bytes text.new ≡ string_bytes text.old ++ worker_lines 0 counts.now) }
 {
@@ -69,7 +69,7 @@ fn push_workers(alloc: Global, counts: &[Counts], text: &mut String) -> Result<(
     Ok(())
 }
 
-/// The line of a worker; refused where memory ran out.
+/// The line of a worker. Refused if memory ran out.
 fn worker_text(alloc: Global, worker: usize, counts: Counts) -> Result<String, AllocError>
     ensures { IfOk result (λ line. string_bytes line ≡ worker_line worker counts) }
 {
@@ -84,7 +84,7 @@ fn worker_text(alloc: Global, worker: usize, counts: Counts) -> Result<String, A
     )
 }
 
-/// The line of the sums; refused where memory ran out.
+/// The line of the sums. Refused if memory ran out.
 fn sums_text(alloc: Global, calls: usize, counts: &[Counts]) -> Result<String, AllocError>
     ensures { IfOk result (λ line. string_bytes line ≡ sums_line calls counts.now) }
 {
@@ -129,7 +129,7 @@ fn sums_of(counts: &[Counts]) -> Sums
     }
 }
 
-/// The sum over so many workers, with the count of one more.
+/// The sum over this many workers, with the count of one more.
 fn with_count(sum: u128, count: u64, workers: usize) -> u128
     requires { sum ≤ workers * 0xffff_ffff_ffff_ffff }
     ensures sum { result ≡ count + sum }

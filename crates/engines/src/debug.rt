@@ -2,7 +2,7 @@
 
 ghost use Rattle.std.specs.Prelude.{◌≡◌, ◌⊎◌, None, Some, Ok, slice_get, IfErr, IfOk, IfSome, IsOkAnd, OnErr, OnOk};
 ghost use Rattle.std.specs.Io.KnownBytes.{Appends};
-ghost use Rattle.block_file.specs.Block.{block_of};
+ghost use Rattle.block_file.specs.Block.{parsed_block};
 ghost use Rattle.debugger.specs.Session.{AppendsBeginning, MayBeCutOff, lines_of, session};
 ghost use Rattle.rv_step.specs.Fold.{store_after};
 ghost use Rattle.engines.specs.Debug.{first_moment, replayed_text, IsReplayFault, IsReplayedFault, IsSessionFault};
@@ -17,11 +17,11 @@ use rv_ledger::{Call, Job, Store, apply_writes};
 use rv_step::{SpareMachine, receipt_over};
 use std::alloc::{AllocError, Global};
 
-/// Reads a block file to its end and parses it. Opens, reads and loads its programs in the order of their
-/// numbers. Runs the calls in order, where `has_more` is true only those before the call at an index. Then replays that
-/// call, over the storage that the calls before it left, along the lines that are read, where `has_more` is true also those
-/// of `--more`. So what is printed is a function of the call and of those before it. The first refusal ends it. What was read by then stays
-/// read, and a beginning of what the session prints was written; nothing where there is no session.
+/// Reads a block file to its end and parses it. Opens, reads and loads its programs in the order of their numbers. Runs the
+/// calls in order; if `has_more` is true, only those before the call at an index. Then replays that call, over the storage that
+/// the calls before it left, along the lines that are read. If `has_more` is true, the lines of `--more` are commands too. So
+/// what is printed is a function of the call and of those before it. The first refusal ends it. What was read by then stays
+/// read, and a beginning of what the session prints was written. If there is no session, nothing was written.
 pub fn debug_block_to<R: Source, P: Programs, L: Source, W: Destination>(
     alloc: Global,
     has_more: bool,
@@ -32,13 +32,13 @@ pub fn debug_block_to<R: Source, P: Programs, L: Source, W: Destination>(
     out: &mut W,
 ) -> Result<(), Refusal>
     ensures written { OnOk result (IfSome (R.remaining block.old) (λ input. IfSome (L.remaining lines.old) (λ typed.
-        IfSome (loaded_job (P.content programs.old) (block_of input)) (λ job.
+        IfSome (loaded_job (P.content programs.old) (parsed_block input)) (λ job.
         IsOkAnd (replayed_text has_more job call typed) (Appends (W.contents out.old) (W.contents out.new)))))) }
     ensures refused { IfErr result (IsRefusedJob (Refusal.Seq SeqFault.Memory)
         (IsReplayedFault (MayBeCutOff (L.may_fail lines.old) (L.remaining lines.old)) (W.may_refuse out.old) call)
         (R.may_fail block.old) (R.remaining block.old) (P.content programs.old) (W.contents out.old) (W.contents out.new)) }
     ensures cut { OnErr result (IfSome (R.remaining block.old) (λ input. IfSome (L.remaining lines.old) (λ typed.
-        IfSome (loaded_job (P.content programs.old) (block_of input)) (λ job.
+        IfSome (loaded_job (P.content programs.old) (parsed_block input)) (λ job.
         IfOk (replayed_text has_more job call typed) (AppendsBeginning (W.contents out.old) (W.contents out.new)))))) }
 {
     // Not by `?`: the proof answers this arm.
@@ -53,9 +53,9 @@ pub fn debug_block_to<R: Source, P: Programs, L: Source, W: Destination>(
     debug_lines(alloc, has_more, &mut replay, lines, out)
 }
 
-/// The replay of the call at an index of a job, at its first moment. The calls before it run on the job's own storage; those from
-/// it on run on a copy, where `has_more` is true not at all. Refused as NoSuchCall where there is no such call, after all calls
-/// ran, and as Memory where memory ran out.
+/// The replay of the call at an index of a job, at its first moment. The calls before it run on the job's own storage. The call
+/// and those after it run on a copy, or not at all if `has_more` is true. Refused as NoSuchCall if there is no such call, after
+/// all calls ran, or at once if `has_more` is true. Refused as Memory if memory ran out.
 fn replay_of(alloc: Global, has_more: bool, job: Job, call: usize) -> Result<Replay, Refusal>
     ensures ok { IfOk result (λ r. first_moment job call ≡ Some r) }
     ensures err { IfErr result (λ e. IsReplayFault job call e) }
@@ -80,13 +80,13 @@ fn replay_of(alloc: Global, has_more: bool, job: Job, call: usize) -> Result<Rep
     }
 }
 
-/// Runs calls in order on a copy of a storage, which is dropped; refused where memory ran out.
+/// Runs calls in order on a copy of a storage, which is dropped. Refused if memory ran out.
 fn run_on_copy(alloc: Global, calls: &[Call], store: &Store) -> Result<(), AllocError> {
     let _ = store_behind(alloc, calls, store.copy()?)?;
     Ok(())
 }
 
-/// The storage that calls leave which are run in order on one; refused where memory ran out.
+/// The storage that calls leave if they run in order on `store`. Refused if memory ran out.
 #[tactic(auto, unfolding(rv_step::specs::Fold::store_after))]
 fn store_behind(alloc: Global, calls: &[Call], store: Store) -> Result<Store, AllocError>
     ensures { IfOk result (λ s. s ≡ store_after calls.now store) }

@@ -10,7 +10,6 @@ ghost use Rattle.programs.specs.Programs.{program_of_file};
 ghost use Rattle.receipts.specs.Text.{word_text};
 
 use crate::fault::Refusal;
-use crate::loading::refusal_of;
 use crate::reading::read_program;
 use byte_streams::{Destination, Source, write_whole};
 use elf32::{Image, PlacedWord};
@@ -19,9 +18,9 @@ use receipts::word_text;
 use rv_text::disassemble;
 use std::alloc::{AllocError, Global};
 
-/// Reads an ELF file of at most 131,072 bytes to its end, loads it and writes a line for each of its
-/// words: the address, the word and its text. The first refusal ends it. Where the output is
-/// refused, a beginning of the lines was written; otherwise nothing was written.
+/// Reads an ELF file of at most 131,072 bytes to its end, loads it and writes a line for each of its words: the address, the
+/// word and its text. The first refusal ends it. If the output is refused, a beginning of the lines was written; before any
+/// other refusal nothing was written.
 pub fn dis_to<R: Source, W: Destination>(
     alloc: Global,
     file: &mut R,
@@ -34,7 +33,7 @@ pub fn dis_to<R: Source, W: Destination>(
     // Not by `?`: the proof answers this arm.
     let listing = match listing(alloc, file) {
         Ok(listing) => listing,
-        Err(fault) => return Err(refusal_of(fault)),
+        Err(fault) => return Err(Refusal::from(fault)),
     };
     match write_whole(listing.as_bytes(), out) {
         Ok(()) => Ok(()),
@@ -52,7 +51,7 @@ fn listing<R: Source>(alloc: Global, file: &mut R) -> Result<String, ProgramFaul
     Ok(listing_text(alloc, &image)?)
 }
 
-/// The lines of an image; refused where memory ran out.
+/// The lines of an image. Refused if memory ran out.
 fn listing_text(alloc: Global, image: &Image) -> Result<String, AllocError>
     ensures { IfOk result (λ t. string_bytes t ≡ listing_of image.now) }
 {
@@ -62,7 +61,7 @@ fn listing_text(alloc: Global, image: &Image) -> Result<String, AllocError>
     Ok(text)
 }
 
-/// Appends the lines of some words; refused where memory ran out.
+/// Appends the lines of some words. Refused if memory ran out.
 fn push_lines(alloc: Global, words: &[PlacedWord], text: &mut String) -> Result<(), AllocError>
     ensures { OnOk result (string_bytes text.new ≡ string_bytes text.old ++ flat_map listing_line words.now) }
 {
@@ -72,7 +71,7 @@ fn push_lines(alloc: Global, words: &[PlacedWord], text: &mut String) -> Result<
     Ok(())
 }
 
-/// Appends the line of a word; refused where memory ran out.
+/// Appends the line of a word. Refused if memory ran out.
 fn push_line(alloc: Global, placed: &PlacedWord, text: &mut String) -> Result<(), AllocError>
     ensures { OnOk result (string_bytes text.new ≡ string_bytes text.old ++ listing_line placed.now) }
 {
@@ -82,7 +81,7 @@ fn push_line(alloc: Global, placed: &PlacedWord, text: &mut String) -> Result<()
     text.push('\n')
 }
 
-/// Appends the eight hex digits of a word and a space; refused where memory ran out.
+/// Appends the eight hex digits of a word and a space. Refused if memory ran out.
 fn push_word(alloc: Global, word: u32, text: &mut String) -> Result<(), AllocError>
     ensures { OnOk result (string_bytes text.new ≡ string_bytes text.old ++ (word_text word ++ 32 ∷ [])) }
 {

@@ -1,7 +1,7 @@
 //! Files by their paths.
 
 ghost use Rattle.std.specs.Prelude.{◌≡◌, ℕ, List, Option, None, Some, IfOk, IfSome, OnErr, OnOk};
-ghost use Rattle.engines.specs.Named.{bytes_of, may_fail_of};
+ghost use Rattle.engines.specs.Named.{bytes_left, may_fail_of};
 
 use crate::program_source::Programs;
 use byte_streams::{FallibleReader, Source};
@@ -16,7 +16,7 @@ pub trait Disk: OutputDisk {
     /// A file that is open to be read.
     type File: Source + Drop;
 
-    /// The bytes of the file at a path, where they are known and nothing keeps them from being read.
+    /// The bytes of the file at a path, if they are known and nothing keeps them from being read.
     ghost content: { Self → List ℕ → Option (List ℕ) };
 
     /// Opens a file to read it.
@@ -42,7 +42,7 @@ impl<'a, R: Files<File = File>> Disk for SystemDisk<'a, R> {
 /// The programs in the files that their paths name.
 #[derive(Drop)]
 pub(crate) struct ProgramFiles<'a, D: Disk> {
-    /// Where the files are.
+    /// The disk that has the files.
     pub disk: &'a D,
 }
 
@@ -63,7 +63,7 @@ impl<'a, D: Disk> Programs for ProgramFiles<'a, D> {
 /// A file that is opened when it is first read.
 #[derive(Drop)]
 pub(crate) struct NamedFile<'a, D: Disk> {
-    /// Where the file is.
+    /// The disk that has the file.
     pub disk: &'a D,
     /// Its path.
     pub path: &'a str,
@@ -72,9 +72,9 @@ pub(crate) struct NamedFile<'a, D: Disk> {
 }
 
 impl<'a, D: Disk> NamedFile<'a, D> {
-    /// Takes the file out, which is opened where it was not yet.
+    /// Takes the file out, and opens it if it was not open yet.
     fn take_open(&mut self) -> io::Result<D::File>
-        ensures bytes { IfOk result (λ file. IfSome (bytes_of D.File.remaining (D.content self.old.disk.now self.old.path.now) self.old.file) (λ bytes. D.File.remaining file ≡ Some bytes)) }
+        ensures bytes { IfOk result (λ file. IfSome (bytes_left D.File.remaining (D.content self.old.disk.now self.old.path.now) self.old.file) (λ bytes. D.File.remaining file ≡ Some bytes)) }
         ensures readable { IfOk result (λ file. D.File.may_fail file → may_fail_of D.File.may_fail (D.content self.old.disk.now self.old.path.now) self.old.file) }
         ensures refused { OnErr result (may_fail_of D.File.may_fail (D.content self.old.disk.now self.old.path.now) self.old.file) }
         ensures kept { OnErr result (self.new ≡ self.old) }
@@ -85,9 +85,9 @@ impl<'a, D: Disk> NamedFile<'a, D> {
         }
     }
 
-    /// Opens the file where it was not yet, and reads nothing of it: it shows the same bytes as before.
+    /// Opens the file if it was not open yet, and reads nothing of it: it shows the same bytes as before.
     pub(crate) fn open_file(&mut self) -> io::Result<()>
-        ensures bytes { OnOk result (IfSome (bytes_of D.File.remaining (D.content self.old.disk.now self.old.path.now) self.old.file) (λ bytes. bytes_of D.File.remaining (D.content self.new.disk.now self.new.path.now) self.new.file ≡ Some bytes)) }
+        ensures bytes { OnOk result (IfSome (bytes_left D.File.remaining (D.content self.old.disk.now self.old.path.now) self.old.file) (λ bytes. bytes_left D.File.remaining (D.content self.new.disk.now self.new.path.now) self.new.file ≡ Some bytes)) }
         ensures readable { OnOk result (may_fail_of D.File.may_fail (D.content self.new.disk.now self.new.path.now) self.new.file → may_fail_of D.File.may_fail (D.content self.old.disk.now self.old.path.now) self.old.file) }
         ensures refused { OnErr result (may_fail_of D.File.may_fail (D.content self.old.disk.now self.old.path.now) self.old.file) }
         ensures kept { OnErr result (self.new ≡ self.old) }
@@ -99,7 +99,7 @@ impl<'a, D: Disk> NamedFile<'a, D> {
 }
 
 impl<'a, D: Disk> Read for NamedFile<'a, D> {
-    ghost remaining = { λ f. bytes_of D.File.remaining (D.content f.disk.now f.path.now) f.file };
+    ghost remaining = { λ f. bytes_left D.File.remaining (D.content f.disk.now f.path.now) f.file };
 
     fn read(&mut self, buf: &mut [u8]) -> io::Result<usize> {
         let mut file = self.take_open()?;

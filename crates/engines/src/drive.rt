@@ -3,8 +3,8 @@
 ghost use Rattle.std.specs.Prelude.{◌≡◌, IfErr, IfOk, IfSome, IsOkAnd, OnOk, Ok};
 ghost use Rattle.std.specs.Io.KnownBytes.{Appends};
 ghost use Rattle.std.specs.Option.{option_map};
-ghost use Rattle.block_file.specs.Block.{block_of};
-ghost use Rattle.block_file.specs.Schedule.{schedule_of};
+ghost use Rattle.block_file.specs.Block.{parsed_block};
+ghost use Rattle.block_file.specs.Schedule.{parsed_schedule};
 ghost use Rattle.engines.specs.Counts.{AreCountsAlong};
 ghost use Rattle.engines.specs.Drive.{driven_answer, text_along, IsDriveFault, IsScheduleFault, IsScheduledFault};
 ghost use Rattle.engines.specs.Engine.{loaded_job, IsRefusedJob};
@@ -21,11 +21,10 @@ use rv_ledger::Job;
 use std::alloc::Global;
 use stm_core::{DriveFault, drive};
 
-/// Reads a block file to its end and parses it. Opens, reads and loads its programs in the order of their
-/// numbers. Reads a schedule file to its end and parses it. Then runs the calls on `workers` workers
-/// along the schedule and writes the result, which is that of the calls in order. The first refusal ends
-/// it. Where the output is refused, a beginning of the result was written; otherwise nothing was written.
-/// Where nothing is refused, it returns what the workers did.
+/// Reads a block file to its end and parses it. Opens, reads and loads its programs in the order of their numbers. Reads a
+/// schedule file to its end and parses it. Then runs the calls on `workers` workers along the schedule and writes the result,
+/// which is that of the calls in order. The first refusal ends it. If the output is refused, a beginning of the result was
+/// written; before any other refusal nothing was written. If nothing is refused, returns what the workers did.
 pub fn drive_to<R: Source, P: Programs, S: Source, W: Destination>(
     alloc: Global,
     block: &mut R,
@@ -35,14 +34,14 @@ pub fn drive_to<R: Source, P: Programs, S: Source, W: Destination>(
     out: &mut W,
 ) -> Result<RunCounts, Refusal>
     ensures written { OnOk result (IfSome (R.remaining block.old) (λ input.
-        IfSome (driven_answer (P.content programs.old) (block_of input) workers (option_map schedule_of (S.remaining schedule.old))) (λ answer.
+        IfSome (driven_answer (P.content programs.old) (parsed_block input) workers (option_map parsed_schedule (S.remaining schedule.old))) (λ answer.
         IsOkAnd answer (Appends (W.contents out.old) (W.contents out.new))))) }
     ensures refused { IfErr result (IsRefusedJob (Refusal.Drive DriveFault.Memory)
-        (IsScheduledFault (S.may_fail schedule.old) (W.may_refuse out.old) workers (option_map schedule_of (S.remaining schedule.old)))
+        (IsScheduledFault (S.may_fail schedule.old) (W.may_refuse out.old) workers (option_map parsed_schedule (S.remaining schedule.old)))
         (R.may_fail block.old) (R.remaining block.old) (P.content programs.old) (W.contents out.old) (W.contents out.new)) }
     ensures counts { IfOk result (λ counts. IfSome (R.remaining block.old) (λ input. IfSome (S.remaining schedule.old) (λ bytes.
-        IfSome (loaded_job (P.content programs.old) (block_of input)) (λ wanted. IsOkAnd wanted (λ job.
-        IsOkAnd (schedule_of bytes) (λ entries. AreCountsAlong job workers entries counts)))))) }
+        IfSome (loaded_job (P.content programs.old) (parsed_block input)) (λ wanted. IsOkAnd wanted (λ job.
+        IsOkAnd (parsed_schedule bytes) (λ entries. AreCountsAlong job workers entries counts)))))) }
 {
     let job = load_job(alloc, block, programs, Refusal::Drive(DriveFault::Memory))?;
     // Not by `?`: the proof answers this arm.
@@ -55,8 +54,8 @@ pub fn drive_to<R: Source, P: Programs, S: Source, W: Destination>(
 
 /// Reads and parses a schedule file.
 fn read_schedule<S: Source>(alloc: Global, schedule: &mut S) -> Result<Vec<u16>, Refusal>
-    ensures ok { IfOk result (λ v. IfSome (S.remaining schedule.old) (λ bytes. schedule_of bytes ≡ Ok v.items)) }
-    ensures err { IfErr result (λ e. IsScheduleFault (S.may_fail schedule.old) (option_map schedule_of (S.remaining schedule.old)) e) }
+    ensures ok { IfOk result (λ v. IfSome (S.remaining schedule.old) (λ bytes. parsed_schedule bytes ≡ Ok v.items)) }
+    ensures err { IfErr result (λ e. IsScheduleFault (S.may_fail schedule.old) (option_map parsed_schedule (S.remaining schedule.old)) e) }
 {
     let memory = BlockFault {
         line: 1,

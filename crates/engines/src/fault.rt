@@ -19,8 +19,7 @@ use workers::RunFault;
 pub enum FileFault {
     /// A file can't be opened or read to its end, or a source is not UTF-8.
     Unreadable = 1,
-    /// `--out` names the file that is read, its file can't be made, written or renamed, or `rvstm` can't find out where its
-    /// path leads.
+    /// `--out` names the file that is read, its file can't be made, written or renamed, or `rvstm` can't resolve its path.
     Unwritable = 2,
     /// A program file has more than 131,072 bytes.
     TooLong = 3,

@@ -19,7 +19,7 @@ use std::sync::Arc;
 pub struct FileLoader<'a, P: Programs> {
     /// The allocator of what it loads.
     pub alloc: Global,
-    /// Where the files are.
+    /// The programs' files.
     pub programs: &'a mut P,
 }
 
@@ -33,7 +33,7 @@ impl<'a, P: Programs> Loader for FileLoader<'a, P> {
     }
 }
 
-/// The bytes of the program at a path. Its file is closed again, whatever comes of it.
+/// The bytes of the program at a path. Its file is closed again, even if the read is refused.
 fn read_file<P: Programs>(
     alloc: Global,
     programs: &mut P,

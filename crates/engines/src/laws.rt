@@ -1,7 +1,7 @@
 //! Laws of what the program does: what commands print over the same files, and of what they put into files.
 
 ghost use Rattle.std.specs.Prelude.{◌≡◌, ◌≤◌, Bool, IsSome, List, [], Ok, Option, Some, length, ℕ};
-ghost use Rattle.block_file.specs.Block.{block_of};
+ghost use Rattle.block_file.specs.Block.{parsed_block};
 ghost use Rattle.block_file.specs.Migrate.{migrated};
 ghost use Rattle.clap.specs.Words.{Text};
 ghost use Rattle.cmdline.specs.Line.{AsmOf, Asked, DriveOf, RunOf, SeqOf};
@@ -17,10 +17,10 @@ use rv_text::words_assembled_again;
 /// 2 that it is migrated to, whatever the files of its programs hold.
 pub fn migrated_runs_alike()
     ensures { (content : List ℕ → Option (List ℕ)) (bytes text : List ℕ) → migrated bytes ≡ Ok text
-        → answer_of content (block_of text) ≡ answer_of content (block_of bytes) }
+        → answer_of content (parsed_block text) ≡ answer_of content (parsed_block bytes) }
 {}
 
-/// A law, and no code: what `run` prints by any number of workers is what `seq` prints over the same files, and so is what `drive`
+/// A law, and no code: what `run` prints by any number of workers is what `seq` prints over the same files. So is what `drive`
 /// prints along any schedule that is known.
 #[tactic(auto, using(crate::proofs::SameFiles::drive_is_seq))]
 pub fn run_prints_what_seq_prints()
@@ -30,8 +30,8 @@ pub fn run_prints_what_seq_prints()
         → IsSome (content schedule) → Prints content typed old new (DriveOf file workers schedule counts) → Prints content typed old new (SeqOf file) }
 {}
 
-/// A law, and no code: on two machines that have the same bytes in a block file and in its programs, `seq`, `run` and `drive` print
-/// one text, and it is a function of those bytes.
+/// A law, and no code: on two machines that have the same bytes in a block file and in its programs, `seq`, `run` and `drive`
+/// print one text, and it is a function of those bytes.
 #[tactic(auto, using(crate::proofs::SameFiles::result_same, crate::proofs::SameFiles::one_result))]
 pub fn same_files_print_the_same()
     ensures result { (first second : Contents) (file : Text) → HaveSameFiles first second file → result_of first file ≡ result_of second file }
@@ -40,8 +40,8 @@ pub fn same_files_print_the_same()
         → Prints first typed (Some []) (Some one) asked → Prints second lines (Some []) (Some other) wanted → one ≡ other }
 {}
 
-/// A law: `asm` puts a program with exactly the words of the second columns of what `dis` printed, where its source has the third
-/// columns, each on a line of its own, and there are at most 16,384. The call walks over the words and changes nothing.
+/// A law: if a source has the third columns of what `dis` printed, each on a line of its own, and there are at most 16,384,
+/// `asm` puts a program with exactly the words of the second columns. The call walks over the words and changes nothing.
 #[tactic(auto, using(crate::proofs::Again::put_again))]
 pub fn listing_is_assembled_again(words: &[u32])
     ensures { (content : Contents) (leads : List ℕ → List ℕ) (old new : Option Entries) (source out : Text) (printed text : List ℕ)

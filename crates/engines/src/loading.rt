@@ -2,8 +2,8 @@
 
 ghost use Rattle.std.specs.Prelude.{◌≡◌, ◌<◌, ◌≤◌, length, map, vec_len, All, IfOk, IfErr, IfSome, Ok};
 ghost use Rattle.std.specs.Arc.{arc_value};
-ghost use Rattle.block_file.specs.Block.{block_of, block_value, call_value};
-ghost use Rattle.engines.specs.Engine.{IsBlockFault, IsLoadFault, loaded_job, refusal_of};
+ghost use Rattle.block_file.specs.Block.{block_value, call_value, parsed_block};
+ghost use Rattle.engines.specs.Engine.{IsBlockFault, IsLoadFault, loaded_job, program_refusal};
 ghost use Rattle.programs.specs.Programs.{call_over};
 
 use crate::fault::{FileFault, Refusal};
@@ -24,9 +24,8 @@ pub(crate) const BLOCK_MEMORY: BlockFault = BlockFault {
     cause: Cause::Memory,
 };
 
-/// Reads a block file to its end and parses it. Opens, reads and loads its programs in the order of
-/// their numbers. Then makes the job. The first refusal ends it. It is `memory` where memory for
-/// the calls ran out.
+/// Reads a block file to its end and parses it. Opens, reads and loads its programs in the order of their numbers. Then makes
+/// the job. The first refusal ends it. It is `memory` if memory for the calls ran out.
 pub(crate) fn load_job<R: Source, P: Programs>(
     alloc: Global,
     block: &mut R,
@@ -34,9 +33,9 @@ pub(crate) fn load_job<R: Source, P: Programs>(
     memory: Refusal,
 ) -> Result<Job, Refusal>
     ensures ok { IfOk result (λ job. IfSome (R.remaining block.old) (λ input.
-        IfSome (loaded_job (P.content programs.old) (block_of input)) (λ wanted. wanted ≡ Ok job))) }
+        IfSome (loaded_job (P.content programs.old) (parsed_block input)) (λ wanted. wanted ≡ Ok job))) }
     ensures err { IfErr result (λ e. IfSome (R.remaining block.old) (λ input.
-        IsLoadFault (R.may_fail block.old) (P.content programs.old) (block_of input) memory e)) }
+        IsLoadFault (R.may_fail block.old) (P.content programs.old) (parsed_block input) memory e)) }
 {
     let text = read_block(alloc, block)?;
     load_text(alloc, text, programs, memory)
@@ -44,8 +43,8 @@ pub(crate) fn load_job<R: Source, P: Programs>(
 
 /// Reads and parses a block file.
 fn read_block<R: Source>(alloc: Global, block: &mut R) -> Result<BlockText, Refusal>
-    ensures ok { IfOk result (λ text. IfSome (R.remaining block.old) (λ input. block_of input ≡ Ok (block_value text))) }
-    ensures err { IfErr result (λ e. IfSome (R.remaining block.old) (λ input. IsBlockFault (R.may_fail block.old) (block_of input) e)) }
+    ensures ok { IfOk result (λ text. IfSome (R.remaining block.old) (λ input. parsed_block input ≡ Ok (block_value text))) }
+    ensures err { IfErr result (λ e. IfSome (R.remaining block.old) (λ input. IsBlockFault (R.may_fail block.old) (parsed_block input) e)) }
 {
     // Not by `?`: the proof answers this arm.
     let bytes = match read_text(alloc, block, Refusal::Block(BLOCK_MEMORY)) {
@@ -78,7 +77,7 @@ fn load_text<P: Programs>(
     // Not by `?`: the proof answers this arm.
     let images = match programs_at(alloc, &mut loader, paths.as_slice()) {
         Ok(images) => images,
-        Err(fault) => return Err(refusal_of(fault)),
+        Err(fault) => return Err(Refusal::from(fault)),
     };
     match job_of(alloc, rules, images.as_slice(), calls, store) {
         Ok(job) => Ok(job),
@@ -86,18 +85,19 @@ fn load_text<P: Programs>(
     }
 }
 
-/// How a command is refused where a program is.
-pub(crate) fn refusal_of(fault: ProgramFault) -> Refusal
-    ensures { result ≡ refusal_of fault }
-{
-    match fault {
-        ProgramFault::Unreadable => Refusal::File(FileFault::Unreadable),
-        ProgramFault::TooLong => Refusal::File(FileFault::TooLong),
-        ProgramFault::Elf(fault) => Refusal::Elf(fault),
+impl From<ProgramFault> for Refusal {
+    ghost from_gives = { λ fault refusal. refusal ≡ program_refusal fault };
+
+    fn from(fault: ProgramFault) -> Refusal {
+        match fault {
+            ProgramFault::Unreadable => Refusal::File(FileFault::Unreadable),
+            ProgramFault::TooLong => Refusal::File(FileFault::TooLong),
+            ProgramFault::Elf(fault) => Refusal::Elf(fault),
+        }
     }
 }
 
-/// The job of the calls over the loaded programs; refused where memory ran out.
+/// The job of the calls over the loaded programs. Refused if memory ran out.
 fn job_of(
     alloc: Global,
     rules: Rules,

@@ -25,8 +25,8 @@ enum ReadFault {
     Memory,
 }
 
-/// All the bytes that a reader has left. Refused as TooLong where there are more than `limit`, as
-/// Unreadable where a read failed, and as Memory where memory ran out.
+/// All the bytes that a reader has left. Refused as TooLong if there are more than `limit`, as Unreadable if a read failed, and
+/// as Memory if memory ran out.
 fn read_whole<R: Source>(alloc: Global, reader: &mut R, limit: usize) -> Result<Vec<u8>, ReadFault>
     ensures ok { IfOk result (λ v. IfSome (R.remaining reader.old) (λ bytes. v.items ≡ bytes)) }
     ensures short { IfOk result (λ v. vec_len v ≤ limit) }
@@ -51,8 +51,7 @@ fn read_whole<R: Source>(alloc: Global, reader: &mut R, limit: usize) -> Result<
     }
 }
 
-/// All the bytes that a reader of a text has left. Refused as Unreadable where a read failed, and as
-/// `memory` where memory ran out.
+/// All the bytes that a reader of a text has left. Refused as Unreadable if a read failed, and as `memory` if memory ran out.
 pub(crate) fn read_text<R: Source>(
     alloc: Global,
     reader: &mut R,
@@ -68,8 +67,8 @@ pub(crate) fn read_text<R: Source>(
     }
 }
 
-/// All the bytes that a reader of a program file has left. Refused as TooLong where there are more than
-/// 131,072, as Unreadable where a read failed, and as Memory where memory ran out.
+/// All the bytes that a reader of a program file has left. Refused as TooLong if there are more than 131,072, as Unreadable if
+/// a read failed, and as Memory if memory ran out.
 pub(crate) fn read_program<R: Source>(
     alloc: Global,
     reader: &mut R,

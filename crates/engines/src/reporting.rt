@@ -9,8 +9,8 @@ ghost use Rattle.byte_streams.specs.Written.{AppendsPart};
 use crate::fault::Refusal;
 use byte_streams::{Destination, WriteFault, refusal_line, write_whole};
 
-/// Writes the line of a refusal as `write_refusal` does, and returns the exit status 1. Where that is
-/// refused, a beginning of the line was written.
+/// Writes the line of a refusal as `write_refusal` does, and returns the exit status 1. If the write is refused, a beginning of
+/// the line was written.
 pub fn report<W: Destination>(refusal: &Refusal, out: &mut W) -> u8
     ensures status { result ≡ 1 }
     ensures whole { ¬ (W.may_refuse out.old WriteFault.Io) → ¬ (W.may_refuse out.old WriteFault.WroteNothing) → Appends (W.contents out.old) (W.contents out.new) (refusal_line refusal.now) }
@@ -20,9 +20,9 @@ pub fn report<W: Destination>(refusal: &Refusal, out: &mut W) -> u8
     1
 }
 
-/// Writes the line of a refusal, `rvstm: ` and the refusal's text. The line is formed in full before anything
-/// is written, and takes no memory. Refused as Io where a write failed, and as WroteNothing where a write took
-/// no bytes; then a beginning of the line was written, and not all of it. It is never refused as Memory.
+/// Writes the line of a refusal, `rvstm: ` and the refusal's text. The line is formed in full before anything is written, and
+/// takes no memory. Refused as Io if a write failed, and as WroteNothing if a write took no bytes; then a beginning of the line
+/// was written, and not all of it. It is never refused as Memory.
 pub fn write_refusal<W: Destination>(refusal: &Refusal, out: &mut W) -> Result<(), WriteFault>
     ensures written { OnOk result (Appends (W.contents out.old) (W.contents out.new) (refusal_line refusal.now)) }
     ensures cut { OnErr result (AppendsPart (W.contents out.old) (W.contents out.new) (refusal_line refusal.now)) }

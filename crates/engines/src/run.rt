@@ -2,7 +2,7 @@
 
 ghost use Rattle.std.specs.Prelude.{◌≡◌, ◌≤◌, map, IfErr, IfOk, IfSome, IsOkAnd, OnOk};
 ghost use Rattle.std.specs.Io.KnownBytes.{Appends};
-ghost use Rattle.block_file.specs.Block.{block_of};
+ghost use Rattle.block_file.specs.Block.{parsed_block};
 ghost use Rattle.engines.specs.Counts.{AreCountsOfRun};
 ghost use Rattle.engines.specs.Engine.{answer_of, loaded_job, text_of, IsRefusedJob};
 ghost use Rattle.engines.specs.Run.{IsRefusalOf, IsWorkersFault};
@@ -20,11 +20,10 @@ use std::sync::Wait;
 use std::thread::Threads;
 use workers::{Executor, RunFault, Share};
 
-/// Reads a block file to its end and parses it. Opens, reads and loads its programs in the order of
-/// their numbers. Then runs the calls on `workers` workers, each on a thread of its own, and writes the
-/// result, which is that of the calls in order. The first refusal ends it. Where the output is refused,
-/// a beginning of the result was written; otherwise nothing was written. Where nothing is refused, it returns
-/// what the workers did.
+/// Reads a block file to its end and parses it. Opens, reads and loads its programs in the order of their numbers. Then runs
+/// the calls on `workers` workers, each on a thread of its own, and writes the result, which is that of the calls in order. The
+/// first refusal ends it. If the output is refused, a beginning of the result was written; before any other refusal nothing was
+/// written. If nothing is refused, returns what the workers did.
 pub fn run_to<T: Threads + Wait + Sync, R: Source, P: Programs, W: Destination>(
     threads: &T,
     alloc: Global,
@@ -34,13 +33,13 @@ pub fn run_to<T: Threads + Wait + Sync, R: Source, P: Programs, W: Destination>(
     out: &mut W,
 ) -> Result<RunCounts, Refusal>
     ensures written { OnOk result (IfSome (R.remaining block.old) (λ input.
-        IfSome (answer_of (P.content programs.old) (block_of input)) (λ answer.
+        IfSome (answer_of (P.content programs.old) (parsed_block input)) (λ answer.
         IsOkAnd answer (Appends (W.contents out.old) (W.contents out.new))))) }
     ensures refused { IfErr result (IsRefusedJob (Refusal.Run RunFault.Memory) (IsWorkersFault (W.may_refuse out.old) workers)
         (R.may_fail block.old) (R.remaining block.old) (P.content programs.old) (W.contents out.old) (W.contents out.new)) }
     ensures workers { OnOk result ((1 ≤ workers) × (workers ≤ 32)) }
     ensures history { IfOk result (λ counts. IfSome (R.remaining block.old) (λ input.
-        IfSome (loaded_job (P.content programs.old) (block_of input)) (λ wanted. IsOkAnd wanted (λ job. AreCountsOfRun job workers counts)))) }
+        IfSome (loaded_job (P.content programs.old) (parsed_block input)) (λ wanted. IsOkAnd wanted (λ job. AreCountsOfRun job workers counts)))) }
 {
     let job = load_job(alloc, block, programs, Refusal::Run(RunFault::Memory))?;
     run_threads(threads, alloc, job, workers, out)
@@ -80,7 +79,7 @@ struct ThreadsResult {
     counts: RunCounts,
 }
 
-/// Runs a job on so many workers, each on a thread of its own, on the job's own storage.
+/// Runs a job on this many workers, each on a thread of its own, on the job's own storage.
 fn run_job<T: Threads + Wait + Sync>(
     threads: &T,
     alloc: Global,
@@ -111,7 +110,7 @@ fn run_job<T: Threads + Wait + Sync>(
     })
 }
 
-/// What each worker did, by its share; refused where memory ran out.
+/// What each worker did, by its share. Refused if memory ran out.
 fn counts_by_share(alloc: Global, shares: &[Share]) -> Result<Vec<Counts>, AllocError>
     ensures { IfOk result (λ did. did.items ≡ map (λ share. share.counts) shares.now) }
 {

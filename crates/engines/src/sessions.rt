@@ -3,7 +3,7 @@
 ghost use Rattle.std.specs.Prelude.{◌≡◌, [], ◌∷◌, false, true, option_map, IfErr, IfSome, None, OnErr, OnOk};
 ghost use Rattle.session_durability.specs.Durable.{moment};
 ghost use Rattle.session_durability.specs.Keeping.{IsKeptBy};
-ghost use Rattle.engines.specs.Opened.{Asks};
+ghost use Rattle.engines.specs.Opened.{OrdersFollow};
 ghost use Rattle.engines.specs.Program.{IsCutKept, IsRefusedSession, KeepsFrom, KeepsSessionAt, PrintsKept, PrintsSession};
 ghost use Rattle.engines.specs.Stores.{AreClosed, AsksAsTold, AsksForSession, AsksInVain, Close, HoldsCommitted, IsOfSession, KeepsOthers};
 ghost use Rattle.session_states.specs.States.{file_state};
@@ -83,13 +83,13 @@ fn chain_in<K: SessionStores, R: BufferedSource, C: CallRunner, W: Destination>(
         ),
         Err((fault, store)) => {
             let _ = stores.abandon_store(store, log);
-            Err(Refusal::Store(fault.fault()))
+            Err(Refusal::Store(StoreFault::from(fault)))
         }
     }
 }
 
-/// Answers the requests of the input in the session of a file that was opened at a path, and closes the file, whatever comes of
-/// them.
+/// Answers the requests of the input in the session of a file that was opened at a path. Then closes the file, even if the
+/// session was refused.
 fn chain_and_close<K: SessionStores, R: BufferedSource, C: CallRunner, W: Destination>(
     alloc: Global,
     stores: &mut K,
@@ -108,7 +108,7 @@ fn chain_and_close<K: SessionStores, R: BufferedSource, C: CallRunner, W: Destin
     ensures closed { OnOk result (AreClosed K.are_folded) }
     ensures kept { OnOk result (IfSome (R.remaining requests.old) (KeepsFrom settings (moment (file_state session.state session.found) (K.Kept.view session.file) (K.Kept.faults session.file)) (K.trees_at stores.new path.now) (W.contents out.old) (W.contents out.new))) }
     ensures others { KeepsOthers (K.trees_at stores.old) (K.trees_at stores.new) path.now }
-    ensures asks { Asks (K.asked stores.old) (K.asked stores.new) (Close ∷ []) }
+    ensures asks { OrdersFollow (K.asked stores.old) (K.asked stores.new) (Close ∷ []) }
     ensures told { IfErr result (λ e. IfSome (R.remaining requests.old) (λ _. IsOfSession e)) }
 {
     let mut session = session;
@@ -121,17 +121,18 @@ fn chain_and_close<K: SessionStores, R: BufferedSource, C: CallRunner, W: Destin
     }
 }
 
-/// Closes the store of a session that was opened at a path. What the close gives back is dropped here, which unlocks the file.
+/// Closes the store of a session that was opened at a path. The files that the close returns are dropped here, which unlocks
+/// them.
 fn close<K: SessionStores>(stores: &mut K, path: &str, store: K::Kept) -> Result<(), Refusal>
     ensures closed { OnOk result (AreClosed K.are_folded) }
     ensures kept { OnOk result (IfSome (K.trees_at stores.new path.now) (HoldsCommitted (K.Kept.view store))) }
     ensures others { KeepsOthers (K.trees_at stores.old) (K.trees_at stores.new) path.now }
-    ensures asks { Asks (K.asked stores.old) (K.asked stores.new) (Close ∷ []) }
+    ensures asks { OrdersFollow (K.asked stores.old) (K.asked stores.new) (Close ∷ []) }
     ensures told { IfErr result IsOfSession }
     ensures refused { IfErr result (λ e. (fault : StoreFault) × (e ≡ Refusal.Store fault)) }
 {
     match stores.close_store(path, store) {
         Ok(_) => Ok(()),
-        Err((error, _)) => Err(Refusal::Store(StoreFault::of_error(error))),
+        Err((error, _)) => Err(Refusal::Store(StoreFault::from(error))),
     }
 }

@@ -1,12 +1,12 @@
-//! Where the stores of sessions are.
+//! The stores of sessions, by their paths.
 
 ghost use Rattle.std.specs.Prelude.{◌≡◌, List, [], ◌∷◌, IfErr, IfOk, IfSome, None, OnErr, OnOk, Option};
 ghost use Rattle.sqlite_disk.specs.Disk.{MoreFaults};
 ghost use Rattle.sqlite_trees.specs.Tree.{Trees};
 ghost use Rattle.sqlite_trees.specs.View.{IsClean, Tells, View};
 ghost use Rattle.session_file.specs.Opening.{IsFresh};
-ghost use Rattle.engines.specs.Chain.{fault_of};
-ghost use Rattle.engines.specs.Opened.{Asks};
+ghost use Rattle.engines.specs.Chain.{opening_fault};
+ghost use Rattle.engines.specs.Opened.{OrdersFollow};
 ghost use Rattle.engines.specs.Stores.{Abandon, Close, HoldsCommitted, KeepsOthers, Open, StoreOrder, TreesAt};
 ghost use Rattle.session_disk.specs.Closing.{AreLeftFolded, MayFailToClose};
 
@@ -26,28 +26,29 @@ pub trait SessionStores {
     /// The files of a store.
     type Files: Drop;
 
-    /// The log beside a store's file, where the open of it makes one.
+    /// The log beside a store's file, if the open of it makes one.
     type Log: Drop;
 
-    /// What was asked so far, the last order last, where that is known.
+    /// What was asked so far, the last order last, if that is known.
     ghost asked: { Self → Option (List StoreOrder) };
 
     /// What the files at a path hold, if that is known. It is not if a wrong answer of the disk may be taken as true.
     ghost trees_at: { Self → TreesAt };
 
-    /// Whatever a crash leaves, the files of a store that showed this have what was committed, and so has the database file alone.
+    /// Whatever a crash leaves, the files of a store that showed this have what was committed, and so has the database file
+    /// alone.
     ghost are_folded: { Self.Files → View → Type 0 };
 
-    /// Opens the store of a session at a path; where nothing is there one is made, with no rows.
+    /// Opens the store of a session at a path. If nothing is there, one is made, with no rows.
     fn open_store(&mut self, path: &str) -> Result<(Self::Kept, Self::Log), OpenFault>
         ensures fresh { IfOk result (λ opened. IsClean (Self.Kept.view opened.0) → IsFresh (Self.Kept.view opened.0)) }
         ensures found { IfOk result (λ opened. IfSome (trees_at self.old path.now) (λ db. (Self.Kept.view opened.0).trees ≡ db)) }
         ensures others { KeepsOthers (trees_at self.old) (trees_at self.new) path.now }
-        ensures asks { OnOk result (Asks (asked self.old) (asked self.new) (Open path.now ∷ [])) }
+        ensures asks { OnOk result (OrdersFollow (asked self.old) (asked self.new) (Open path.now ∷ [])) }
         ensures asks_nothing { OnErr result (asked self.new ≡ asked self.old) };
 
-    /// Closes the store that was opened at a path, and gives its files back. Where this is done the database file alone has what was
-    /// committed. Where it fails the store is given back, and a crash leaves nothing new.
+    /// Closes the store that was opened at a path, and returns its files. If this is done, the database file alone has what was
+    /// committed. If it fails, the store is returned, and a crash leaves nothing new.
     fn close_store(
         &mut self,
         path: &str,
@@ -59,9 +60,9 @@ pub trait SessionStores {
         ensures err { IfErr result (λ e. (db : Trees) → Self.Kept.recovers e.1 db → Self.Kept.recovers store db) }
         ensures cause { IfErr result (λ e. IsClean (Self.Kept.view e.1) → MayFailToClose (MoreFaults (Self.Kept.faults store) (Self.Kept.faults e.1)) (Self.Kept.view e.1) e.0) }
         ensures told { IfErr result (λ e. Tells (Self.Kept.blamed e.1) e.0) }
-        ensures asks { Asks (asked self.old) (asked self.new) (Close ∷ []) };
+        ensures asks { OrdersFollow (asked self.old) (asked self.new) (Close ∷ []) };
 
-    /// Closes a store that is not to be used, as `close_store` does, and gives up the log that its open made.
+    /// Closes a store that will not be used, as `close_store` does, and gives up the log that its open made.
     fn abandon_store(
         &mut self,
         store: Self::Kept,
@@ -69,7 +70,7 @@ pub trait SessionStores {
     ) -> Result<Self::Files, (StoreError, Self::Kept)>
         ensures folded { IfOk result (λ files. are_folded files (Self.Kept.view store)) }
         ensures err { IfErr result (λ e. (db : Trees) → Self.Kept.recovers e.1 db → Self.Kept.recovers store db) }
-        ensures asks { Asks (asked self.old) (asked self.new) (Abandon ∷ []) };
+        ensures asks { OrdersFollow (asked self.old) (asked self.new) (Abandon ∷ []) };
 }
 
 /// A file of the system, which looks at the names of a session's files at each sync.
@@ -118,9 +119,9 @@ impl SessionStores for SystemStores {
     }
 }
 
-/// What is told of a file that is not opened.
+/// The fault that is reported for a file that is not opened.
 pub(crate) fn fault_of(fault: OpenFault) -> StoreFault
-    ensures { result ≡ fault_of fault }
+    ensures { result ≡ opening_fault fault }
 {
     match fault {
         OpenFault::Busy => StoreFault::Busy,

@@ -2,7 +2,7 @@
 
 use rv_ledger::Receipt;
 
-/// What a call costs by threads beside its own steps, in gas: its steps under the lock, one after the other. A transfer's gas,
+/// What a call costs by threads besides its own steps, in gas: its steps under the lock, one after the other. A transfer's gas,
 /// some 1,270, goes into storage calls, which are no faster by threads; so by this cost such calls run in order.
 const CALL_COST: u64 = 1_500;
 
@@ -46,20 +46,20 @@ impl Shown {
         }
     }
 
-    /// The gas of a call, in the mean; 0 where there is none.
+    /// The gas of a call on average; 0 if there is no call.
     pub(crate) fn gas_of_each(self) -> u64 {
         self.gas.checked_div(self.calls).unwrap_or(0)
     }
 
-    /// How often a call read the storage, in the mean; 0 where there is none.
+    /// How often a call read the storage on average; 0 if there is no call.
     pub(crate) fn reads_of_each(self) -> u64 {
         self.reads.checked_div(self.calls).unwrap_or(0)
     }
 }
 
-/// Whether so many calls that are alike those that were shown run faster by threads. What threads save is the gas of the
-/// calls, less one worker's part of it. The costs are estimates by what blocks take by the length of a call, beside `seq`
-/// (bench/README.md); the storage costs nothing, since threads read it where it is. No result rests on the answer.
+/// Whether this many calls, if they are like those in `shown`, run faster by threads. Threads save the gas of the calls, less
+/// one worker's part of it. The costs are estimates from the times of blocks by the length of a call, compared with `seq`
+/// (bench/README.md). The storage costs nothing, since threads read it in place. No result depends on the answer.
 pub(crate) fn pays(workers: usize, shown: Shown, calls: usize) -> bool {
     let (workers, calls) = (workers as u64, calls as u64);
     let work = shown.gas_of_each().saturating_mul(calls);

@@ -38,7 +38,7 @@ pub struct FailingFiles<R: Files> {
 }
 
 impl<R: Files> FailingFiles<R> {
-    /// Refused where this is what fails.
+    /// Refused if this is what fails.
     fn ask(&self, request: DiskRequest) -> io::Result<()> {
         if request == self.failing {
             return Err(io::Error::from(self.kind));

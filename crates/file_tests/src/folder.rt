@@ -1,4 +1,4 @@
-//! A folder of a test, and what stands in it.
+//! A folder of a test, and what is in it.
 
 use std::alloc::Global;
 use std::fs::File;
@@ -7,7 +7,7 @@ use std::rt::Files;
 use std::{fs, io};
 use system_files::{ReplaceFault, SystemDisk, replace};
 
-/// What stood at a path before.
+/// What was at a path before.
 pub const OLD: &[u8] = b"a good file";
 
 /// What is put there.
@@ -46,7 +46,7 @@ pub fn put<R: Files<File = File>>(rt: &R, alloc: Global, path: &str) -> Result<(
     replace(alloc, &mut SystemDisk { rt }, path, NEW)
 }
 
-/// Asserts that the new bytes are put at a path, and that a folder then has so many names.
+/// Asserts that the new bytes are put at a path, and that a folder then has this many names.
 pub fn assert_put<R: Files<File = File> + AllocGlobal + Clone + Abort>(
     rt: &R,
     path: &str,

@@ -12,7 +12,7 @@ use std::{fs, io};
 use system_files::ReplaceFault::{Memory, Unwritable};
 use system_files::{OutputDisk, ReplaceFault, SystemDisk, replace};
 
-/// What fails and how; whether a file stands at the path; what is told, and how many changes are asked for before.
+/// What fails and how; whether a file is at the path; what is reported, and how many changes are asked for before.
 const FAILURES: &[(DiskRequest, io::ErrorKind, bool, ReplaceFault, usize)] = &[
     (
         DiskRequest::Resolve,
@@ -115,7 +115,7 @@ const FAILURES: &[(DiskRequest, io::ErrorKind, bool, ReplaceFault, usize)] = &[
     ),
 ];
 
-/// Whether replacing a file, of which one kind of request fails, is told so, and a folder is as before.
+/// Whether replacing a file is refused with `fault` if one kind of request fails, and the folder is as before.
 fn is_refused<R: Files<File = File> + AllocGlobal + Copy>(
     rt: &R,
     failing: DiskRequest,
@@ -157,8 +157,7 @@ fn a_failing_request_leaves_the_file(rt: HostRuntime) -> Result<(), Fail> {
     Ok(())
 }
 
-/// Whether the file that is to be replaced at a path stays as it was, as the system lets nobody write it; where the
-/// system does, it is replaced.
+/// Whether the file at a path stays as it was if the system does not let it be written, and is replaced if the system does.
 fn stays_unless_writable<R: Files<File = File> + AllocGlobal + Clone>(
     rt: &R,
     path: &str,

@@ -34,7 +34,7 @@ impl Meter {
         self.rest
     }
 
-    /// Takes `amount` from the gas that is left, and answers true. Where less than `amount` is left it
+    /// Takes `amount` from the gas that is left, and answers true. If less than `amount` is left, it
     /// answers false and changes nothing.
     #[inline(always)]
     pub fn charge(&mut self, amount: u32) -> bool

@@ -25,11 +25,11 @@ mod steps;
 /// The room that is left to a block whose threads are refused.
 const RESERVE: usize = 1 << 20;
 
-/// The room that is left to a core and to the worker who works over it. Of 1 MiB the heap had too little in one piece at some of
-/// the random addresses that the system gives.
+/// The room that is left to a core and to the worker who works over it. With 1 MiB, the heap had too little in one piece at some
+/// of the random addresses that the system gives.
 const WORK_ROOM: usize = 1 << 21;
 
-/// What the memory that is left to a worker grows by from one try to the next.
+/// By how much the memory that is left to a worker grows from one try to the next.
 const STEP: usize = 32;
 
 /// How often more memory is left to a worker, at most.
@@ -46,7 +46,7 @@ pub fn runs_echo<R: Threads + Wait + Sync>(
     Ok(has_text(alloc, &outcome, ECHO_TEXT)?)
 }
 
-/// Asserts that calls which are refused in some way come to the right answers.
+/// Asserts that calls which are refused in this way return the right answers in the end.
 pub fn assert_come_right(rt: &impl Abort, alloc: Global, way: Way) -> Result<(), NotMade> {
     assert!(rt; files::files(alloc, way)?);
     assert!(rt; files::texts(alloc, way)?);
@@ -58,7 +58,7 @@ pub fn assert_come_right(rt: &impl Abort, alloc: Global, way: Way) -> Result<(),
     Ok(())
 }
 
-/// Each call is refused as Memory at first, and comes to the right answer at a later try.
+/// Each call is refused as Memory at first, and returns the right answer at a later try.
 #[test]
 fn calls_refused(rt: HostRuntime) {
     assert!(rt; assert_come_right(&rt, rt.alloc(), Way::Exhausted).is_ok());
@@ -88,7 +88,7 @@ fn shares_in_order(rt: HostRuntime) {
     assert!(rt; matches!(are_shares_in_order(&rt, rt.alloc()), Ok(true)));
 }
 
-/// Runs a job by so many workers while no address is left for a thread's stack.
+/// Runs a job by this many workers while no address is left for a thread's stack.
 fn run_without_space<R: Threads + Wait + Sync>(
     rt: &R,
     alloc: Global,
@@ -105,8 +105,8 @@ fn run_without_space<R: Threads + Wait + Sync>(
     Ok(answer)
 }
 
-/// Whether a block of so many workers, which run behind those of a block before, is refused as Spawn; and whether the
-/// executor runs another block then.
+/// Whether a block of two workers is refused as Spawn while no address is left for a thread's stack; and whether the executor
+/// runs another block after that.
 fn is_spawn_refused<R: Threads + Wait + Sync>(
     rt: &R,
     alloc: Global,
@@ -162,7 +162,7 @@ fn chain_without_memory<R: Threads + Wait + Sync>(
     Ok(answer)
 }
 
-/// Two calls of COUNT, as a chain of one block for two workers.
+/// One call of COUNT, as a chain of one block for two workers.
 fn chain_of_counts(alloc: Global) -> Result<Vec<(Vec<Call>, usize)>, NotMade> {
     let mut calls = Vec::new(alloc);
     calls.push(assembled_call(alloc, COUNT, KEY)?)?;
@@ -202,7 +202,7 @@ fn shares_of<J: JobName, R: Abort>(
     }
 }
 
-/// The share of a worker who works while so many bytes are left to it.
+/// The share of a worker who works while this many bytes are left to it.
 fn work_on_spare<J: JobName, R: Wait>(
     rt: &R,
     alloc: Global,
@@ -244,8 +244,8 @@ fn work_after<J: JobName, R: Wait + Abort>(
     Ok(())
 }
 
-/// The answer to a job whose first worker has so many bytes, and whose second one works after it. The second one is
-/// refused as the first one was.
+/// The answer to a job of two workers. Worker `first` works first, with `spare` bytes, and the other one works after it. The
+/// other one is refused if the first one was, with the same fault.
 fn answer_on_spare<J: JobName, R: Wait + Abort>(
     rt: &R,
     alloc: Global,
@@ -271,8 +271,8 @@ fn answer_on_spare<J: JobName, R: Wait + Abort>(
     Ok(answer)
 }
 
-/// Leaves more and more memory to a worker until the block comes to its outcome. Returns how often it was refused as
-/// Memory before, and the last answer.
+/// Leaves more and more memory to a worker until the block has its outcome. Returns how often it was refused as Memory before,
+/// and the last answer.
 fn refusals_of<R: Wait + Abort>(
     rt: &R,
     alloc: Global,
@@ -292,7 +292,7 @@ fn refusals_of<R: Wait + Abort>(
     Ok((STEPS, Err(RunFault::Memory)))
 }
 
-/// Whether the growths of a worker that works alone are refused before the block comes to its outcome.
+/// Whether the growths of a worker that works alone are refused before the block has its outcome.
 fn are_growths_refused<R: Wait + Abort>(
     rt: &R,
     alloc: Global,
@@ -303,17 +303,17 @@ fn are_growths_refused<R: Wait + Abort>(
     Ok(refusals > 0 && are_counts(&answer?, 2))
 }
 
-/// The growths of a worker that works alone are refused one after another, for more and more memory is left to it. The
-/// other worker is refused as it was. Small growths right after the end of a run are not refused: they get memory that
-/// the run gave back.
+/// The growths of a worker that works alone are refused one after another, because more and more memory is left to it. The other
+/// worker is refused as this one was. Small growths right after the end of a run are not refused: they get memory that the run
+/// freed.
 #[test]
 fn growths_of_work_refused(rt: HostRuntime) {
     assert!(rt; matches!(are_growths_refused(&rt, rt.alloc(), 0), Ok(true)));
     assert!(rt; matches!(are_growths_refused(&rt, rt.alloc(), 1), Ok(true)));
 }
 
-/// Whether a job is refused as Memory at a gate where memory is taken away from workers, and the executor runs other
-/// blocks then.
+/// Whether a job is refused as Memory at a gate at which memory is taken away from workers, and the executor runs other blocks
+/// after that.
 fn is_refused<R: Threads + Wait + Sync + Clock + Clone + Drop>(
     rt: &R,
     alloc: Global,
@@ -332,7 +332,7 @@ fn is_refused<R: Threads + Wait + Sync + Clock + Clone + Drop>(
     Ok(is_taken && is_memory && is_usable && are_counts(&outcome, 4))
 }
 
-/// Memory is refused to the first worker alone, to the second alone, and to both.
+/// Memory is refused only to the first worker, only to the second, and to both.
 #[test]
 fn memory_of_workers_refused(rt: HostRuntime) {
     assert!(rt; matches!(is_refused(&rt, rt.alloc(), [true, false]), Ok(true)));

@@ -27,7 +27,7 @@ pub const COUNT: &str = "addi a1,sp,-64\naddi a2,x0,64\naddi s0,a0,0\necall\nlw 
 /// ECHO: it returns its input.
 pub const ECHO: &str = "addi a7,x0,3\necall\n";
 
-/// PUT: it writes the byte behind the key of its input at that key.
+/// PUT: it writes the byte after the key of its input at that key.
 pub const PUT: &str = "addi a1,a0,32\naddi a2,x0,1\naddi a7,x0,1\necall\naddi a7,x0,3\n\
     addi a1,x0,0\necall\n";
 
@@ -35,11 +35,11 @@ pub const PUT: &str = "addi a1,a0,32\naddi a2,x0,1\naddi a7,x0,1\necall\naddi a7
 pub const GET: &str = "addi a1,sp,-64\naddi a2,x0,64\necall\naddi a0,sp,-64\naddi a1,x0,1\n\
     addi a7,x0,3\necall\n";
 
-/// SEEN: it returns where the key of its input has a value, and else reverts.
+/// SEEN: it returns if the key of its input has a value, and reverts if not.
 pub const SEEN: &str = "ecall\naddi a7,x0,3\naddi a1,x0,0\naddi t0,x0,-1\nbne a0,t0,8\n\
     addi a7,x0,4\necall\n";
 
-/// COND: it writes an empty value at the second key of its input where the first has none.
+/// COND: it writes an empty value at the second key of its input if the first has none.
 pub const COND: &str = "addi s0,a0,32\necall\naddi t0,x0,-1\nbne a0,t0,16\naddi a0,s0,0\n\
     addi a7,x0,1\necall\naddi a7,x0,3\naddi a1,x0,0\necall\n";
 
@@ -53,7 +53,7 @@ pub const TOUCH_MANY: &str = "li t0,0x30000\nli t1,60\nli t2,4096\n\
 /// A key of 32 bytes.
 pub const KEY: &[u8] = &[0x28; 32];
 
-/// Something that calls are made of was refused. It has no `Debug`, so that every error that has it can convert to it.
+/// Something that calls are made of was refused. It has no `Debug`, so that every error with `Debug` can convert to it.
 #[derive(Drop)]
 pub struct NotMade;
 

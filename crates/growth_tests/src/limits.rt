@@ -8,13 +8,13 @@ const BLOCKS: usize = 1 << 17;
 /// The first size that is asked for: half of the addresses that a process has.
 const ADDRESSES: usize = 1 << 46;
 
-/// The least size of a block that is taken as space. No thread's stack is as small.
+/// The least size of a block that is taken as space. Every thread's stack is larger.
 const SPACE: usize = 1 << 20;
 
 /// The sizes from this one down are asked for one by one.
 const SMALL: usize = 2048;
 
-/// The heap gives out memory in sizes of so many bytes.
+/// The heap gives out memory in steps of this many bytes.
 const UNIT: usize = 16;
 
 /// The size of the parts of a reserve.
@@ -49,13 +49,13 @@ fn take_halves(alloc: Global, held: &mut Vec<Vec<u8>>, first: usize, least: usiz
     }
 }
 
-/// Takes all addresses, but for gaps of less than a thread's stack. The system gives no memory to blocks that
-/// nobody writes to.
+/// Takes all addresses, except for gaps of less than a thread's stack. The system gives no memory to blocks that nobody writes
+/// to.
 pub fn take_space(alloc: Global, held: &mut Vec<Vec<u8>>) {
     take_halves(alloc, held, ADDRESSES, SPACE);
 }
 
-/// Takes what the heap has left after `take_space` for the thread that calls, to the last block.
+/// Takes what the heap has left after `take_space` for the calling thread, to the last block.
 pub fn take_rest(alloc: Global, held: &mut Vec<Vec<u8>>) {
     take_halves(alloc, held, SPACE, SMALL);
     for unit in 0..SMALL / UNIT {
@@ -63,7 +63,7 @@ pub fn take_rest(alloc: Global, held: &mut Vec<Vec<u8>>) {
     }
 }
 
-/// A reserve of so many bytes, in blocks of the heap. Memory that it gives back is there for all requests.
+/// A reserve of this many bytes, in blocks of the heap. Memory that it frees is there for all requests.
 pub fn reserve_of(alloc: Global, bytes: usize) -> Result<Vec<Vec<u8>>, AllocError> {
     let mut reserve = Vec::with_capacity(alloc, bytes / PART + 1)?;
     for _ in 0..bytes / PART {

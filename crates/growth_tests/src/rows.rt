@@ -1,4 +1,4 @@
-//! Blocks with the steps of their workers, and what is right of each outcome.
+//! Blocks with the steps of their workers, and the right outcome of each.
 
 use crate::images::{COND, GET, PUT, SEEN};
 use receipts::result_text;
@@ -65,8 +65,8 @@ pub const LATE_WRITER: Row = Row {
         end\n",
 };
 
-/// A writer of a key, a call that writes another key where the first has no value, and a reader of that key. The
-/// write of the second call is made, and then withdrawn.
+/// A writer of a key, a call that writes another key if the first has no value, and a reader of the other key. The write of the
+/// second call is made, and then withdrawn.
 pub const WITHDRAWN_WRITE: Row = Row {
     calls: &[(PUT, A_1), (COND, A_B), (SEEN, B)],
     workers: 2,

@@ -1,4 +1,4 @@
-//! Calls of which one request for memory is refused, by `scripts/growths`, and which are made once more then.
+//! Calls for which `scripts/growths` refuses one request for memory, and which are made once more then.
 
 use crate::exhausted::attempts::Way;
 use crate::exhausted::{assert_come_right, runs_echo};
@@ -12,7 +12,7 @@ use workers::{Executor, RunFault};
 /// The number of threads.
 const WORKERS: usize = 4;
 
-/// The row `growths`. What the calls are made of is made once more, too, where it is refused.
+/// The row `growths`. What the calls are made of is also made once more if it is refused.
 #[test]
 fn growths(rt: HostRuntime) {
     if assert_come_right(&rt, rt.alloc(), Way::OneRequest).is_err() {
@@ -20,8 +20,8 @@ fn growths(rt: HostRuntime) {
     }
 }
 
-/// Whether eight calls of COUNT by four threads come to the right outcome. Where that is refused as Memory or as Spawn,
-/// the executor runs another block, and then these calls once more.
+/// Whether eight calls of COUNT by four threads have the right outcome. If they are refused as Memory or as Spawn, the executor
+/// runs another block, and then these calls once more.
 fn counts<R: Threads + Wait + Sync>(rt: &R, alloc: Global) -> Result<bool, NotMade> {
     let mut executor = Executor::new(alloc);
     let job = job_of(alloc, &[(COUNT, KEY); 8])?;

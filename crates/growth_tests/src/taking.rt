@@ -15,8 +15,8 @@ const LOOKS: usize = 10_000_000;
 /// How many milliseconds a worker that has memory leaves for the end of one that has none.
 const HOLD: u64 = 5;
 
-/// A gate where each of two workers waits for the other when it comes there first. Then memory is taken away from
-/// some of them; the other one goes on later.
+/// A gate at which each of two workers waits for the other when it gets there for the first time. Then memory is taken away from
+/// some of them. A worker that keeps its memory continues later.
 #[derive(Drop)]
 pub struct Taking<R: Wait + Clock + Drop> {
     rt: R,
@@ -28,7 +28,7 @@ pub struct Taking<R: Wait + Clock + Drop> {
 }
 
 impl<R: Wait + Clock + Drop> Taking<R> {
-    /// A gate where memory is taken away from each worker that `refused` shows.
+    /// A gate at which memory is taken away from each worker that `refused` shows.
     pub fn new(rt: R, alloc: Global, refused: [bool; 2]) -> Result<Taking<R>, AllocError> {
         Ok(Taking {
             rt,
@@ -40,12 +40,12 @@ impl<R: Wait + Clock + Drop> Taking<R> {
         })
     }
 
-    /// Whether memory was taken away from all that it was to be taken from.
+    /// Whether memory was taken away from all workers that had to lose it.
     pub fn is_taken(&self) -> bool {
         is_or_set(self.refused[0], &self.taken[0]) && is_or_set(self.refused[1], &self.taken[1])
     }
 
-    /// Takes away what there is for the thread that calls.
+    /// Takes away all memory that the calling thread can get.
     fn take(&self) {
         let mut held = self.held.lock(&self.rt);
         take_space(self.alloc, &mut held);

@@ -15,7 +15,7 @@ struct Slow {
     held: Vec<u8>,
     /// How many bytes it holds at most.
     room: usize,
-    /// Whether it fails then, or takes nothing.
+    /// Whether it fails once it is full, or takes nothing.
     fails: bool,
 }
 
@@ -55,7 +55,7 @@ impl Destination for Slow {
     }
 }
 
-/// Whether bytes are written whole, also where there are none.
+/// Whether bytes are written whole, also if there are none.
 fn is_written_twice(alloc: Global) -> Result<bool, WriteFault> {
     let mut out = Vec::new(alloc);
     write_whole(b"", &mut out)?;
@@ -63,7 +63,7 @@ fn is_written_twice(alloc: Global) -> Result<bool, WriteFault> {
     Ok(out.as_slice() == b"two".as_slice())
 }
 
-/// Whether writing three bytes to a writer that takes two is refused so, and it holds two then.
+/// Whether writing three bytes to a writer that takes two is refused with this fault, and the writer holds two then.
 fn stops_at_two(alloc: Global, fails: bool, fault: WriteFault) -> bool {
     let mut out = Slow {
         held: Vec::new(alloc),

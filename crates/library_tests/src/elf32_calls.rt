@@ -90,7 +90,7 @@ fn memory_only_segment(rt: HostRuntime) -> Result<(), Fail> {
     Ok(())
 }
 
-// The program of these sections; fails where they are too large.
+// The program of these sections; fails if they are too large.
 fn program(alloc: Global, text: &[u32], data: &[u8]) -> Result<Program, Fail> {
     let text = Vec::from_slice(alloc, text)?;
     match Program::new(text, Vec::from_slice(alloc, data)?) {

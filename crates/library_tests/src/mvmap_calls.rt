@@ -106,7 +106,7 @@ fn is_found(answer: &Answer, found: Version, bytes: Option<&[u8]>) -> bool {
     }
 }
 
-// What a call sees of a key where no version is a sum.
+// What a call sees of a key of which no version is a sum.
 fn seen(alloc: Global, map: &MvMap, key: &Key, reader: u16) -> Result<Answer, AllocError> {
     let mut passed = Vec::with_capacity(alloc, 16)?;
     Ok(map.read(key, reader.min(16), &mut passed))
@@ -218,7 +218,7 @@ fn assert_clears(rt: &impl Abort, alloc: Global, map: &mut MvMap) -> Result<(), 
     Ok(())
 }
 
-// The number of records in the arena that a map gives back.
+// The number of records in the arena that a map returns.
 fn records_left(map: MvMap) -> usize {
     map.into_arena().len()
 }

@@ -112,7 +112,7 @@ fn write(writes: &mut Writes, key: [u8; 32], change: Change<Value>) -> Result<()
     Ok(())
 }
 
-/// Whether an outcome's result is written behind what an output holds.
+/// Whether an outcome's result is written after what an output already holds.
 fn is_written(alloc: Global, outcome: &Outcome) -> Result<bool, Fail> {
     let mut out = Vec::new(alloc);
     out.push(7)?;

@@ -1,4 +1,4 @@
-//! The requests of an input, each told in a word with what it has.
+//! The requests of an input, each printed as a word with what the request has.
 
 use session_requests::{Asked, Request, RequestFault, RequestLine, next_request};
 use std::alloc::{AllocError, Global};

@@ -11,10 +11,10 @@ use rv_isa::{
 };
 use std::process::Abort;
 
-// Each function below that runs an instruction runs it at 0x10000, with rd a0 and with a1, and a2 where
-// it reads two registers, as its operands. It returns the next pc and what a0 holds then.
+// Each function below that runs an instruction runs it at 0x10000. Its rd is a0, and its operands are a1 and, if it reads two
+// registers, a2. The function returns the next pc and what a0 holds then.
 
-/// Runs `instr` at 0x10000, where a1 holds `left` and a2 holds `right`. Returns the next pc and a0.
+/// Runs `instr` at 0x10000 with `left` in a1 and `right` in a2. Returns the next pc and a0.
 fn run(instr: &Instr, left: u32, right: u32) -> (Option<u32>, u32)
     requires { IsTrue (is_plain instr.now) }
 {

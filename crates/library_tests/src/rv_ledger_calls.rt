@@ -73,7 +73,7 @@ fn call(alloc: Global) -> Result<Call, Fail> {
     Ok(Call::new(image(alloc)?, 1000, input)?)
 }
 
-// Calls that differ in their rules alone are not equal.
+// Calls that differ only in their rules are not equal.
 #[test]
 fn rules_of_calls(rt: HostRuntime) -> Result<(), Fail> {
     let alloc = rt.alloc();
@@ -147,7 +147,7 @@ fn are_entries(entries: &[(Key, Value)]) -> bool {
     entries == expected.as_slice()
 }
 
-// Of a storage and of its copy. The key that was removed is absent.
+// Checks a storage and its copy. The key that was removed is absent.
 #[test]
 fn storages(rt: HostRuntime) -> Result<(), Fail> {
     let store = store(rt.alloc())?;
@@ -158,7 +158,7 @@ fn storages(rt: HostRuntime) -> Result<(), Fail> {
     Ok(())
 }
 
-// As many removals of keys as a call may write; fewer where there is no room.
+// As many removals of keys as a call may write; fewer if there is no room.
 fn writes(alloc: Global) -> Result<Writes, AllocError> {
     let mut writes = Writes::new(alloc);
     for first in 0..=255 {
@@ -183,7 +183,7 @@ fn receipt(alloc: Global, writes: Writes) -> Receipt {
     }
 }
 
-// Whether the writes have room for a key of theirs alone, and for another once they are cleared.
+// Whether the writes have room only for a key that they have, and for another key once they are cleared.
 fn are_full(writes: &mut Writes) -> bool {
     let is_full = writes.has_room(&key(9, 0))
         && !writes.has_room(&key(9, 1))
@@ -193,7 +193,7 @@ fn are_full(writes: &mut Writes) -> bool {
     is_full && writes.has_room(&key(9, 1))
 }
 
-// Of a receipt and of its copy.
+// Checks a receipt and its copy.
 #[test]
 fn written_keys(rt: HostRuntime) -> Result<(), Fail> {
     let mut receipt = receipt(rt.alloc(), writes(rt.alloc())?);

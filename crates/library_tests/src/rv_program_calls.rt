@@ -4,7 +4,7 @@ use rv_program::*;
 use std::alloc::{AllocError, Global};
 use std::test::Fail;
 
-// The sizes of the sections of a program with this much text and data; None where it is refused.
+// The sizes of the sections of a program with this much text and data; None if it is refused.
 fn sizes(
     alloc: Global,
     text_words: usize,

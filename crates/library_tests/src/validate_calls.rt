@@ -53,7 +53,7 @@ fn change(map: &mut MvMap, entry: Entry) -> Result<(), ReserveFault> {
     }
 }
 
-/// Changes, whether call 2 read version (0, 0) before them and not the storage before the block, and two answers after them:
+/// Changes; whether call 2 read version (0, 0) before them, and not the storage before the block; and two answers after them:
 /// whether what was read is in the map, and whether the read stands.
 struct Row {
     name: &'static str,
@@ -155,7 +155,7 @@ fn standing_reads(rt: HostRuntime) -> Result<(), ReserveFault> {
     Ok(())
 }
 
-/// What is said of a read that stands, of one that does not, and past both.
+/// The answers for a read that stands, for one that does not, and for the index past both.
 fn in_turn(alloc: Global) -> Result<[Option<bool>; 3], ReserveFault> {
     let mut map = MvMap::over(alloc, Arena::new(alloc));
     change(&mut map, Entry::Publish(0, 0))?;

@@ -16,7 +16,7 @@ fn value(byte: u8) -> Value
     }
 }
 
-/// A record's writer and incarnation, and its byte or its sum; 0 where the key was removed.
+/// A record's writer and incarnation, and its byte or its sum; 0 if the key was removed.
 fn shown(record: Option<Record<'_>>) -> Option<(u16, u16, u64)> {
     let record = record?;
     let number = match record.change {
@@ -37,7 +37,7 @@ fn place_byte(arena: &mut Arena, writer: u16, byte: u8) -> Result<VersionId, Res
     Ok(arena.place(writer, 0, Change::Value(&value)))
 }
 
-/// Whether an arena refuses this room, as it has too many records then.
+/// Whether an arena refuses this room, because it would have too many records.
 fn is_full(arena: &mut Arena, records: usize, bytes: usize) -> bool {
     arena.reserve(records, bytes) == Err(ReserveFault::ArenaFull)
 }
@@ -65,7 +65,7 @@ fn is_reset(arena: &mut Arena) -> Result<bool, ReserveFault> {
     Ok(is_gone && (again.is_none() || again == Some((1, 0, 2))))
 }
 
-/// Places a record, removes it, and places one of a removal in its room. Answers the name of the first.
+/// Places a record, removes it, and places one of a removal in its room. Returns the name of the first.
 fn place_again(arena: &mut Arena) -> Result<VersionId, ReserveFault> {
     arena.reserve(1, 1)?;
     let one = value(1);

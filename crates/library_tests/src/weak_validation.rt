@@ -1,5 +1,5 @@
-//! A validation that is too weak: it asks only whether the version that a read found is still in the map. In two of the
-//! rows of `validate_calls` it says yes where the read no longer stands.
+//! A validation that is too weak: it asks only whether the version that a read found is still in the map. In two of the rows of
+//! `validate_calls` it says yes although the read no longer stands.
 
 ghost use Rattle.std.specs.Prelude.{◌≡◌, IfSome, Some, true};
 ghost use Rattle.rv_ledger.specs.Change.{ContentChange};

@@ -1,4 +1,4 @@
--- What a value becomes where the slots of a table are applied to it one key after the other, in the order of the list.
+-- What a value becomes if the slots of a table are applied to it one key after the other, in the order of the list.
 use Rattle.std.proofs.Common.{◌≡◌, ◌<◌, ◌≤◌, ◌+◌, ℕ, suc, zero, Bool, true, false, cond, List, [], ◌∷◌, take, get_or, length, slice_get, Option, None, Some, refl, sym, ap, subst, ◌∙◌, arith, inl, inr}
 use Rattle.std.specs.BTreeMap.{is_at}
 use Rattle.std.specs.Cmp.{eq_by_cmp_equiv}
@@ -16,9 +16,10 @@ use Rattle.std.proofs.lemmas.Option.{slice_get-get_or}
 use Rattle.rv_ledger.specs.Change.{Content}
 use Rattle.rv_ledger.specs.Key.{key_cmp}
 use Rattle.version_arena.specs.ArenaState.{Record}
-use Rattle.mvmap.specs.KeyTable.{AreIndexed, Positions, in_order, key_at, position_of, slots_in, writers_at}
+use Rattle.rv_ledger.specs.Positions.{Positions, position_of}
+use Rattle.mvmap.specs.KeyTable.{AreSlotsIndexed, slot_key_at, slots_in, slots_in_order, writers_at}
 use Rattle.mvmap.specs.Slots.{ByKey, at_places, entry_of, flat, value_over, value_over_slots}
-use Rattle.mvmap.specs.Writers.{AreAscending, ByWriter}
+use Rattle.mvmap.specs.Writers.{AreWritersAscending, ByWriter}
 use Rattle.mvmap.specs.declared.key_table.KeySlots.{KeySlots}
 use Rattle.mvmap.proofs.KeyTables.{in_order_sorted, key_found, key_itself, lookup_in_order, same_key}
 use Rattle.mvmap.proofs.Buckets.{get_past}
@@ -33,7 +34,7 @@ apart rs key k [] base h = refl
 apart rs key k (w ∷ ws) base h =
     ap (λ (b : Bool). value_over_slots rs (at_places key ws) k (cond b (value_over base (entry_of rs w.1)) base)) h ∙ apart rs key k ws base h
 
--- where a key is not there, nothing changes
+-- if a key is not there, nothing changes
 absent : (rs : List Record) (k : List ℕ) (es : ByKey) (base : Content) → lookup (is_at (key_cmp k)) es ≡ None → value_over_slots rs (flat es) k base ≡ base
 absent rs k [] base h = refl
 absent rs k (e ∷ es) base h = by (is_at (key_cmp k) e.0) refl h (λ none. absent rs k es base none)
@@ -43,7 +44,7 @@ absent rs k (e ∷ es) base h = by (is_at (key_cmp k) e.0) refl h (λ none. abse
     by true t none rest = cc
     by false t none rest = value_over_both rs (at_places e.0 e.1) (flat es) k base ∙ ap (value_over_slots rs (flat es) k) (apart rs e.0 k e.1 base t) ∙ rest none
 
--- of all slots those at the key alone change its value
+-- only the slots at a key change its value
 pub at_its_key : (rs : List Record) (es : ByKey) → IsStrictlySortedBy key_cmp (keys_of es) → (k : List ℕ) (base : Content)
     → value_over_slots rs (flat es) k base ≡ value_over_slots rs (at_places k (writers_at es k)) k base
 unfolding IsStrictlySortedBy
@@ -79,9 +80,9 @@ slots_if o = unwrap_or (option_map (λ s. s.writers) o) []
 
 -- the slots at a key, among the first n keys of a list
 abbrev pub writers_before : Positions → List KeySlots → ℕ → List ℕ → ByWriter
-writers_before es list n key = writers_at (in_order es (take n list)) key
+writers_before es list n key = writers_at (slots_in_order es (take n list)) key
 
--- among none there are none
+-- among the first 0 keys there are no slots
 pub none_before : (es : Positions) (list : List KeySlots) (k : List ℕ) → writers_before es list 0 k ≡ []
 none_before es list k = ap (λ (o : Option ByWriter). unwrap_or o []) (lookup_in_order (is_at (key_cmp k)) es (take 0 list)) ∙ by (position_of es k)
   where
@@ -89,15 +90,15 @@ none_before es list k = ap (λ (o : Option ByWriter). unwrap_or o []) (lookup_in
     by None = refl
     by (Some p) = ap slots_if (get_past_part list 0 p (omega arith))
 
-module _ (rs : List Record) (es : Positions) (list : List KeySlots) (h : AreIndexed es list) where
-  -- among all of them there are all
-  pub all_before : (n : ℕ) → length list ≤ n → (k : List ℕ) (base : Content) → value_over_slots rs (at_places k (writers_before es list n k)) k base ≡ value_over_slots rs (flat (in_order es list)) k base
+module _ (rs : List Record) (es : Positions) (list : List KeySlots) (h : AreSlotsIndexed es list) where
+  -- if n is at least the length of the list, the slots at a key among the first n keys are all of them
+  pub all_before : (n : ℕ) → length list ≤ n → (k : List ℕ) (base : Content) → value_over_slots rs (at_places k (writers_before es list n k)) k base ≡ value_over_slots rs (flat (slots_in_order es list)) k base
   all_before n past k base =
-      ap (λ (xs : List KeySlots). value_over_slots rs (at_places k (writers_at (in_order es xs) k)) k base) (take_all n list past)
-      ∙ sym (at_its_key rs (in_order es list) (in_order_sorted es list h) k base)
+      ap (λ (xs : List KeySlots). value_over_slots rs (at_places k (writers_at (slots_in_order es xs) k)) k base) (take_all n list past)
+      ∙ sym (at_its_key rs (slots_in_order es list) (in_order_sorted es list h) k base)
 
   module _ (i : ℕ) (s : KeySlots) (within : i < length list) (is : s ≡ get_or list i s) where
-    stands : key_at list i ≡ Some s.key
+    stands : slot_key_at list i ≡ Some s.key
     stands = key_found list i s within is
 
     here : slots_in list i ≡ s.writers
@@ -156,19 +157,19 @@ module _ (rs : List Record) (es : Positions) (list : List KeySlots) (h : AreInde
             apart rs s.key k s.writers _ t ∙ ap (λ (ws : ByWriter). value_over_slots rs (at_places k ws) k base) (sym next.0)
 
     -- the writers rise at one more position
-    pub next_ascending : AreAscending s.writers → ((p : ℕ) → p < i → AreAscending (slots_in list p)) → (p : ℕ) → p < i + 1 → AreAscending (slots_in list p)
+    pub next_ascending : AreWritersAscending s.writers → ((p : ℕ) → p < i → AreWritersAscending (slots_in list p)) → (p : ℕ) → p < i + 1 → AreWritersAscending (slots_in list p)
     next_ascending up before p l = elim (cases_eq p i) [
-      | inl same ↦ subst AreAscending (sym (ap (slots_in list) same ∙ here)) up
+      | inl same ↦ subst AreWritersAscending (sym (ap (slots_in list) same ∙ here)) up
       | inr ne ↦ before p (omega (arith, ne))
     ]
 
--- where the writers rise at each position of the list, they rise at each key
-pub all_ascending : (es : Positions) (list : List KeySlots) (n : ℕ) → length list ≤ n → ((p : ℕ) → p < n → AreAscending (slots_in list p)) → AreAllAscending (in_order es list)
+-- if the writers rise at each position of the list, they rise at each key
+pub all_ascending : (es : Positions) (list : List KeySlots) (n : ℕ) → length list ≤ n → ((p : ℕ) → p < n → AreWritersAscending (slots_in list p)) → AreAllAscending (slots_in_order es list)
 all_ascending [] list n past up = tt
 all_ascending (e ∷ es) list n past up = (
   elim (cases_lt e.1 n) [
     | inl l ↦ up e.1 l
-    | inr beyond ↦ subst AreAscending (sym (ap slots_if (get_past list e.1 (omega arith)))) no_writers
+    | inr beyond ↦ subst AreWritersAscending (sym (ap slots_if (get_past list e.1 (omega arith)))) no_writers
   ],
   all_ascending es list n past up,
 )

@@ -53,7 +53,7 @@ has_hint content position = by (content == no_hint) refl
     by true t e = omega arith
     by false t e = false≢true (sym t ∙ (Decides-eqb content no_hint).1 e)
 
--- a hint is kept where another position was noted
+-- a hint is kept if another position is noted
 keeps_hint : (content position p : ℕ) → hint_in (Some content) ≡ At p → hint_in (Some (filled content position)) ≡ At p
 keeps_hint content position p = by (content == no_hint) refl
   where

@@ -12,7 +12,7 @@ use Rattle.mvmap.proofs.Places.{get_other}
 pub depends_on_lower : DependsOnLowerWriters
 depends_on_lower v u key i h = seen_same (entry_at v key) (entry_at u key) i h
 
--- an entry of a map that is changed where an estimate stands is as before, or was the estimate
+-- in a map in which an estimate is changed, an entry is as before, or was the estimate
 pub changed_or_estimate : (v : Versions) (key : List ℕ) (w : ℕ) (entry : Option Entry) (k : List ℕ) (x : ℕ) → entry_at v key w ≡ Some Estimate → (entry_at (changed v (key, w) entry) k x ≡ entry_at v k x) ⊎ (entry_at v k x ≡ Some Estimate)
 changed_or_estimate v key w entry k x est = elim (get_other v (key, w) entry (k, x)) [
   | inl p ↦ inl p

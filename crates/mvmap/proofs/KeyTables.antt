@@ -1,4 +1,4 @@
--- A table of the slots at each key: where a key stands, and what an edit does to it.
+-- A table of the slots at each key: the position of a key, and what an edit does to it.
 use Rattle.std.proofs.Common.{◌≡◌, ◌<◌, ◌+◌, ◌⊎◌, ◌++◌, ℕ, suc, zero, Bool, true, false, T, cond, List, [], ◌∷◌, get_or, length, set, Option, None, Some, refl, sym, ap, subst, ◌∙◌, arith, inl, inr, slice_get}
 use mathlib.Core.Bool.{false≢true}
 use Rattle.std.specs.BTreeMap.{is_at}
@@ -20,7 +20,8 @@ use Rattle.std.proofs.lemmas.Option.{slice_get-get_or}
 use Rattle.rv_ledger.specs.Key.{key_cmp}
 use Rattle.rv_ledger.proofs.SortedKeys.{less}
 use Rattle.mvmap.specs.Hints.{hint_of, noted}
-use Rattle.mvmap.specs.KeyTable.{AreFound, AreIndexed, IsSetAt, Positions, in_order, key_at, numbered, position_of, positions_of, slots_in, writers_at}
+use Rattle.rv_ledger.specs.Positions.{Positions, position_of}
+use Rattle.mvmap.specs.KeyTable.{AreFound, AreSlotsIndexed, AreSlotsSetAt, numbered, positions_of, slot_key_at, slots_in, slots_in_order, writers_at}
 use Rattle.mvmap.specs.Slots.{ByKey}
 use Rattle.mvmap.specs.Writers.{ByWriter}
 use Rattle.mvmap.specs.declared.hints.Hint.TheVariants.{At, Nothing}
@@ -30,15 +31,15 @@ use Rattle.mvmap.proofs.Fills.{slice_get_before, slice_get_last}
 
 -- ---- keys
 
--- a key is found alike to itself
+-- a test finds a key equal to itself
 pub key_itself : (key : List ℕ) → is_at (key_cmp key) key ≡ true
 key_itself key = ap is_eq (tied_itself nat_list_cmp_total key)
 
--- keys that a test finds alike are one
+-- keys that a test finds equal are the same
 pub same_key : (key q : List ℕ) → is_at (key_cmp key) q ≡ true → key ≡ q
 same_key key q h = tells_apart exact_bytes key q h
 
--- a key that a test finds different is another
+-- keys that a test finds different are different
 other_key : (key q : List ℕ) → is_at (key_cmp key) q ≡ false → key ≡ q → ⊥
 other_key key q h e = false≢true (sym h ∙ ap (is_at (key_cmp key)) (sym e) ∙ key_itself key)
 
@@ -48,7 +49,7 @@ looked_up : (es : Positions) (q : List ℕ) → position_of es q ≡ find key_cm
 looked_up [] q = refl
 looked_up (e ∷ es) q = ap (cond (is_at (key_cmp q) e.0) (Some e.1)) (looked_up es q)
 
--- a key's position is the first at which it stands
+-- a key's position is the first at which it is in the list
 position_is : (list : List KeySlots) (q : List ℕ) → position_of (positions_of list) q ≡ find key_cmp q (numbered 0 list)
 unfolding positions_of
 position_is list q = looked_up (positions_of list) q ∙ sym (get-entries (from_entries (numbered 0 list)) q) ∙ get-from_entries nat_list_cmp_total (numbered 0 list) q
@@ -71,7 +72,7 @@ none_of : (es : Positions) → length es ≡ 0 → es ≡ []
 none_of [] h = refl
 none_of (e ∷ es) h = absurd (omega arith)
 
--- of no keys there are none
+-- an empty list has no positions
 pub no_positions : positions_of [] ≡ []
 unfolding positions_of
 no_positions = none_of (positions_of []) (sym (len-entries (from_entries {X = ℕ} {R = key_cmp} [])) ∙ len-empty key_cmp ℕ)
@@ -80,7 +81,7 @@ numbered_push : (p : ℕ) (list : List KeySlots) (s : KeySlots) → numbered p (
 numbered_push p [] s = ap (λ (n : ℕ). (s.key, n) ∷ []) (omega arith)
 numbered_push p (x ∷ list) s = ap (λ (es : Positions). (x.key, p) ∷ es) (numbered_push (suc p) list s ∙ ap (λ (n : ℕ). numbered (suc p) list ++ (s.key, n) ∷ []) (omega arith))
 
--- a key that was not there, added at the end, stands there, and the others where they stood
+-- a key that was not there is at the end after it is added there, and the others stay at their positions
 pub position_pushed : (list : List KeySlots) (s : KeySlots) → position_of (positions_of list) s.key ≡ None → (q : List ℕ)
     → position_of (positions_of (list ++ s ∷ [])) q ≡ cond (is_at (key_cmp s.key) q) (Some (length list)) (position_of (positions_of list) q)
 position_pushed list s absent q =
@@ -98,7 +99,7 @@ numbered_set n [] p s was is same = refl
 numbered_set n (x ∷ list) zero s was is same = ap (λ (k : List ℕ). (k, n) ∷ numbered (suc n) list) (same ∙ ap (λ (y : KeySlots). y.key) is)
 numbered_set n (x ∷ list) (suc p) s was is same = ap (λ (es : Positions). (x.key, n) ∷ es) (numbered_set (suc n) list p s was is same)
 
--- the keys stand where they stood, where the slots at one position are replaced
+-- the keys stay at their positions if the slots at one position are replaced
 pub positions_set : (list : List KeySlots) (p : ℕ) (s was : KeySlots) → was ≡ get_or list p was → s.key ≡ was.key → positions_of (set list p s) ≡ positions_of list
 unfolding positions_of
 positions_set list p s was is same = ap (λ (es : Positions). entries (from_entries {R = key_cmp} es)) (numbered_set 0 list p s was is same)
@@ -110,68 +111,68 @@ mapped list true p o = refl
 mapped list false p o = refl
 
 -- what is looked up by key is at the key's position
-pub lookup_in_order : (test : List ℕ → Bool) (es : Positions) (list : List KeySlots) → lookup test (in_order es list) ≡ option_map (slots_in list) (lookup test es)
+pub lookup_in_order : (test : List ℕ → Bool) (es : Positions) (list : List KeySlots) → lookup test (slots_in_order es list) ≡ option_map (slots_in list) (lookup test es)
 lookup_in_order test [] list = refl
 lookup_in_order test (e ∷ es) list = ap (cond (test e.0) (Some (slots_in list e.1))) (lookup_in_order test es list) ∙ mapped list (test e.0) e.1 (lookup test es)
 
-keys_in_order : (es : Positions) (list : List KeySlots) → keys_of (in_order es list) ≡ keys_of es
+keys_in_order : (es : Positions) (list : List KeySlots) → keys_of (slots_in_order es list) ≡ keys_of es
 keys_in_order [] list = refl
 keys_in_order (e ∷ es) list = ap (λ (ks : List (List ℕ)). e.0 ∷ ks) (keys_in_order es list)
 
 -- the keys ascend there too
-pub in_order_sorted : (es : Positions) (list : List KeySlots) → AreIndexed es list → IsStrictlySortedBy key_cmp (keys_of (in_order es list))
+pub in_order_sorted : (es : Positions) (list : List KeySlots) → AreSlotsIndexed es list → IsStrictlySortedBy key_cmp (keys_of (slots_in_order es list))
 in_order_sorted es list h = subst (λ (ks : List (List ℕ)). IsStrictlySortedBy key_cmp ks) (sym (keys_in_order es list)) h.ordered
 
 -- the slots at a key are those at its position
-pub writers_in_order : (es : Positions) (list : List KeySlots) (key : List ℕ) (p : ℕ) → position_of es key ≡ Some p → writers_at (in_order es list) key ≡ slots_in list p
+pub writers_in_order : (es : Positions) (list : List KeySlots) (key : List ℕ) (p : ℕ) → position_of es key ≡ Some p → writers_at (slots_in_order es list) key ≡ slots_in list p
 writers_in_order es list key p at = ap (λ (o : Option ByWriter). unwrap_or o []) (lookup_in_order (is_at (key_cmp key)) es list ∙ ap (option_map (slots_in list)) at)
 
 -- a key without a position is not there
-pub none_in_order : (es : Positions) (list : List KeySlots) (key : List ℕ) → position_of es key ≡ None → lookup (is_at (key_cmp key)) (in_order es list) ≡ None
+pub none_in_order : (es : Positions) (list : List KeySlots) (key : List ℕ) → position_of es key ≡ None → lookup (is_at (key_cmp key)) (slots_in_order es list) ≡ None
 none_in_order es list key at = lookup_in_order (is_at (key_cmp key)) es list ∙ ap (option_map (slots_in list)) at
 
 -- so it has no slots
-pub no_writers_in_order : (es : Positions) (list : List KeySlots) (key : List ℕ) → position_of es key ≡ None → writers_at (in_order es list) key ≡ []
+pub no_writers_in_order : (es : Positions) (list : List KeySlots) (key : List ℕ) → position_of es key ≡ None → writers_at (slots_in_order es list) key ≡ []
 no_writers_in_order es list key at = ap (λ (o : Option ByWriter). unwrap_or o []) (none_in_order es list key at)
 
--- where a key is, it stays with its slots
-pub stays : (es : Positions) (list : List KeySlots) (key : List ℕ) (p : ℕ) → position_of es key ≡ Some p → IsSetAt (in_order es list) (in_order es list) key (writers_at (in_order es list) key)
+-- if a key is there, nothing changes if it gets the slots that it has
+pub stays : (es : Positions) (list : List KeySlots) (key : List ℕ) (p : ℕ) → position_of es key ≡ Some p → AreSlotsSetAt (slots_in_order es list) (slots_in_order es list) key (writers_at (slots_in_order es list) key)
 stays es list key p at q = by (is_at (key_cmp key) q) refl
   where
-    found : lookup (is_at (key_cmp key)) (in_order es list) ≡ Some (writers_at (in_order es list) key)
+    found : lookup (is_at (key_cmp key)) (slots_in_order es list) ≡ Some (writers_at (slots_in_order es list) key)
     found = lookup_in_order (is_at (key_cmp key)) es list ∙ ap (option_map (slots_in list)) at ∙ ap Some (sym (writers_in_order es list key p at))
 
-    by : (b : Bool) → is_at (key_cmp key) q ≡ b → lookup (is_at (key_cmp q)) (in_order es list) ≡ cond b (Some (writers_at (in_order es list) key)) (lookup (is_at (key_cmp q)) (in_order es list))
-    by true t = ap (λ k. lookup (is_at (key_cmp k)) (in_order es list)) (sym (same_key key q t)) ∙ found
+    by : (b : Bool) → is_at (key_cmp key) q ≡ b → lookup (is_at (key_cmp q)) (slots_in_order es list) ≡ cond b (Some (writers_at (slots_in_order es list) key)) (lookup (is_at (key_cmp q)) (slots_in_order es list))
+    by true t = ap (λ k. lookup (is_at (key_cmp k)) (slots_in_order es list)) (sym (same_key key q t)) ∙ found
     by false t = refl
 
 -- ---- the list
 
 -- a position with a key is one of the list
-pub key_within : (list : List KeySlots) (p : ℕ) (key : List ℕ) → key_at list p ≡ Some key → p < length list
+pub key_within : (list : List KeySlots) (p : ℕ) (key : List ℕ) → slot_key_at list p ≡ Some key → p < length list
 key_within [] p key h = cc
 key_within (s ∷ list) zero key h = omega arith
 key_within (s ∷ list) (suc p) key h = let l = key_within list p key h in omega arith
 
 -- the key of what was found at a position
-pub key_found : (list : List KeySlots) (p : ℕ) (s : KeySlots) → p < length list → s ≡ get_or list p s → key_at list p ≡ Some s.key
+pub key_found : (list : List KeySlots) (p : ℕ) (s : KeySlots) → p < length list → s ≡ get_or list p s → slot_key_at list p ≡ Some s.key
 key_found list p s l is = ap (option_map (λ (x : KeySlots). x.key)) (slice_get-get_or list p s l ∙ ap Some (sym is))
 
 -- ---- the slots at a position are replaced
 
 -- a position that a key has is one of the list
-pub position_within : (es : Positions) (list : List KeySlots) → AreIndexed es list → (key : List ℕ) (p : ℕ) → position_of es key ≡ Some p → p < length list
+pub position_within : (es : Positions) (list : List KeySlots) → AreSlotsIndexed es list → (key : List ℕ) (p : ℕ) → position_of es key ≡ Some p → p < length list
 position_within es list h key p at = key_within list p key (h.listed key p at)
 
--- where the list is empty, no key is there
-pub no_keys : (es : Positions) (list : List KeySlots) → AreIndexed es list → length list ≡ 0 → (key : List ℕ) → position_of es key ≡ None
+-- if the list is empty, no key is there
+pub no_keys : (es : Positions) (list : List KeySlots) → AreSlotsIndexed es list → length list ≡ 0 → (key : List ℕ) → position_of es key ≡ None
 no_keys es list h empty key = by (position_of es key) refl
   where
     by : (o : Option ℕ) → position_of es key ≡ o → o ≡ None
     by None e = refl
     by (Some p) e = let within = position_within es list h key p e in absurd (omega arith)
 
-module _ (list : List KeySlots) (h : AreIndexed (positions_of list) list) (key : List ℕ) (p : ℕ) (at : position_of (positions_of list) key ≡ Some p) (was : KeySlots) (is : was ≡ get_or list p was) (ws : ByWriter) where
+module _ (list : List KeySlots) (h : AreSlotsIndexed (positions_of list) list) (key : List ℕ) (p : ℕ) (at : position_of (positions_of list) key ≡ Some p) (was : KeySlots) (is : was ≡ get_or list p was) (ws : ByWriter) where
   abbrev positions : Positions
   positions = positions_of list
 
@@ -187,21 +188,21 @@ module _ (list : List KeySlots) (h : AreIndexed (positions_of list) list) (key :
   here_now : slice_get now p ≡ Some new
   here_now = get_set_here list p new (position_within positions list h key p at)
 
-  -- they were the key's
-  pub slots_were : was.writers ≡ writers_at (in_order (positions_of list) list) key
+  -- the replaced slots were the key's
+  pub slots_were : was.writers ≡ writers_at (slots_in_order (positions_of list) list) key
   slots_were = sym (writers_in_order positions list key p at ∙ ap (λ (x : Option KeySlots). unwrap_or (option_map (λ (s : KeySlots). s.writers) x) []) here)
 
-  key_kept : (q : ℕ) → key_at now q ≡ key_at list q
+  key_kept : (q : ℕ) → slot_key_at now q ≡ slot_key_at list q
   key_kept q = elim (cases_eq p q) [
-    | inl e ↦ ap (key_at now) (sym e) ∙ ap (option_map (λ (s : KeySlots). s.key)) here_now ∙ sym (ap (option_map (λ (s : KeySlots). s.key)) here) ∙ ap (key_at list) e
+    | inl e ↦ ap (slot_key_at now) (sym e) ∙ ap (option_map (λ (s : KeySlots). s.key)) here_now ∙ sym (ap (option_map (λ (s : KeySlots). s.key)) here) ∙ ap (slot_key_at list) e
     | inr ne ↦ ap (option_map (λ (s : KeySlots). s.key)) (get_set_apart list p q new ne)
   ]
 
-  -- the keys stand where they stood
+  -- the keys stay at their positions
   pub positions_kept : positions_of (set list p (record { key = was.key; writers = ws })) ≡ positions_of list
   positions_kept = positions_set list p new was is refl
 
-  pub set_indexed : AreIndexed (positions_of (set list p (record { key = was.key; writers = ws }))) (set list p (record { key = was.key; writers = ws }))
+  pub set_indexed : AreSlotsIndexed (positions_of (set list p (record { key = was.key; writers = ws }))) (set list p (record { key = was.key; writers = ws }))
   set_indexed = record {
     ordered = positions_sorted now;
     listed = λ k q e. key_kept q ∙ h.listed k q (ap (λ fs. position_of fs k) (sym positions_kept) ∙ e);
@@ -212,10 +213,10 @@ module _ (list : List KeySlots) (h : AreIndexed (positions_of list) list) (key :
   pub set_found : (buckets : List ℕ) (others : Positions) → AreFound buckets others (positions_of list) → AreFound buckets others (positions_of (set list p (record { key = was.key; writers = ws })))
   set_found buckets others = subst (AreFound buckets others) (sym positions_kept)
 
-  -- that key's slots alone change
-  pub set_in_order : IsSetAt (in_order (positions_of list) list) (in_order (positions_of (set list p (record { key = was.key; writers = ws }))) (set list p (record { key = was.key; writers = ws }))) key ws
+  -- only that key's slots change
+  pub set_in_order : AreSlotsSetAt (slots_in_order (positions_of list) list) (slots_in_order (positions_of (set list p (record { key = was.key; writers = ws }))) (set list p (record { key = was.key; writers = ws }))) key ws
   set_in_order q =
-      ap (λ (fs : Positions). lookup (is_at (key_cmp q)) (in_order fs now)) positions_kept
+      ap (λ (fs : Positions). lookup (is_at (key_cmp q)) (slots_in_order fs now)) positions_kept
       ∙ lookup_in_order (is_at (key_cmp q)) positions now
       ∙ by (is_at (key_cmp key) q) refl (position_of positions q) refl
       ∙ ap (cond (is_at (key_cmp key) q) (Some ws)) (sym (lookup_in_order (is_at (key_cmp q)) positions list))
@@ -227,15 +228,15 @@ module _ (list : List KeySlots) (h : AreIndexed (positions_of list) list) (key :
       by false t None e = refl
       by false t (Some r) e =
           ap (λ (x : Option KeySlots). Some (unwrap_or (option_map (λ (s : KeySlots). s.writers) x) [])) (get_set_apart list p r new (λ same.
-          let one : Some key ≡ Some q = sym (h.listed key p at) ∙ ap (key_at list) same ∙ h.listed q r e in
+          let one : Some key ≡ Some q = sym (h.listed key p at) ∙ ap (slot_key_at list) same ∙ h.listed q r e in
           absurd (other_key key q t cc)))
 
 -- the slots at a key that was given these
-pub set_writers : (es fs : ByKey) (key : List ℕ) (ws : ByWriter) → IsSetAt es fs key ws → writers_at fs key ≡ ws
+pub set_writers : (es fs : ByKey) (key : List ℕ) (ws : ByWriter) → AreSlotsSetAt es fs key ws → writers_at fs key ≡ ws
 set_writers es fs key ws h = ap (λ (o : Option ByWriter). unwrap_or o []) (h key ∙ ap (λ b. cond b (Some ws) (lookup (is_at (key_cmp key)) es)) (key_itself key))
 
 -- a key that was given some slots and then others
-pub set_twice : (es fs gs : ByKey) (key : List ℕ) (vs ws : ByWriter) → IsSetAt es fs key vs → IsSetAt fs gs key ws → IsSetAt es gs key ws
+pub set_twice : (es fs gs : ByKey) (key : List ℕ) (vs ws : ByWriter) → AreSlotsSetAt es fs key vs → AreSlotsSetAt fs gs key ws → AreSlotsSetAt es gs key ws
 set_twice es fs gs key vs ws first second q = second q ∙ ap (cond (is_at (key_cmp key) q) (Some ws)) (first q) ∙ by (is_at (key_cmp key) q)
   where
     by : (b : Bool) → cond b (Some ws) (cond b (Some vs) (lookup (is_at (key_cmp q)) es)) ≡ cond b (Some ws) (lookup (is_at (key_cmp q)) es)
@@ -244,7 +245,7 @@ set_twice es fs gs key vs ws first second q = second q ∙ ap (cond (is_at (key_
 
 -- ---- a key is added at the end
 
-module _ (list : List KeySlots) (h : AreIndexed (positions_of list) list) (key : List ℕ) (absent : position_of (positions_of list) key ≡ None) (n : ℕ) (last : n ≡ length list) where
+module _ (list : List KeySlots) (h : AreSlotsIndexed (positions_of list) list) (key : List ℕ) (absent : position_of (positions_of list) key ≡ None) (n : ℕ) (last : n ≡ length list) where
   abbrev empty : KeySlots
   empty = record { key = key; writers = [] }
 
@@ -264,14 +265,14 @@ module _ (list : List KeySlots) (h : AreIndexed (positions_of list) list) (key :
   at_last : slice_get (list ++ empty ∷ []) n ≡ Some empty
   at_last = ap (slice_get (list ++ empty ∷ [])) last ∙ slice_get_last list empty
 
-  was_or_last : (xs : List KeySlots) (p : ℕ) (q : List ℕ) → key_at (xs ++ empty ∷ []) p ≡ Some q → (key_at xs p ≡ Some q) ⊎ ((p ≡ length xs) × (key ≡ q))
+  was_or_last : (xs : List KeySlots) (p : ℕ) (q : List ℕ) → slot_key_at (xs ++ empty ∷ []) p ≡ Some q → (slot_key_at xs p ≡ Some q) ⊎ ((p ≡ length xs) × (key ≡ q))
   was_or_last [] zero q e = let same : Some key ≡ Some q = e in inr (refl, cc)
   was_or_last [] (suc p) q e = cc
   was_or_last (x ∷ xs) zero q e = inl e
   was_or_last (x ∷ xs) (suc p) q e = elim (was_or_last xs p q e) [ inl was ↦ inl was | inr both ↦ inr (ap suc both.0, both.1) ]
 
-  -- each key stands at its position
-  pub added_indexed : AreIndexed (positions_of (list ++ record { key = key; writers = [] } ∷ [])) (list ++ record { key = key; writers = [] } ∷ [])
+  -- each key is at its position
+  pub added_indexed : AreSlotsIndexed (positions_of (list ++ record { key = key; writers = [] } ∷ [])) (list ++ record { key = key; writers = [] } ∷ [])
   added_indexed = record {
     ordered = positions_sorted (list ++ empty ∷ []);
     listed = λ q p e. listed_by q p (is_at (key_cmp key) q) refl (sym (added q) ∙ e);
@@ -281,8 +282,8 @@ module _ (list : List KeySlots) (h : AreIndexed (positions_of list) list) (key :
     ];
   }
     where
-      listed_by : (q : List ℕ) (p : ℕ) (b : Bool) → is_at (key_cmp key) q ≡ b → cond b (Some n) (position_of old_positions q) ≡ Some p → key_at (list ++ empty ∷ []) p ≡ Some q
-      listed_by q p true t e = let here : n ≡ p = cc in ap (key_at (list ++ empty ∷ [])) (sym here) ∙ ap (option_map (λ (s : KeySlots). s.key)) at_last ∙ ap Some (same_key key q t)
+      listed_by : (q : List ℕ) (p : ℕ) (b : Bool) → is_at (key_cmp key) q ≡ b → cond b (Some n) (position_of old_positions q) ≡ Some p → slot_key_at (list ++ empty ∷ []) p ≡ Some q
+      listed_by q p true t e = let here : n ≡ p = cc in ap (slot_key_at (list ++ empty ∷ [])) (sym here) ∙ ap (option_map (λ (s : KeySlots). s.key)) at_last ∙ ap Some (same_key key q t)
       listed_by q p false t e = ap (option_map (λ (s : KeySlots). s.key)) (slice_get_before list empty p (key_within list p q (h.listed q p e))) ∙ h.listed q p e
 
       indexed_by : (q : List ℕ) (p : ℕ) (b : Bool) → is_at (key_cmp key) q ≡ b → position_of old_positions q ≡ Some p → position_of new_positions q ≡ Some p
@@ -290,7 +291,7 @@ module _ (list : List KeySlots) (h : AreIndexed (positions_of list) list) (key :
       indexed_by q p false t was = added q ∙ ap (λ b. cond b (Some n) (position_of old_positions q)) t ∙ was
 
   -- it has no slots, and those at the other keys stay
-  pub added_in_order : IsSetAt (in_order (positions_of list) list) (in_order (positions_of (list ++ record { key = key; writers = [] } ∷ [])) (list ++ record { key = key; writers = [] } ∷ [])) key []
+  pub added_in_order : AreSlotsSetAt (slots_in_order (positions_of list) list) (slots_in_order (positions_of (list ++ record { key = key; writers = [] } ∷ [])) (list ++ record { key = key; writers = [] } ∷ [])) key []
   added_in_order q =
       lookup_in_order (is_at (key_cmp q)) new_positions (list ++ empty ∷ [])
       ∙ ap (option_map (slots_in (list ++ empty ∷ []))) (added q)
@@ -303,7 +304,7 @@ module _ (list : List KeySlots) (h : AreIndexed (positions_of list) list) (key :
       by false (Some p) e =
           ap (λ (x : Option KeySlots). Some (unwrap_or (option_map (λ (s : KeySlots). s.writers) x) [])) (slice_get_before list empty p (key_within list p q (h.listed q p e)))
 
-  -- each key is found, where the added one was noted and is found, and the tree is unchanged at the others
+  -- each key is found if the added one was noted and is found, and the tree is unchanged at the others
   pub added_found : (buckets : List ℕ) (others after : Positions) → AreFound buckets others (positions_of list)
       → (hint_of (noted buckets key n) key ≡ At n) ⊎ (position_of after key ≡ Some n)
       → ((q : List ℕ) → (position_of after q ≡ position_of others q) ⊎ ((key ≡ q) × (position_of after q ≡ Some n)))
@@ -349,7 +350,7 @@ module _ (buckets : List ℕ) (others positions : Positions) (h : AreFound bucke
     sound = λ q p e. h.sound q p (ap (λ es. position_of es q) (sym same) ∙ e);
   }
 
-  -- where no key is there, all buckets will do
+  -- if no key is there, all buckets will do
   pub none_found : ((key : List ℕ) → position_of positions key ≡ None) → (now : List ℕ) → AreFound now others positions
   none_found none now = record {
     hinted = λ q e. none q;

@@ -22,8 +22,8 @@ use Rattle.rv_ledger.specs.Key.{key_cmp}
 use Rattle.version_arena.specs.ArenaState.{Record}
 use Rattle.mvmap.specs.Versions.{Place, place_cmp}
 use Rattle.mvmap.specs.KeyTable.{writers_at}
-use Rattle.mvmap.specs.Slots.{Slots, ByKey, IsOpened, at_places, entry_of, flat, slot_at, value_over, value_over_slots}
-use Rattle.mvmap.specs.Writers.{ByWriter, AreAscending, slot_of}
+use Rattle.mvmap.specs.Slots.{SlotsByPlace, ByKey, AreSlotsOpened, at_places, entry_of, flat, slot_at, value_over, value_over_slots}
+use Rattle.mvmap.specs.Writers.{ByWriter, AreWritersAscending, slot_of}
 use Rattle.mvmap.specs.declared.slot.Slot.{Slot}
 use Rattle.mvmap.specs.declared.slot.Slot.TheVariants as slot
 use Rattle.mvmap.proofs.Places.{by_writer, place_itself, same_place}
@@ -32,7 +32,7 @@ use Rattle.mvmap.proofs.Places.{by_writer, place_itself, same_place}
 abbrev pub nested_at : ByKey → List ℕ → ℕ → Option Slot
 nested_at es key w = option_and_then (λ ws. slot_of ws w) (lookup (is_at (key_cmp key)) es)
 
--- ---- where a slot is found
+-- ---- finding a slot
 
 abbrev either : Option Slot → Option Slot → Option Slot
 either None o = o
@@ -43,7 +43,7 @@ either_by true s o p = refl
 either_by false s o p = refl
 
 -- among two lists
-found_in : (test : Place → Bool) (es fs : Slots) → lookup test (es ++ fs) ≡ either (lookup test es) (lookup test fs)
+found_in : (test : Place → Bool) (es fs : SlotsByPlace) → lookup test (es ++ fs) ≡ either (lookup test es) (lookup test fs)
 found_in test [] fs = refl
 found_in test (e ∷ es) fs = ap (cond (test e.0) (Some e.1)) (found_in test es fs) ∙ either_by (test e.0) e.1 (lookup test es) (lookup test fs)
 
@@ -99,13 +99,13 @@ flat_at (e ∷ es) order key w =
 -- ---- the order of places
 
 -- below the places of higher writers at the key, and below those after them
-below_writers : (key : List ℕ) (w : ℕ) (ws : ByWriter) (rest : Slots) → AllByRecursion (λ v. nat_cmp w v ≡ Less) (keys_of ws) → AllByRecursion (λ y. place_cmp (key, w) y ≡ Less) (keys_of rest)
+below_writers : (key : List ℕ) (w : ℕ) (ws : ByWriter) (rest : SlotsByPlace) → AllByRecursion (λ v. nat_cmp w v ≡ Less) (keys_of ws) → AllByRecursion (λ y. place_cmp (key, w) y ≡ Less) (keys_of rest)
     → AllByRecursion (λ y. place_cmp (key, w) y ≡ Less) (keys_of (at_places key ws ++ rest))
 below_writers key w [] rest lower h = h
 below_writers key w (s ∷ ws) rest lower h = (by_writer key w s.0 ∙ lower.0, below_writers key w ws rest lower.1 h)
 
 -- below all places of a higher key, and below those after them
-below_key : (key : List ℕ) (w : ℕ) (k : List ℕ) (ws : ByWriter) (rest : Slots) → key_cmp key k ≡ Less → AllByRecursion (λ y. place_cmp (key, w) y ≡ Less) (keys_of rest)
+below_key : (key : List ℕ) (w : ℕ) (k : List ℕ) (ws : ByWriter) (rest : SlotsByPlace) → key_cmp key k ≡ Less → AllByRecursion (λ y. place_cmp (key, w) y ≡ Less) (keys_of rest)
     → AllByRecursion (λ y. place_cmp (key, w) y ≡ Less) (keys_of (at_places k ws ++ rest))
 below_key key w k [] rest less h = h
 below_key key w k (s ∷ ws) rest less h = (ap (λ r. ordering_then r (nat_cmp w s.0)) less, below_key key w k ws rest less h)
@@ -114,7 +114,7 @@ below_keys : (key : List ℕ) (w : ℕ) (es : ByKey) → AllByRecursion (λ y. k
 below_keys key w [] all = tt
 below_keys key w (e ∷ es) all = below_key key w e.0 e.1 (flat es) all.0 (below_keys key w es all.1)
 
-one_key_sorted : (key : List ℕ) (ws : ByWriter) (rest : Slots) → AreAscending ws → ((w : ℕ) → AllByRecursion (λ y. place_cmp (key, w) y ≡ Less) (keys_of rest)) → IsStrictlySortedBy place_cmp (keys_of rest)
+one_key_sorted : (key : List ℕ) (ws : ByWriter) (rest : SlotsByPlace) → AreWritersAscending ws → ((w : ℕ) → AllByRecursion (λ y. place_cmp (key, w) y ≡ Less) (keys_of rest)) → IsStrictlySortedBy place_cmp (keys_of rest)
     → IsStrictlySortedBy place_cmp (keys_of (at_places key ws ++ rest))
 unfolding IsStrictlySortedBy
 one_key_sorted key [] rest up above sorted = sorted
@@ -123,7 +123,7 @@ one_key_sorted key (s ∷ ws) rest up above sorted =
 
 -- the writers rise at each key
 abbrev pub AreAllAscending : ByKey → Type 0
-AreAllAscending es = AllByRecursion (λ e. AreAscending e.1) es
+AreAllAscending es = AllByRecursion (λ e. AreWritersAscending e.1) es
 
 -- the places of all slots rise
 pub flat_sorted : (es : ByKey) → IsStrictlySortedBy key_cmp (keys_of es) → AreAllAscending es → IsStrictlySortedBy place_cmp (keys_of (flat es))
@@ -134,7 +134,7 @@ flat_sorted (e ∷ es) order up = one_key_sorted e.0 e.1 (flat es) up.0 (λ w. b
 -- ---- what the slots do to a value
 
 -- one part after the other
-pub value_over_both : (rs : List Record) (es fs : Slots) (key : List ℕ) (base : Content) → value_over_slots rs (es ++ fs) key base ≡ value_over_slots rs fs key (value_over_slots rs es key base)
+pub value_over_both : (rs : List Record) (es fs : SlotsByPlace) (key : List ℕ) (base : Content) → value_over_slots rs (es ++ fs) key base ≡ value_over_slots rs fs key (value_over_slots rs es key base)
 value_over_both rs [] fs key base = refl
 value_over_both rs (e ∷ es) fs key base = value_over_both rs es fs key (if eq_by_cmp key_cmp key e.0.0 then value_over base (entry_of rs e.1) else base)
 
@@ -158,7 +158,8 @@ at_writers es order key w = flat_at es order key w ∙ of_listed (lookup (is_at 
 
 module _ (es fs : ByKey) (old : IsStrictlySortedBy key_cmp (keys_of es)) (new : IsStrictlySortedBy key_cmp (keys_of fs)) (key : List ℕ) (ws : ByWriter)
     (h : (q : List ℕ) → lookup (is_at (key_cmp q)) fs ≡ cond (is_at (key_cmp key) q) (Some ws) (lookup (is_at (key_cmp q)) es)) where
-  -- the slots of one key are replaced, where the slot of one writer changes by f
+  -- if the slots of one key are replaced and the slot of one writer changes by f, the slot at that place changes by f and no
+  -- other does
   pub written_at : (w : ℕ) (f : Option Slot → Option Slot) → ((v : ℕ) → slot_of ws v ≡ (if w == v then f (slot_of (writers_at es key) v) else slot_of (writers_at es key) v))
       → (q : Place) → slot_at (flat fs) q ≡ cond (is_at (place_cmp (key, w)) q) (f (slot_at (flat es) q)) (slot_at (flat es) q)
   written_at w f change q =
@@ -176,24 +177,24 @@ module _ (es fs : ByKey) (old : IsStrictlySortedBy key_cmp (keys_of es)) (new : 
 -- ---- a slot that is made
 
 -- what the slots are after a call was given one at a key, or was refused it
-pub record IsMade {E : Type 0} (es fs : Slots) (place : Place) (r : Result (Unit {0}) E) : Type 0 where
+pub record IsMade {E : Type 0} (es fs : SlotsByPlace) (place : Place) (r : Result (Unit {0}) E) : Type 0 where
   pub ok : OnOk r ((q : Place) → slot_at fs q ≡ cond (is_at (place_cmp place) q) (Some (unwrap_or (slot_at es q) slot.Vacant)) (slot_at es q))
   pub err : OnErr r ((q : Place) → slot_at fs q ≡ slot_at es q)
 
-module _ (os ns : ByKey) (key : List ℕ) (ws : ByWriter) (w : ℕ) (es : Slots) (view : flat os ≡ es) (old : IsStrictlySortedBy key_cmp (keys_of os)) (new : IsStrictlySortedBy key_cmp (keys_of ns))
+module _ (os ns : ByKey) (key : List ℕ) (ws : ByWriter) (w : ℕ) (es : SlotsByPlace) (view : flat os ≡ es) (old : IsStrictlySortedBy key_cmp (keys_of os)) (new : IsStrictlySortedBy key_cmp (keys_of ns))
     (h : (q : List ℕ) → lookup (is_at (key_cmp q)) ns ≡ cond (is_at (key_cmp key) q) (Some ws) (lookup (is_at (key_cmp q)) os)) (before : ByWriter) (was : before ≡ writers_at os key) where
   unchanged : (o p : Option Slot) (b : Bool) → p ≡ cond b o o → p ≡ o
   unchanged o p true e = e
   unchanged o p false e = e
 
-  -- where the slot of one writer changes by f
+  -- if the slot of one writer changes by f
   pub changed_at : (f : Option Slot → Option Slot) → ((v : ℕ) → slot_of ws v ≡ (if w == v then f (slot_of before v) else slot_of before v))
       → (q : Place) → slot_at (flat ns) q ≡ cond (is_at (place_cmp (key, w)) q) (f (slot_at es q)) (slot_at es q)
   changed_at f change q =
       written_at os ns old new key ws h w f (λ v. change v ∙ ap (λ us. if w == v then f (slot_of us v) else slot_of us v) was) q
-      ∙ ap (λ (xs : Slots). cond (is_at (place_cmp (key, w)) q) (f (slot_at xs q)) (slot_at xs q)) view
+      ∙ ap (λ (xs : SlotsByPlace). cond (is_at (place_cmp (key, w)) q) (f (slot_at xs q)) (slot_at xs q)) view
 
-  -- where a call was given a slot, or was refused it
+  -- if a call got a slot, or was refused it
   pub made_at : {E : Type 0} (r : Result (Unit {0}) E) → OnOk r ((v : ℕ) → slot_of ws v ≡ (if w == v then Some (unwrap_or (slot_of before v) slot.Vacant) else slot_of before v)) → OnErr r (ws ≡ before)
       → IsMade es (flat ns) (key, w) r
   made_at (Ok x) made same = record { ok = changed_at (λ o. Some (unwrap_or o slot.Vacant)) made; err = tt }
@@ -203,8 +204,8 @@ module _ (os ns : ByKey) (key : List ℕ) (ws : ByWriter) (w : ℕ) (es : Slots)
   }
 
 -- a key that is not there has no slot
-pub no_key : (os : ByKey) (key : List ℕ) (w : ℕ) (es : Slots) → flat os ≡ es → IsStrictlySortedBy key_cmp (keys_of os) → lookup (is_at (key_cmp key)) os ≡ None → slot_at es (key, w) ≡ None
-no_key os key w es view old none = ap (λ (xs : Slots). slot_at xs (key, w)) (sym view) ∙ flat_at os old key w ∙ ap (option_and_then (λ (us : ByWriter). slot_of us w)) none
+pub no_key : (os : ByKey) (key : List ℕ) (w : ℕ) (es : SlotsByPlace) → flat os ≡ es → IsStrictlySortedBy key_cmp (keys_of os) → lookup (is_at (key_cmp key)) os ≡ None → slot_at es (key, w) ≡ None
+no_key os key w es view old none = ap (λ (xs : SlotsByPlace). slot_at xs (key, w)) (sym view) ∙ flat_at os old key w ∙ ap (option_and_then (λ (us : ByWriter). slot_of us w)) none
 
 opened_by : (o p : Option Slot) (b : Bool) → p ≡ cond b (Some (unwrap_or o slot.Vacant)) o → (p ≡ o) ⊎ ((o ≡ None) × (p ≡ Some slot.Vacant))
 opened_by None p true h = inr (refl, h)
@@ -219,8 +220,8 @@ apart_by : (o p : Option Slot) (b : Bool) → (b ≡ true → ⊥) → p ≡ con
 apart_by o p true ne h = absurd (ne refl)
 apart_by o p false ne h = h
 
-module _ {E : Type 0} (es fs : Slots) (place : Place) where
-  pub made_opened : (r : Result (Unit {0}) E) → IsMade es fs place r → IsOpened es fs
+module _ {E : Type 0} (es fs : SlotsByPlace) (place : Place) where
+  pub made_opened : (r : Result (Unit {0}) E) → IsMade es fs place r → AreSlotsOpened es fs
   made_opened (Ok x) h = λ q. opened_by (slot_at es q) (slot_at fs q) (is_at (place_cmp place) q) (h.ok q)
   made_opened (Err x) h = λ q. inl (h.err q)
 

@@ -15,21 +15,21 @@ use Rattle.std.proofs.lemmas.Map.Views.{tells_apart}
 use Rattle.rv_ledger.specs.Key.{key_cmp}
 use Rattle.version_arena.specs.ArenaState.{Record}
 use Rattle.mvmap.specs.Versions.{Entry, Place, Versions, changed, place_cmp}
-use Rattle.mvmap.specs.Slots.{Slots, slot_at, entry_of, versions_of, places_of}
+use Rattle.mvmap.specs.Slots.{SlotsByPlace, slot_at, entry_of, versions_of, places_of}
 
 -- places are in a total order
 pub place_total : IsTotalOrder place_cmp
 place_total = then_total (on_total (λ (p : Place). p.0) nat_list_cmp_total) (on_total (λ (p : Place). p.1) nat_cmp_total)
 
--- places that compare alike are one
+-- places that compare as equal are the same
 pub exact_places : CmpEqualImpliesEq place_cmp
 exact_places p q h = exact_pairs key_cmp nat_cmp exact_bytes exact_unsigned p q h
 
--- places that a test finds alike are one
+-- places that a test finds equal are the same
 pub same_place : (p q : Place) → eq_by_cmp place_cmp p q ≡ true → p ≡ q
 same_place p q h = tells_apart exact_places p q h
 
--- a place is found alike to itself
+-- a test finds a place equal to itself
 pub place_itself : (p : Place) → eq_by_cmp place_cmp p p ≡ true
 place_itself p = ap is_eq (tied_itself place_total p)
 
@@ -58,8 +58,8 @@ pushed : {X Y : Type 0} (f : X → Option Y) (b : Bool) (x : X) (o : Option X) �
 pushed f true x o = refl
 pushed f false x o = refl
 
--- what the versions that slots stand for have at a place
-pub get_versions : (rs : List Record) (es : Slots) (q : Place) → get (versions_of rs es) q ≡ option_and_then (entry_of rs) (slot_at es q)
+-- the entry at a place among the versions that slots stand for
+pub get_versions : (rs : List Record) (es : SlotsByPlace) (q : Place) → get (versions_of rs es) q ≡ option_and_then (entry_of rs) (slot_at es q)
 get_versions rs [] q = get-empty place_cmp q
 get_versions rs (e ∷ es) q =
     get_changed (versions_of rs es) e.0 (entry_of rs e.1) q
@@ -70,18 +70,18 @@ or_found : {X : Type 0} (b : Bool) (x : X) (o : Option X) → (b || is_some o) �
 or_found true x o = refl
 or_found false x o = refl
 
-any_slot : (es : Slots) (q : Place) → list_any (eq_by_cmp place_cmp q) (keys_of es) ≡ is_some (slot_at es q)
+any_slot : (es : SlotsByPlace) (q : Place) → list_any (eq_by_cmp place_cmp q) (keys_of es) ≡ is_some (slot_at es q)
 any_slot [] q = refl
 any_slot (e ∷ es) q = ap (λ b. eq_by_cmp place_cmp q e.0 || b) (any_slot es q) ∙ or_found (eq_by_cmp place_cmp q e.0) e.1 (slot_at es q)
 
--- the places that have a slot
-pub has_place : (es : Slots) (q : Place) → contains (places_of es) q ≡ is_some (slot_at es q)
+-- the places include a place exactly if it has a slot
+pub has_place : (es : SlotsByPlace) (q : Place) → contains (places_of es) q ≡ is_some (slot_at es q)
 has_place es q = contains-from_list place_total (keys_of es) q ∙ any_slot es q
 
 -- slots that stand for the same entries stand for the same versions
-pub same_versions : (rs ss : List Record) (es fs : Slots) → ((q : Place) → option_and_then (entry_of rs) (slot_at es q) ≡ option_and_then (entry_of ss) (slot_at fs q)) → versions_of rs es ≡ versions_of ss fs
+pub same_versions : (rs ss : List Record) (es fs : SlotsByPlace) → ((q : Place) → option_and_then (entry_of rs) (slot_at es q) ≡ option_and_then (entry_of ss) (slot_at fs q)) → versions_of rs es ≡ versions_of ss fs
 same_versions rs ss es fs h = same_map place_total exact_places _ _ (λ q. get_versions rs es q ∙ h q ∙ sym (get_versions ss fs q))
 
 -- slots at the same places have the same places
-pub same_places : (es fs : Slots) → ((q : Place) → is_some (slot_at es q) ≡ is_some (slot_at fs q)) → places_of es ≡ places_of fs
+pub same_places : (es fs : SlotsByPlace) → ((q : Place) → is_some (slot_at es q) ≡ is_some (slot_at fs q)) → places_of es ≡ places_of fs
 same_places es fs h = same_set place_total exact_places _ _ (λ q. has_place es q ∙ h q ∙ sym (has_place fs q))

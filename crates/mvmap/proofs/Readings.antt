@@ -10,7 +10,7 @@ use Rattle.read_set.specs.declared.origin.Version.{Version}
 use Rattle.mvmap.specs.Versions.{Entry, Stands, Estimate}
 use Rattle.mvmap.specs.Reading.{Visible, Base, Found, Blocked, Passed, blocker, bottom_in, is_origin, is_version, is_walk, origin_in, passed_in, visible_over, visible_below}
 
--- entries that agree below a call are seen alike
+-- entries that agree below a call are seen the same way
 pub seen_same : (e f : ℕ → Option Entry) (i : ℕ) → ((w : ℕ) → w < i → e w ≡ f w) → visible_below e i ≡ visible_below f i
 unfolding visible_below
 seen_same e f zero h = refl
@@ -31,7 +31,7 @@ pub seen_none : (e : ℕ → Option Entry) (i : ℕ) → ((x : ℕ) → x < i �
 unfolding visible_below
 seen_none e i h = seen_down e i zero (omega arith) (λ x a b. h x b)
 
--- with no entry above w and below a call, it sees the one of w, and else what is below
+-- with no entry above w and below a call, the call sees the entry of w over what w sees
 pub seen_at : (e : ℕ → Option Entry) (i w : ℕ) → w < i → ((x : ℕ) → w < x → x < i → e x ≡ None) → visible_below e i ≡ visible_over w (e w) (visible_below e w)
 unfolding visible_below
 seen_at e i w l h = seen_down e i (suc w) (omega arith) (λ x a b. h x (omega arith) b)
@@ -71,7 +71,7 @@ blocker_there e i w (Passed v n amount below) h b = blocker_there e i w below h.
 pub blocked_at : (e : ℕ → Option Entry) (i w : ℕ) → blocker (visible_below e i) ≡ Some w → (w < i) × (e w ≡ Some Estimate)
 blocked_at e i w b = blocker_there e i w (visible_below e i) (seen_there e i) b
 
--- a version stands among the entries of a key, of a writer below call i
+-- a version is among the entries of a key, of a writer below call i
 abbrev pub StandsAmong : (ℕ → Option Entry) → ℕ → Version → Type 0
 StandsAmong e i version = (version.writer < i) × ((c : ContentChange) × (e version.writer ≡ Some (Stands version.incarnation c)))
 
@@ -81,7 +81,7 @@ named_there e i (Found w n content) h = ((h.0, (h.1.0, h.1.1)), tt)
 named_there e i (Blocked w) h = tt
 named_there e i (Passed w n amount below) h = ((h.0, (change.Sum amount, h.1)), named_there e i below h.2)
 
--- each version that is seen stands below the call
+-- each version that is seen is among the entries, of a writer below the call
 pub named_stand : (e : ℕ → Option Entry) (i : ℕ) → AllByRecursion (StandsAmong e i) (named (origin_in (visible_below e i)))
 named_stand e i = named_there e i (visible_below e i) (seen_there e i)
 
@@ -101,7 +101,7 @@ not_blocked i None s p h = cc
 not_blocked i (Some (Stands m d)) s p h = cc
 not_blocked i (Some Estimate) s p h = cc
 
--- where entries differ at estimates alone, a call that isn't blocked sees what it saw
+-- if entries differ only at estimates, a call that isn't blocked sees what it saw
 pub seen_kept : (e f : ℕ → Option Entry) (i : ℕ) → ((w : ℕ) → (f w ≡ e w) ⊎ (e w ≡ Some Estimate)) → is_blocked (visible_below e i) ≡ false → visible_below f i ≡ visible_below e i
 unfolding visible_below
 seen_kept e f zero same h = refl

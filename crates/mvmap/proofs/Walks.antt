@@ -8,9 +8,9 @@ use Rattle.std.proofs.lemmas.Bool.{cases_lt, ltb-false, ltb-true}
 use Rattle.std.proofs.lemmas.Bool.Decides.{nat_tests}
 use Rattle.version_arena.specs.ArenaState.{Record}
 use Rattle.mvmap.specs.Reading.{Base, reading, visible_over}
-use Rattle.mvmap.specs.Slots.{Slots, entries_in, entry_of, seen_in, slot_at, versions_of}
+use Rattle.mvmap.specs.Slots.{SlotsByPlace, entries_in, entry_of, seen_in, slot_at, versions_of}
 use Rattle.mvmap.specs.Versions.{entry_at}
-use Rattle.mvmap.specs.Writers.{ByWriter, AreAscending, slot_of, writer_at}
+use Rattle.mvmap.specs.Writers.{ByWriter, AreWritersAscending, slot_of, writer_at}
 use Rattle.mvmap.specs.declared.slot.Slot.{Slot}
 use Rattle.mvmap.specs.declared.slot.Slot.TheVariants as slot
 use Rattle.mvmap.proofs.Places.{get_versions}
@@ -34,8 +34,8 @@ module _ (rs : List Record) where
   no_entry (s ∷ ws) w vacant =
       nothing_by (s.0 == w) s.1 (slot_of ws w) (λ t. vacant 0 (omega arith) (grind (arith, nat_tests))) (no_entry ws w (λ j l e. vacant (suc j) (omega arith) e))
 
-  -- at a slot the call sees what it stands for, and else what is below
-  pub walk_stops : (ws : ByWriter) (i place : ℕ) (e : ℕ × Slot) → AreAscending ws → IsWalked ws i place → 0 < place → e ≡ get_or ws (place - 1) e
+  -- at a slot the call sees the entry that the slot stands for, over what is seen below it
+  pub walk_stops : (ws : ByWriter) (i place : ℕ) (e : ℕ × Slot) → AreWritersAscending ws → IsWalked ws i place → 0 < place → e ≡ get_or ws (place - 1) e
       → (slot_of ws e.0 ≡ Some e.1) × (seen_in rs ws i ≡ visible_over e.0 (entry_of rs e.1) (seen_in rs ws e.0)) × (e.0 < i)
   walk_stops ws i place e up h some is =
       let in_range : place - 1 < length ws = omega (arith, h.in_range) in
@@ -52,7 +52,7 @@ module _ (rs : List Record) where
         below,
       )
     where
-      not_above : (ws : ByWriter) → AreAscending ws → (place j : ℕ) → j ≤ place → (w : ℕ) → writer_at ws j ≡ w → writer_at ws place < w → place < length ws → ⊥
+      not_above : (ws : ByWriter) → AreWritersAscending ws → (place j : ℕ) → j ≤ place → (w : ℕ) → writer_at ws j ≡ w → writer_at ws place < w → place < length ws → ⊥
       not_above ws up place j l w e above in_range = elim (cases_lt j place) [
         | inl less ↦ omega (arith, ascending_at ws up j place less in_range, e, above)
         | inr same ↦ let p : j ≡ place = omega arith in omega (arith, ap (writer_at ws) p, e, above)
@@ -70,7 +70,7 @@ IsCut ws i place = record {
   above : (j : ℕ) → place ≤ j → j < length ws → i ≤ writer_at ws j;
 }
 
--- they end where the search for those below a call ends
+-- they end at the place that the search for those below a call returns
 pub cut_there : (ws : ByWriter) (i place : ℕ) → place ≤ length ws → IsPartitionPoint (λ e. ltb e.0 i ≡ true) (λ e. ltb e.0 i ≡ false) ws place → IsCut ws i place
 cut_there ws i place in_range cut = record {
   bound = in_range;
@@ -78,8 +78,8 @@ cut_there ws i place in_range cut = record {
   above = λ j l within. ltb-false _ _ (cut.1 j (0, slot.Vacant) l within);
 }
 
--- they end where the slot before is of a lower call, and the one there is not
-pub cut_at : (ws : ByWriter) (i place : ℕ) → AreAscending ws → place ≤ length ws → (0 < place → writer_at ws (place - 1) < i) → (place < length ws → i ≤ writer_at ws place) → IsCut ws i place
+-- they end at a place if the slot before it is of a lower call, and the slot at it is not
+pub cut_at : (ws : ByWriter) (i place : ℕ) → AreWritersAscending ws → place ≤ length ws → (0 < place → writer_at ws (place - 1) < i) → (place < length ws → i ≤ writer_at ws place) → IsCut ws i place
 cut_at ws i place up in_range before after = record {
   bound = in_range;
   below = λ j l. elim (cases_lt j (place - 1)) [
@@ -92,7 +92,7 @@ cut_at ws i place up in_range before after = record {
   ];
 }
 
--- at its start it is where the slots of lower calls end
+-- a walk starts at the place at which the slots of lower calls end
 pub walk_starts : (ws : ByWriter) (i place : ℕ) → IsCut ws i place → IsWalked ws i place
 walk_starts ws i place cut = record {
   in_range = cut.bound;
@@ -100,10 +100,10 @@ walk_starts ws i place cut = record {
   vacant = λ j l within lower. absurd (omega (arith, cut.above j l within, lower));
 }
 
--- the writers do not fall, as the search for those below a call asks
-pub parted : (ws : ByWriter) (i : ℕ) → AreAscending ws → IsPartitionedBy (λ e. ltb e.0 i) ws
+-- the writers do not fall, as the search for those below a call requires
+pub parted : (ws : ByWriter) (i : ℕ) → AreWritersAscending ws → IsPartitionedBy (λ e. ltb e.0 i) ws
 parted ws i up = IsPartitionedBy-ltb (λ e. e.0) ws i (IsNonDecreasingBy-from_default (λ e. e.0) ws (0, slot.Vacant) (λ i j le in_range. grind (arith, ascending_at ws up i j, λ (same : i ≡ j). ap (writer_at ws) same)))
 
 -- what is seen of a key is seen in its slots
-pub seen_at_key : (rs : List Record) (es : Slots) (key : List ℕ) (ws : ByWriter) → ((w : ℕ) → slot_at es (key, w) ≡ slot_of ws w) → (i : ℕ) → seen_in rs ws i ≡ reading (versions_of rs es) key i
+pub seen_at_key : (rs : List Record) (es : SlotsByPlace) (key : List ℕ) (ws : ByWriter) → ((w : ℕ) → slot_at es (key, w) ≡ slot_of ws w) → (i : ℕ) → seen_in rs ws i ≡ reading (versions_of rs es) key i
 seen_at_key rs es key ws h i = seen_same (entries_in rs ws) (entry_at (versions_of rs es) key) i (λ w _. sym (get_versions rs es (key, w) ∙ ap (option_and_then (entry_of rs)) (h w)))

@@ -28,7 +28,7 @@ Tells (answer.Found version content) passed seen =
     × ((base : Content) → value_seen base seen ≡ content)
 Tells (answer.Estimate writer) passed seen = blocker seen ≡ Some writer
 
--- the answer that a lent one stands for, once the passed amounts are added
+-- a lent answer after the passed amounts are added
 abbrev pub added : LentAnswer → Answer
 added (lent.Base sum) = answer.Base sum
 added (lent.Found version content sum) = answer.Found version (with_amount (lent_content content) sum)

@@ -1,4 +1,4 @@
--- Buckets of keys, each with a hint of where one of its keys stands; only private functions use this.
+-- Buckets of keys, each with a hint of the position of one of its keys; only private functions use this.
 use Rattle.std.specs.Prelude.{ℕ, ◌/◌, ◌^◌, ◌==◌, min, if◌then◌else◌, List, Option, Some, None, slice_get, slice_index, slice_set}
 use Rattle.rv_ledger.specs.KeyHash.{key_hash}
 use Rattle.mvmap.specs.declared.hints.Hint.{Hint}

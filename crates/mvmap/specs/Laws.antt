@@ -22,7 +22,7 @@ ChangesNoStandingRead = (v : Versions) (key : List ℕ) (w : ℕ) (entry : Optio
 abbrev pub StandsBelow : Versions → List ℕ → ℕ → Version → Type 0
 StandsBelow v key i version = (version.writer < i) × ((c : ContentChange) × (entry_at v key version.writer ≡ Some (Stands version.incarnation c)))
 
--- if a read stands, its origin is what is seen, and each version that it names stands below the reader
+-- if a read stands, its origin is what is seen, and each version that it names is in the map, of a writer below the reader
 abbrev pub NamesWhatStands : Type 0
 NamesWhatStands = (v : Versions) (i : ℕ) (read : Read) → stands v i read ≡ true
     → (blocker (reading v read.key i) ≡ None) × (origin_in (reading v read.key i) ≡ read.origin) × AllByRecursion (StandsBelow v read.key i) (named read.origin)
@@ -43,7 +43,7 @@ abbrev pub total_amount : ℕ → Option ℕ → ℕ
 total_amount amount None = amount
 total_amount amount (Some sum) = wrapping_sum amount sum
 
--- the sum of the amounts that were passed, which wraps at 2^64; None where nothing was
+-- the sum of the amounts that were passed, which wraps at 2^64; None if none was passed
 abbrev pub amount_passed : Visible → Option ℕ
 amount_passed Base = None
 amount_passed (Found writer incarnation content) = None

@@ -17,7 +17,8 @@ pub data Visible : Type 0 where
   Blocked : ℕ → Visible
   Passed : ℕ → ℕ → ℕ → Visible → Visible
 
--- what is seen: a writer's entry, which a sum passes on to what is seen below it; or that where there is no entry
+-- what is seen from a writer on downwards: its value or removal; its sum, and what is seen below it; its estimate, which blocks;
+-- or, if it has no entry, what is seen below it
 abbrev pub visible_over : ℕ → Option Entry → Visible → Visible
 visible_over writer None below = below
 visible_over writer (Some (Stands incarnation (change.Value value))) below = Found writer incarnation (Some value)
@@ -55,7 +56,7 @@ bottom_in (Found writer incarnation content) = Some (record { writer = writer; i
 bottom_in (Blocked writer) = None
 bottom_in (Passed writer incarnation amount below) = bottom_in below
 
--- the origin of what is seen, where nothing blocks it
+-- the origin of what is seen, if nothing blocks it
 abbrev pub origin_in : Visible → Origin
 origin_in seen = record { passed = passed_in seen; bottom = bottom_in seen }
 

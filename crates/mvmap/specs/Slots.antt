@@ -17,24 +17,23 @@ use Rattle.mvmap.specs.declared.slot.Slot.{Slot}
 use Rattle.mvmap.specs.declared.slot.Slot.TheVariants as slot
 
 -- slots, by their places in order
-abbrev pub Slots : Type 0
-Slots = List (Place × Slot)
+abbrev pub SlotsByPlace : Type 0
+SlotsByPlace = List (Place × Slot)
 
 -- slots by key, and then by writer
 abbrev pub ByKey : Type 0
 ByKey = List (List ℕ × ByWriter)
 
 -- the slots at a key, by their places
-abbrev pub at_places : List ℕ → ByWriter → Slots
+abbrev pub at_places : List ℕ → ByWriter → SlotsByPlace
 at_places key ws = map (λ s. ((key, s.0), s.1)) ws
 
 -- the slots at all keys, by their places
-abbrev pub flat : ByKey → Slots
+abbrev pub flat : ByKey → SlotsByPlace
 flat [] = []
 flat (e ∷ es) = at_places e.0 e.1 ++ flat es
 
--- the slot at a place
-abbrev pub slot_at : Slots → Place → Option Slot
+abbrev pub slot_at : SlotsByPlace → Place → Option Slot
 slot_at slots place = lookup (is_at (place_cmp place)) slots
 
 -- the entry that a slot stands for among the records
@@ -52,25 +51,25 @@ abbrev pub seen_in : List Record → ByWriter → ℕ → Visible
 seen_in records ws i = visible_below (entries_in records ws) i
 
 -- the versions that slots stand for
-abbrev pub versions_of : List Record → Slots → Versions
+abbrev pub versions_of : List Record → SlotsByPlace → Versions
 versions_of records [] = empty
 versions_of records (s ∷ slots) = changed (versions_of records slots) s.0 (entry_of records s.1)
 
 -- the places that have a slot
-abbrev pub places_of : Slots → FinSet place_cmp
+abbrev pub places_of : SlotsByPlace → FinSet place_cmp
 places_of slots = from_list (keys_of slots)
 
 -- each slot that names a record names one of these records
-abbrev pub ArePlaced : List Record → Slots → Type 0
-ArePlaced records slots = (place : Place) (id : ℕ) → slot_at slots place ≡ Some (slot.Placed id) → id < length records
+abbrev pub AreSlotsPlaced : List Record → SlotsByPlace → Type 0
+AreSlotsPlaced records slots = (place : Place) (id : ℕ) → slot_at slots place ≡ Some (slot.Placed id) → id < length records
 
 -- the same of the slots at one key
 abbrev pub ArePlacedIn : List Record → ByWriter → Type 0
 ArePlacedIn records ws = (writer id : ℕ) → slot_of ws writer ≡ Some (slot.Placed id) → id < length records
 
 -- each slot that was there is unchanged; elsewhere there is still none, or now a vacant one
-abbrev pub IsOpened : Slots → Slots → Type 0
-IsOpened old new = (place : Place) → (slot_at new place ≡ slot_at old place) ⊎ ((slot_at old place ≡ None) × (slot_at new place ≡ Some slot.Vacant))
+abbrev pub AreSlotsOpened : SlotsByPlace → SlotsByPlace → Type 0
+AreSlotsOpened old new = (place : Place) → (slot_at new place ≡ slot_at old place) ⊎ ((slot_at old place ≡ None) × (slot_at new place ≡ Some slot.Vacant))
 
 -- the value of a key after an entry is applied to the value that it had
 abbrev pub value_over : Content → Option Entry → Content
@@ -79,12 +78,12 @@ value_over base (Some (Stands incarnation change)) = apply_change change base
 value_over base (Some Estimate) = base
 
 -- the value of a key after the slots at it are applied in turn to the value that it had
-abbrev pub value_over_slots : List Record → Slots → List ℕ → Content → Content
+abbrev pub value_over_slots : List Record → SlotsByPlace → List ℕ → Content → Content
 value_over_slots records [] key base = base
 value_over_slots records (s ∷ slots) key base = value_over_slots records slots key (if eq_by_cmp key_cmp key s.0.0 then value_over base (entry_of records s.1) else base)
 
--- whether the rest of an origin is what is seen below a version that was passed; None where that version is not the next one
--- of the origin
+-- whether the rest of an origin is what is seen below a version that was passed; there is no rest if that version is not the next
+-- one of the origin
 abbrev pub walk_after : Option (List Version) → Option Version → Visible → Bool
 walk_after None bottom below = false
 walk_after (Some rest) bottom below = is_walk rest bottom below

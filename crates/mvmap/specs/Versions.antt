@@ -15,8 +15,8 @@ Place = List ℕ × ℕ
 abbrev pub place_cmp : Place → Place → Ordering
 place_cmp p q = ordering_then (key_cmp p.0 q.0) (nat_cmp p.1 q.1)
 
--- what is at a place: what the writer's run of an incarnation did to the key; or an estimate, where the writer is
--- expected to write again
+-- what is at a place: what the writer's run of an incarnation did to the key; or an estimate, if the writer is expected to write
+-- again
 pub data Entry : Type 0 where
   Stands : ℕ → ContentChange → Entry
   Estimate : Entry
@@ -25,7 +25,6 @@ pub data Entry : Type 0 where
 abbrev pub Versions : Type 0
 Versions = FinMap place_cmp Entry
 
--- the entry of a writer at a key
 abbrev pub entry_at : Versions → List ℕ → ℕ → Option Entry
 entry_at versions key writer = get versions (key, writer)
 
@@ -38,25 +37,23 @@ changed versions place None = remove versions place
 abbrev pub HasNoEstimate : Versions → Type 0
 HasNoEstimate versions = (place : Place) → get versions place ≢ Some Estimate
 
--- a place as data
 abbrev pub coded_place : Coded Place
 coded_place = coded× (coded_list coded_ℕ) coded_ℕ
 
--- an entry as data: an incarnation with a change, or nothing
-abbrev pub stored : Entry → Option (ℕ × ContentChange)
-stored (Stands incarnation change) = Some (incarnation, change)
-stored Estimate = None
+-- an entry as data: an incarnation with a change, or nothing for an estimate
+abbrev pub entry_data : Entry → Option (ℕ × ContentChange)
+entry_data (Stands incarnation change) = Some (incarnation, change)
+entry_data Estimate = None
 
 -- the entry of such data
 abbrev pub restored : Option (ℕ × ContentChange) → Entry
 restored (Some told) = Stands told.0 told.1
 restored None = Estimate
 
--- such data gives the entry back
-pub restored_is : (e : Entry) → restored (stored e) ≡ e
+-- an entry that is restored from its data is the same
+pub restored_is : (e : Entry) → restored (entry_data e) ≡ e
 restored_is (Stands incarnation change) = refl
 restored_is Estimate = refl
 
--- the code of an entry
 abbrev pub coded_entry : Coded Entry
-coded_entry = code_by (Option (ℕ × ContentChange)) (coded_option (coded× coded_ℕ coded_change)) stored restored restored_is
+coded_entry = code_by (Option (ℕ × ContentChange)) (coded_option (coded× coded_ℕ coded_change)) entry_data restored restored_is

@@ -21,9 +21,9 @@ abbrev pub writer_at : ByWriter → ℕ → ℕ
 writer_at ws i = let e = slice_index_or ws i (0, slot.Vacant) in e.0
 
 -- the writers rise, so none comes twice
-abbrev pub AreAscending : ByWriter → Type 0
-AreAscending ws = IsStrictlySortedBy nat_cmp (keys_of ws)
+abbrev pub AreWritersAscending : ByWriter → Type 0
+AreWritersAscending ws = IsStrictlySortedBy nat_cmp (keys_of ws)
 
 -- the writer's slot would go at place i
-abbrev pub IsGapFor : ByWriter → ℕ → ℕ → Type 0
-IsGapFor ws writer i = IsGapBy nat_cmp ws writer i
+abbrev pub IsWriterGap : ByWriter → ℕ → ℕ → Type 0
+IsWriterGap ws writer i = IsGapBy nat_cmp ws writer i

@@ -9,21 +9,20 @@ pub enum Answer {
     /// The storage before the block; and the sum of the amounts of the versions that were passed, if any was,
     /// modulo 2^64.
     Base(Option<u64>),
-    /// A version, and the value that the key has after the passed amounts are added, or None where it has
-    /// none.
+    /// A version, and the value of the key after the passed amounts are added; None if the key has no value.
     Found(Version, Option<Value>),
     /// An estimate: the call of this index is expected to write the key again.
     Estimate(u16),
 }
 
-/// The same, where the value of a version is lent, before the passed amounts are added.
+/// What a call sees of a key, if the value of a version is lent: the passed amounts are not added yet.
 #[derive(Drop)]
 pub enum LentAnswer<'a> {
     /// The storage before the block; and the sum of the amounts of the versions that were passed, if any was,
     /// modulo 2^64.
     Base(Option<u64>),
-    /// A version, its value, or None where it removes the key, and the sum of the amounts of the versions that were passed
-    /// above it.
+    /// A version; its value, or None if it removes the key; and the sum of the amounts of the versions that were passed above it,
+    /// if any was.
     Found(Version, Option<LentValue<'a>>, Option<u64>),
     /// An estimate: the call of this index is expected to write the key again.
     Estimate(u16),

@@ -1,4 +1,4 @@
-//! Hints of where keys stand in a list.
+//! Hints of the positions of keys in a list.
 
 ghost use Rattle.std.specs.Prelude.{◌≡◌, ◌<◌, ◌≤◌, ◌⊎◌, ◌↔◌, [], IsTrue, replicate};
 ghost use Rattle.mvmap.specs.Hints.{bucket_of, hint_of, noted};
@@ -24,14 +24,14 @@ const LAST_HINT: usize = NO_HINT as usize - 1;
 pub(crate) enum Hint {
     /// Its bucket is empty, so neither it nor another key of the bucket was noted.
     Nothing,
-    /// A position at which it may stand.
+    /// A position at which the key may be.
     At(usize),
     /// There are no buckets.
     Unknown,
 }
 
-/// For each bucket of keys the position of one of them, as a hint. A hint may be wrong: a search believes it only where
-/// the key that it looks for stands there. An empty bucket is to be believed: no key of it was noted.
+/// For each bucket of keys the position of one of them, as a hint. A hint may be wrong: a search uses it only if the key that it
+/// looks for is at that position. An empty bucket is reliable: no key of it was noted.
 #[derive(Drop)]
 pub(crate) struct Hints {
     buckets: Vec<u16>,
@@ -59,7 +59,7 @@ impl Hints {
         }
     }
 
-    /// Makes the buckets, all of them empty. Where memory for them is refused, there are none.
+    /// Makes the buckets, all of them empty. If memory for them is refused, there are none.
     pub(crate) fn open(&mut self)
         ensures { (self.new.buckets.items ≡ []) ⊎ (self.new.buckets.items ≡ replicate BUCKET_COUNT NO_HINT) }
     {
@@ -67,8 +67,8 @@ impl Hints {
         let _ = self.buckets.resize(BUCKET_COUNT, NO_HINT);
     }
 
-    /// Notes the position of a key as its bucket's hint, unless the bucket has one, and answers whether it
-    /// did. In place of a position past the last that a hint can say, that last one is noted, and the answer is no.
+    /// Notes the position of a key as the hint of its bucket, unless the bucket has one, and returns whether it did. A position
+    /// past the last that a hint can say is noted as that last one, and then the answer is no.
     #[inline(always)]
     pub(crate) fn note(&mut self, key: &Key, position: usize) -> bool
         ensures buckets { self.new.buckets.items ≡ noted self.old.buckets.items key.now position }

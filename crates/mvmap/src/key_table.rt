@@ -1,9 +1,10 @@
-//! The slots at each key, in a list. Hints say where most keys stand in it, and a tree says it of the others.
+//! The slots at each key, in a list. Hints say the positions of most keys in it, and a tree says those of the others.
 
 ghost use Rattle.std.specs.Prelude.{◌≡◌, ◌≤◌, ◌↔◌, ◌⊎◌, ℕ, [], IfOk, IsTrue, List, None, OnErr, OnOk, Some};
+ghost use Rattle.rv_ledger.specs.Positions.{position_of};
 ghost use Rattle.mvmap.specs.Hints.{hint_of, noted};
-ghost use Rattle.mvmap.specs.KeyTable.{IsIndexed, IsSetAt, by_key, key_at, position_of, positions_of, slots_in, writers_at};
-ghost use Rattle.mvmap.specs.Writers.{AreAscending};
+ghost use Rattle.mvmap.specs.KeyTable.{AreSlotsSetAt, IsKeyTableIndexed, positions_of, slot_key_at, slots_by_key, slots_in, writers_at};
+ghost use Rattle.mvmap.specs.Writers.{AreWritersAscending};
 ghost use Rattle.mvmap.specs.declared.hints.Hint.TheVariants.{At, Nothing};
 
 use crate::hints::{Hint, Hints};
@@ -13,7 +14,7 @@ use rv_ledger::Key;
 use std::alloc::{AllocError, Global};
 use std::collections::BTreeMap;
 
-/// How many keys the list has room for, once it has one. So the keys of most blocks are never moved.
+/// The number of keys that the list gets room for with its first key. So the keys of most blocks are never moved.
 const FIRST_ROOM: usize = 1024;
 
 /// A key with its slots.
@@ -39,8 +40,8 @@ impl KeyTable {
     /// No keys. Takes no memory.
     #[tactic(auto, using(crate::proofs::KeyTables::no_positions))]
     pub(crate) fn new(alloc: Global) -> KeyTable
-        ensures none { by_key result ≡ [] }
-        ensures indexed { IsIndexed result }
+        ensures none { slots_by_key result ≡ [] }
+        ensures indexed { IsKeyTableIndexed result }
     {
         KeyTable {
             list: Vec::new(alloc),
@@ -54,7 +55,7 @@ impl KeyTable {
     #[tactic(auto, using(crate::proofs::Searches::no_writers))]
     pub(crate) fn slots_at(&self, position: usize) -> &[(u16, Slot)]
         ensures all { result.now ≡ slots_in self.now.list.items position }
-        ensures ascending { AreAscending result.now }
+        ensures ascending { AreWritersAscending result.now }
     {
         match self.list.as_slice().get(position) {
             Some(slots) => slots.writers.as_slice(),
@@ -65,7 +66,7 @@ impl KeyTable {
     /// The position of a key.
     #[inline(always)]
     pub(crate) fn find(&self, key: &Key) -> Option<usize>
-        requires { IsIndexed self.now }
+        requires { IsKeyTableIndexed self.now }
         ensures { result ≡ position_of (positions_of self.now.list.items) key.now }
     {
         match self.hints.of(key) {
@@ -75,10 +76,10 @@ impl KeyTable {
         }
     }
 
-    /// Whether a key stands at a position of the list.
+    /// Whether a key is at a position of the list.
     #[inline(always)]
     fn stands_at(&self, key: &Key, position: usize) -> bool
-        ensures { IsTrue result ↔ (key_at self.now.list.items position ≡ Some key.now) }
+        ensures { IsTrue result ↔ (slot_key_at self.now.list.items position ≡ Some key.now) }
     {
         match self.list.as_slice().get(position) {
             Some(slots) => slots.key == *key,
@@ -86,7 +87,7 @@ impl KeyTable {
         }
     }
 
-    /// The position that the tree says.
+    /// The position that the tree says for a key.
     #[inline(never)]
     fn search(&self, key: &Key) -> Option<usize>
         ensures { result ≡ position_of self.now.others.entries key.now }
@@ -97,15 +98,14 @@ impl KeyTable {
         }
     }
 
-    /// The position of a key, which is added without slots where it is new. Refused where memory ran out, and
-    /// then nothing changes.
+    /// The position of a key. A new key is added without slots. Refused if memory ran out, and then nothing changes.
     pub(crate) fn position_for(&mut self, key: &Key) -> Result<usize, AllocError>
-        requires { IsIndexed self.old }
-        ensures indexed { IsIndexed self.new }
+        requires { IsKeyTableIndexed self.old }
+        ensures indexed { IsKeyTableIndexed self.new }
         ensures position { IfOk result (λ position. position_of (positions_of self.new.list.items) key.now ≡ Some position) }
-        ensures set { OnOk result (IsSetAt (by_key self.old) (by_key self.new) key.now (writers_at (by_key self.old) key.now)) }
+        ensures set { OnOk result (AreSlotsSetAt (slots_by_key self.old) (slots_by_key self.new) key.now (writers_at (slots_by_key self.old) key.now)) }
         ensures absent { OnErr result (position_of (positions_of self.old.list.items) key.now ≡ None) }
-        ensures unchanged { OnErr result (by_key self.new ≡ by_key self.old) }
+        ensures unchanged { OnErr result (slots_by_key self.new ≡ slots_by_key self.old) }
     {
         match self.find(key) {
             Some(position) => Ok(position),
@@ -113,17 +113,17 @@ impl KeyTable {
         }
     }
 
-    /// Adds a key that is not there, without slots, and answers its position. Room in the list is made first, so
-    /// that nothing changes where memory ran out. The buckets of hints are made with the first key alone, so that no
-    /// key has an empty one. Where memory for them is refused, the tree has all keys until the table is cleared.
+    /// Adds a key that is not there, without slots, and returns its position. Room in the list is made first, so that nothing
+    /// changes if memory ran out. The buckets of hints are made only with the first key, so that no key of the table has an empty
+    /// bucket. If memory for them is refused, the tree has all keys until the table is cleared.
     #[inline(never)]
     fn add(&mut self, key: &Key) -> Result<usize, AllocError>
-        requires indexed { IsIndexed self.old }
+        requires indexed { IsKeyTableIndexed self.old }
         requires absent { position_of (positions_of self.old.list.items) key.now ≡ None }
-        ensures indexed { IsIndexed self.new }
+        ensures indexed { IsKeyTableIndexed self.new }
         ensures position { IfOk result (λ position. position_of (positions_of self.new.list.items) key.now ≡ Some position) }
-        ensures set { OnOk result (IsSetAt (by_key self.old) (by_key self.new) key.now []) }
-        ensures unchanged { OnErr result (by_key self.new ≡ by_key self.old) }
+        ensures set { OnOk result (AreSlotsSetAt (slots_by_key self.old) (slots_by_key self.new) key.now []) }
+        ensures unchanged { OnErr result (slots_by_key self.new ≡ slots_by_key self.old) }
     {
         self.list
             .reserve(if self.list.is_empty() { FIRST_ROOM } else { 1 })?;
@@ -139,9 +139,9 @@ impl KeyTable {
         Ok(position)
     }
 
-    /// Notes where a key will stand: as the hint of its bucket, or in the tree where that bucket has a hint already,
-    /// where there are no buckets, or where the position is past the last that a hint can say. Refused where memory
-    /// for the tree ran out.
+    /// Notes the position that a key will have: as the hint of its bucket, or in the tree. The position goes into the tree if the
+    /// bucket has a hint already, if there are no buckets, or if the position is past the last that a hint can say. Refused if
+    /// memory for the tree ran out.
     #[inline(always)]
     fn note_position(&mut self, key: &Key, position: usize) -> Result<(), AllocError>
         ensures list { self.new.list ≡ self.old.list }
@@ -160,8 +160,8 @@ impl KeyTable {
     /// Removes all keys. Room in the list stays. Takes no memory.
     #[tactic(auto, using(crate::proofs::KeyTables::no_positions))]
     pub(crate) fn clear(&mut self)
-        ensures none { by_key self.new ≡ [] }
-        ensures indexed { IsIndexed self.new }
+        ensures none { slots_by_key self.new ≡ [] }
+        ensures indexed { IsKeyTableIndexed self.new }
     {
         self.list.clear();
         self.hints.clear();

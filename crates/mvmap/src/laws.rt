@@ -7,14 +7,13 @@ pub fn depends_on_lower_writers()
     ensures { DependsOnLowerWriters }
 {}
 
-/// Changing an estimate, to any other entry or to none, alters no standing read: each read that stands
-/// still stands, with the same answer.
+/// If an estimate is changed, to any other entry or to none, each read that stands still stands, with the same answer.
 pub fn changes_no_standing_read()
     ensures { ChangesNoStandingRead }
 {}
 
-/// If a read stands, what is seen has that very origin, and each version that the origin names is in the map
-/// at its incarnation, of a writer below the reader.
+/// If a read stands, what is seen has that very origin. Each version that the origin names is in the map at its incarnation, and
+/// its writer is below the reader.
 pub fn names_what_stands()
     ensures { NamesWhatStands }
 {}

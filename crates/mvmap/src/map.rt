@@ -25,7 +25,7 @@ impl Model for MvMap {
     ghost use Rattle.std.specs.FinSet as set;
     ghost use Rattle.mvmap.specs.Versions.{coded_entry, coded_place, place_cmp};
     ghost use Rattle.mvmap.specs.Table.{Table};
-    ghost use Rattle.mvmap.specs.Slots.{ArePlaced, places_of, versions_of};
+    ghost use Rattle.mvmap.specs.Slots.{AreSlotsPlaced, places_of, versions_of};
 
     ghost Value = { Table };
 
@@ -33,7 +33,7 @@ impl Model for MvMap {
 
     ghost view = { λ m. record { versions = versions_of m.arena.records m.slots; places = places_of m.slots; arena = m.arena } };
 
-    ghost invariant = { λ m. ArePlaced m.arena.records m.slots };
+    ghost invariant = { λ m. AreSlotsPlaced m.arena.records m.slots };
 }
 
 impl MvMap {
@@ -43,7 +43,7 @@ impl MvMap {
     ghost use Rattle.std.specs.List.{All};
     ghost use Rattle.std.specs.FinMap as map;
     ghost use Rattle.std.specs.FinSet as set;
-    ghost use Rattle.version_arena.specs.ArenaState.{bytes_of, emptied, with_record};
+    ghost use Rattle.version_arena.specs.ArenaState.{change_size, emptied, with_record};
     ghost use Rattle.version_arena.specs.declared.fault.ReserveFault.TheVariants.{ArenaFull};
     ghost use Rattle.mvmap.specs.Versions.{Estimate, HasNoEstimate, Place, Stands, entry_at};
     ghost use Rattle.mvmap.specs.Reading.{is_origin, reading, value_seen};
@@ -77,9 +77,9 @@ impl MvMap {
         left
     }
 
-    /// What the call of index `i` sees of a key. From the highest call below `i` downwards it passes the
-    /// versions that add an amount, and writes them into `passed`, in room that must be there. It ends at a
-    /// value or a removal, at an estimate, or at Base where no lower call has an entry. Takes no memory.
+    /// What the call of index `i` sees of a key. From the highest call below `i` downwards it passes the versions that add an
+    /// amount, and writes them into `passed`, in room that must be there. It ends at a value or a removal, at an estimate, or at
+    /// Base if no further call down has an entry. Takes no memory.
     pub fn read(&self, key: &Key, i: u16, passed: &mut Vec<Version>) -> Answer
         requires { i ≤ vec_capacity passed.old }
         ensures tells { Tells result passed.new.items (reading self.now.versions key.now i) }
@@ -95,7 +95,7 @@ impl MvMap {
         }
     }
 
-    /// The same, where the value of a version is lent and no amount is added yet.
+    /// The same, but the value of a version is lent and no amount is added yet.
     pub fn read_lent(&self, key: &Key, i: u16, passed: &mut Vec<Version>) -> LentAnswer<'_>
         requires { i ≤ vec_capacity passed.old }
         ensures tells { Tells (added result) passed.new.items (reading self.now.versions key.now i) }
@@ -105,19 +105,18 @@ impl MvMap {
         walk(self.slots.at(key), &self.arena, i, passed)
     }
 
-    /// Whether what the call of index `i` sees of a key has this origin: it passes these very versions, and
-    /// finds that very version below them, or the storage before the block. Where it meets an estimate it has
-    /// none. Takes no memory.
+    /// Whether what the call of index `i` sees of a key has this origin: it passes these very versions, and finds that very
+    /// version below them, or the storage before the block. If it meets an estimate, it has no origin. Takes no memory.
     pub fn still_has(&self, key: &Key, i: u16, origin: &Origin) -> bool
         ensures { result ≡ is_origin origin.now (reading self.now.versions key.now i) }
     {
         has_walk(self.slots.at(key), &self.arena, i, origin)
     }
 
-    /// Makes room for an entry of call `i` at the key of each of these writes, beside the room that was made before,
-    /// and for `records` more records with `bytes` bytes of values. Refused as ArenaFull exactly where
-    /// there would be more than 1,048,576 records: this is tested first, and nothing changes. Refused as
-    /// Memory where memory ran out: then some entries may have got room, and nothing else changes.
+    /// Makes room for an entry of call `i` at the key of each of these writes, beside the room that was made before, and for
+    /// `records` more records with `bytes` bytes of values. Refused as ArenaFull exactly if there would be more than 1,048,576
+    /// records: this is tested first, and nothing changes. Refused as Memory if memory ran out: then some entries may have got
+    /// room, and nothing else changes.
     pub fn reserve_for(
         &mut self,
         writes: &[(Key, Change<StoredValue>)],
@@ -149,7 +148,7 @@ impl MvMap {
     pub fn publish(&mut self, key: &Key, writer: u16, incarnation: u16, change: Change<&Value>)
         requires place { IsTrue (set.contains self.old.places (key.now, writer)) }
         requires room { 1 ≤ self.old.arena.room }
-        requires bytes { bytes_of (change_copied change) ≤ self.old.arena.bytes }
+        requires bytes { change_size (change_copied change) ≤ self.old.arena.bytes }
         ensures versions { self.new.versions ≡ map.insert self.old.versions (key.now, writer) (Stands incarnation (change_copied change.entry)) }
         ensures places { self.new.places ≡ self.old.places }
         ensures arena { self.new.arena ≡ with_record writer incarnation (change_copied change.entry) self.old.arena }
@@ -167,7 +166,7 @@ impl MvMap {
     )
         requires place { IsTrue (set.contains self.old.places (key.now, writer)) }
         requires room { 1 ≤ self.old.arena.room }
-        requires bytes { bytes_of (lent_change change) ≤ self.old.arena.bytes }
+        requires bytes { change_size (lent_change change) ≤ self.old.arena.bytes }
         ensures versions { self.new.versions ≡ map.insert self.old.versions (key.now, writer) (Stands incarnation (lent_change change.entry)) }
         ensures places { self.new.places ≡ self.old.places }
         ensures arena { self.new.arena ≡ with_record writer incarnation (lent_change change.entry) self.old.arena }
@@ -176,7 +175,7 @@ impl MvMap {
         self.slots.put(key, writer, Slot::Placed(id));
     }
 
-    /// Removes the entry of a call at a key; nothing changes where there is none. Takes no memory.
+    /// Removes the entry of a call at a key; nothing changes if there is none. Takes no memory.
     pub fn withdraw(&mut self, key: &Key, writer: u16)
         ensures { self.new ≡ record self.old { versions = map.remove self.old.versions (key.now, writer) } }
     {
@@ -200,9 +199,8 @@ impl MvMap {
         self.arena.len()
     }
 
-    /// Applies the versions to a storage: then each key has what a call above all writers sees of it. No
-    /// entry may be an estimate. Refused where memory ran out, and then the storage is to be dropped,
-    /// since it may have some of the versions.
+    /// Applies the versions to a storage: then each key has what a call above all writers sees of it. No entry may be an
+    /// estimate. Refused if memory ran out: then the storage must be dropped, since it may have some of the versions.
     pub fn snapshot_into(&self, store: &mut Store) -> Result<(), AllocError>
         requires { HasNoEstimate self.now.versions }
         ensures { OnOk result ((key : List ℕ) (i : ℕ) → ((w : ℕ) → i ≤ w → entry_at self.now.versions key w ≡ None) → map.get store.new key ≡ value_seen (map.get store.old key) (reading self.now.versions key i)) }

@@ -3,7 +3,7 @@
 ghost use Rattle.std.specs.Prelude.{◌≡◌, ◌≤◌, ◌<◌, ◌-◌, ℕ, IsTrue, length};
 ghost use Rattle.mvmap.specs.Answers.{IsNearest};
 ghost use Rattle.mvmap.specs.Slots.{ArePlacedIn, seen_in};
-ghost use Rattle.mvmap.specs.Writers.{AreAscending, writer_at};
+ghost use Rattle.mvmap.specs.Writers.{AreWritersAscending, writer_at};
 ghost use Rattle.mvmap.specs.declared.seek.Nearest.TheVariants.{Standing};
 
 use crate::slot::Slot;
@@ -22,10 +22,10 @@ pub(crate) enum Nearest<'a> {
     Waiting(u16),
 }
 
-/// The nearest entry below the call of index `i` among the slots at a key: what is in the highest slot of a
-/// lower call that is not vacant. It searches for the lower calls once, and walks down from there. `hint` is the number of
-/// lower calls where the caller guesses it; after a version it is how many slots are below that, so that a further search
-/// from there on takes no time.
+/// The nearest entry below the call of index `i` among the slots at a key: the content of the highest slot of a lower call that
+/// is not vacant. It searches for the lower calls once, and walks down from there. `hint` is the caller's guess of the number of
+/// lower calls. After a version it is the number of slots below that version, so that a further search from there on takes no
+/// time.
 #[inline(always)]
 pub(crate) fn seek<'a>(
     at_key: &[(u16, Slot)],
@@ -33,7 +33,7 @@ pub(crate) fn seek<'a>(
     i: u16,
     hint: &mut usize,
 ) -> Nearest<'a>
-    requires ascending { AreAscending at_key.now }
+    requires ascending { AreWritersAscending at_key.now }
     requires placed { ArePlacedIn arena.now.records at_key.now }
     ensures { IsNearest result (seen_in arena.now.records at_key.now) i }
 {
@@ -53,11 +53,11 @@ pub(crate) fn seek<'a>(
     Nearest::Nothing
 }
 
-/// How many slots at a key are of calls below the call of index `i`: they come first. The last two slots are looked
-/// at first: calls come for the most part in block order, so the slot that is looked for is one of the last. Then the
-/// number that the caller guesses is looked at.
+/// How many slots at a key are of calls below the call of index `i`: they come first. The last two slots are looked at first:
+/// most calls come in block order, so the slot that is looked for is one of the last. Then the number that the caller guesses is
+/// looked at.
 fn count_below(at_key: &[(u16, Slot)], i: u16, hint: usize) -> usize
-    requires { AreAscending at_key.now }
+    requires { AreWritersAscending at_key.now }
     ensures bound { result ≤ length at_key.now }
     ensures below { (place : ℕ) → place < result → writer_at at_key.now place < i }
     ensures above { (place : ℕ) → result ≤ place → place < length at_key.now → i ≤ writer_at at_key.now place }
@@ -70,8 +70,8 @@ fn count_below(at_key: &[(u16, Slot)], i: u16, hint: usize) -> usize
     }
 }
 
-/// Whether the slot before a place is of a call below the call of index `i`, and the one at it is not: so the slots of
-/// lower calls end there.
+/// Whether the slot before a place is of a call below the call of index `i`, and the one at it is not. So the slots of lower
+/// calls end there.
 fn is_cut(at_key: &[(u16, Slot)], i: u16, place: usize) -> bool
     ensures bound { IsTrue result → place ≤ length at_key.now }
     ensures below { IsTrue result → 0 < place → writer_at at_key.now (place - 1) < i }
@@ -86,7 +86,7 @@ fn is_cut(at_key: &[(u16, Slot)], i: u16, place: usize) -> bool
     place == at_key.len() || at_key[place].0 >= i
 }
 
-/// The entry that a record of a call is: its version, with what it did to the key.
+/// The entry of a call's record: its version, with what it did to the key.
 fn standing<'a>(writer: u16, version_record: Record<'a>) -> Nearest<'a>
     ensures { result ≡ Standing (record { writer = writer; incarnation = version_record.entry.incarnation }) version_record.entry.change }
 {

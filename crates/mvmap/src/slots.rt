@@ -5,8 +5,8 @@ ghost use Rattle.std.specs.Option.{option_map};
 ghost use Rattle.std.specs.List.{All};
 ghost use Rattle.std.specs.BTreeMap.{is_at};
 ghost use Rattle.mvmap.specs.Versions.{Place, place_cmp};
-ghost use Rattle.mvmap.specs.Slots.{IsOpened, slot_at};
-ghost use Rattle.mvmap.specs.Writers.{AreAscending, slot_of};
+ghost use Rattle.mvmap.specs.Slots.{AreSlotsOpened, slot_at};
+ghost use Rattle.mvmap.specs.Writers.{AreWritersAscending, slot_of};
 
 use crate::key_table::KeyTable;
 use crate::slot::Slot;
@@ -21,14 +21,14 @@ pub(crate) struct Slots {
 }
 
 impl Model for Slots {
-    ghost use Rattle.mvmap.specs.KeyTable.{IsIndexed, by_key};
-    ghost use Rattle.mvmap.specs.Slots.{Slots as ByPlace, flat};
+    ghost use Rattle.mvmap.specs.KeyTable.{IsKeyTableIndexed, slots_by_key};
+    ghost use Rattle.mvmap.specs.Slots.{SlotsByPlace, flat};
 
-    ghost Value = { ByPlace };
+    ghost Value = { SlotsByPlace };
 
-    ghost view = { λ s. flat (by_key s.table) };
+    ghost view = { λ s. flat (slots_by_key s.table) };
 
-    ghost invariant = { λ s. IsIndexed s.table };
+    ghost invariant = { λ s. IsKeyTableIndexed s.table };
 }
 
 impl Slots {
@@ -46,7 +46,7 @@ impl Slots {
     #[inline(always)]
     pub(crate) fn at(&self, key: &Key) -> &[(u16, Slot)]
         ensures slots { (w : ℕ) → slot_at self.now (key.now, w) ≡ slot_of result.now w }
-        ensures ascending { AreAscending result.now }
+        ensures ascending { AreWritersAscending result.now }
     {
         match self.table.find(key) {
             Some(position) => self.table.slots_at(position),
@@ -54,14 +54,14 @@ impl Slots {
         }
     }
 
-    /// Makes a slot of a call at the key of each of these writes, where it has none. Refused where memory ran out,
-    /// and then some of the slots may have been made.
+    /// Makes a slot of a call at the key of each of these writes, if it has none there. Refused if memory ran out: then some of
+    /// the slots may have been made.
     pub(crate) fn open_all(
         &mut self,
         writes: &[(Key, Change<StoredValue>)],
         writer: u16,
     ) -> Result<(), AllocError>
-        ensures opened { IsOpened self.old self.new }
+        ensures opened { AreSlotsOpened self.old self.new }
         ensures ok { OnOk result (All (λ write. IsSome (slot_at self.new (write.0, writer))) writes.now) }
         ensures elsewhere { (place : Place) → All (λ write. (write.0, writer) ≢ place) writes.now → slot_at self.new place ≡ slot_at self.old place }
         ensures succeeds { All (λ write. IsSome (slot_at self.old (write.0, writer))) writes.now → result ≡ Ok tt }
@@ -72,9 +72,9 @@ impl Slots {
         Ok(())
     }
 
-    /// Makes a vacant slot of a call at a key, if none is there; refused where memory ran out.
+    /// Makes a vacant slot of a call at a key, if none is there. Refused if memory ran out.
     fn open(&mut self, key: &Key, writer: u16) -> Result<(), AllocError>
-        ensures opened { IsOpened self.old self.new }
+        ensures opened { AreSlotsOpened self.old self.new }
         ensures ok { OnOk result (IsSome (slot_at self.new (key.now, writer))) }
         ensures elsewhere { (place : Place) → (key.now, writer) ≢ place → slot_at self.new place ≡ slot_at self.old place }
         ensures succeeds { IsSome (slot_at self.old (key.now, writer)) → result ≡ Ok tt }
@@ -83,7 +83,7 @@ impl Slots {
         self.table.list[position].writers.open(writer)
     }
 
-    /// Writes into the slot of a call at a key; nothing changes where there is none.
+    /// Writes into the slot of a call at a key; nothing changes if there is none.
     #[inline(always)]
     pub(crate) fn put(&mut self, key: &Key, writer: u16, slot: Slot)
         ensures { (place : Place) → slot_at self.new place ≡ cond (is_at (place_cmp (key.now, writer)) place) (option_map (λ _. slot) (slot_at self.old place)) (slot_at self.old place) }

@@ -17,8 +17,8 @@ use rv_ledger::{Change, Key, LentValue, Store};
 use std::alloc::AllocError;
 use version_arena::Arena;
 
-/// Applies the versions to a storage, key by key, and at each key by writer. Refused where memory ran out, and then
-/// the storage is to be dropped.
+/// Applies the versions to a storage, key by key, and at each key by writer. Refused if memory ran out: then the storage must be
+/// dropped.
 pub(crate) fn apply_slots(slots: &Slots, arena: &Arena, store: &mut Store) -> Result<(), AllocError>
     ensures values { OnOk result ((key : List ℕ) → map.get store.new key ≡ value_over_slots arena.now.records slots.now key (map.get store.old key)) }
     ensures ordered { OnOk result (IsStrictlySortedBy place_cmp (keys_of slots.now)) }
@@ -30,8 +30,7 @@ pub(crate) fn apply_slots(slots: &Slots, arena: &Arena, store: &mut Store) -> Re
     Ok(())
 }
 
-/// Applies the versions of the slots at a key to a storage. Refused where memory ran out, and then the storage
-/// is to be dropped.
+/// Applies the versions of the slots at a key to a storage. Refused if memory ran out: then the storage must be dropped.
 fn apply_at_key(
     at_key: &[(u16, Slot)],
     arena: &Arena,
@@ -46,8 +45,8 @@ fn apply_at_key(
     Ok(())
 }
 
-/// Applies the version of a slot to a storage; a vacant slot or an estimate changes nothing. Refused
-/// where memory ran out, and then the storage is to be dropped.
+/// Applies the version of a slot to a storage; a vacant slot or an estimate changes nothing. Refused if memory ran out: then the
+/// storage must be dropped.
 fn apply_slot(slot: &Slot, arena: &Arena, key: &Key, store: &mut Store) -> Result<(), AllocError>
     ensures { OnOk result ((k : List ℕ) → map.get store.new k ≡ cond (eq_by_cmp key_cmp k key.now) (value_over (map.get store.old k) (entry_of arena.now.records slot.now)) (map.get store.old k)) }
 {
@@ -60,7 +59,7 @@ fn apply_slot(slot: &Slot, arena: &Arena, key: &Key, store: &mut Store) -> Resul
     write(key, &record.change, store)
 }
 
-/// Makes a change to a key of a storage. Refused where memory ran out, and then the storage is to be dropped.
+/// Makes a change to a key of a storage. Refused if memory ran out: then the storage must be dropped.
 fn write(key: &Key, change: &Change<LentValue>, store: &mut Store) -> Result<(), AllocError>
     ensures { OnOk result ((k : List ℕ) → map.get store.new k ≡ cond (eq_by_cmp key_cmp k key.now) (apply_change (lent_change change.now) (map.get store.old k)) (map.get store.old k)) }
 {

@@ -8,7 +8,7 @@ ghost use Rattle.mvmap.specs.Answers.{Tells, added, with_amount};
 ghost use Rattle.mvmap.specs.Laws.{total_amount};
 ghost use Rattle.mvmap.specs.Reading.{Found, Passed, Visible, is_origin, is_walk};
 ghost use Rattle.mvmap.specs.Slots.{ArePlacedIn, seen_in, walk_after};
-ghost use Rattle.mvmap.specs.Writers.{AreAscending};
+ghost use Rattle.mvmap.specs.Writers.{AreWritersAscending};
 
 use crate::answer::LentAnswer;
 use crate::seek::{Nearest, seek};
@@ -25,7 +25,7 @@ pub(crate) fn walk<'a>(
     i: u16,
     passed: &mut Vec<Version>,
 ) -> LentAnswer<'a>
-    requires ascending { AreAscending at_key.now }
+    requires ascending { AreWritersAscending at_key.now }
     requires placed { ArePlacedIn arena.now.records at_key.now }
     requires room { i ≤ vec_capacity passed.old }
     ensures tells { Tells (added result) passed.new.items (seen_in arena.now.records at_key.now i) }
@@ -58,7 +58,7 @@ pub(crate) fn walk<'a>(
 /// Whether what the call of index `i` sees of a key with these slots has this origin. It compares while it
 /// walks.
 pub(crate) fn has_walk(at_key: &[(u16, Slot)], arena: &Arena, i: u16, origin: &Origin) -> bool
-    requires ascending { AreAscending at_key.now }
+    requires ascending { AreWritersAscending at_key.now }
     requires placed { ArePlacedIn arena.now.records at_key.now }
     ensures { result ≡ is_origin origin.now (seen_in arena.now.records at_key.now i) }
 {

@@ -3,7 +3,7 @@
 ghost use Rattle.std.specs.Prelude.{◌≡◌, ◌≤◌, ◌==◌, ℕ, [], IfErr, IfOk, IsSome, Ok, OnErr, OnOk, Some, insert, length, if◌then◌else◌};
 ghost use Rattle.std.specs.Option.{option_map, unwrap_or};
 ghost use Rattle.rv_ledger.specs.Entries.{IsAt};
-ghost use Rattle.mvmap.specs.Writers.{AreAscending, IsGapFor, slot_of};
+ghost use Rattle.mvmap.specs.Writers.{AreWritersAscending, IsWriterGap, slot_of};
 ghost use Rattle.mvmap.specs.declared.slot.Slot.TheVariants.{Vacant};
 
 use crate::slot::Slot;
@@ -21,13 +21,13 @@ pub(crate) struct WriterSlots {
 }
 
 impl Model for WriterSlots {
-    ghost use Rattle.mvmap.specs.Writers.{AreAscending, ByWriter};
+    ghost use Rattle.mvmap.specs.Writers.{AreWritersAscending, ByWriter};
 
     ghost Value = { ByWriter };
 
     ghost view = { λ w. w.slots.items };
 
-    ghost invariant = { λ w. AreAscending w.slots.items };
+    ghost invariant = { λ w. AreWritersAscending w.slots.items };
 }
 
 impl WriterSlots {
@@ -44,13 +44,12 @@ impl WriterSlots {
     /// The slots, each after the index of its call.
     pub(crate) fn as_slice(&self) -> &[(u16, Slot)]
         ensures all { result.now ≡ self.now }
-        ensures ascending { AreAscending self.now }
+        ensures ascending { AreWritersAscending self.now }
     {
         self.slots.as_slice()
     }
 
-    /// Makes a vacant slot of a call, if it has none. Refused where memory ran out, and then nothing
-    /// changes.
+    /// Makes a vacant slot of a call, if it has none. Refused if memory ran out, and then nothing changes.
     pub(crate) fn open(&mut self, writer: u16) -> Result<(), AllocError>
         ensures ok { OnOk result ((w : ℕ) → slot_of self.new w ≡ (if writer == w then Some (unwrap_or (slot_of self.old w) Vacant) else slot_of self.old w)) }
         ensures err { OnErr result (self.new ≡ self.old) }
@@ -62,7 +61,7 @@ impl WriterSlots {
         }
     }
 
-    /// Writes into the slot of a call; nothing changes where it has none.
+    /// Writes into the slot of a call; nothing changes if it has none.
     pub(crate) fn put(&mut self, writer: u16, slot: Slot)
         ensures { (w : ℕ) → slot_of self.new w ≡ (if writer == w then option_map (λ _. slot) (slot_of self.old w) else slot_of self.old w) }
     {
@@ -72,11 +71,11 @@ impl WriterSlots {
         }
     }
 
-    /// Where the slot of a call is, or where it would go. The last slot is looked at first: calls come for the most
-    /// part in block order, so the slot is the last one or goes after it.
+    /// The place of the slot of a call, or as an Err the place at which it would go. The last slot is looked at first: most calls
+    /// come in block order, so the slot is the last one or goes after it.
     fn search(&self, writer: u16) -> Result<usize, usize>
         ensures found { IfOk result (IsAt self.now writer) }
-        ensures absent { IfErr result (IsGapFor self.now writer) }
+        ensures absent { IfErr result (IsWriterGap self.now writer) }
     {
         let slots = self.slots.as_slice();
         match slots.last() {
@@ -87,8 +86,8 @@ impl WriterSlots {
     }
 }
 
-/// Inserts a vacant slot of a call before the slot at a place, or at the end, where most go and none is moved. Refused where
-/// memory ran out, and then nothing changes.
+/// Inserts a vacant slot of a call before the slot at a place, or at the end. Most go at the end, so that no slot is moved.
+/// Refused if memory ran out, and then nothing changes.
 fn insert_vacant(
     slots: &mut SmallVec<(u16, Slot), IN_PLACE>,
     at: usize,

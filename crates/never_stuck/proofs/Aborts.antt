@@ -1,4 +1,4 @@
--- An abort that a worker alone goes on with: the keys of its call are marked, and the call is readied or run again.
+-- An abort that only one worker continues: the keys of its call are marked, and the call is readied or run again.
 use Rattle.std.proofs.Common.{◌≡◌, ◌<◌, ◌≤◌, ◌+◌, min, nat_lt, ℕ, true, false, List, [], ◌∷◌, length, None, Some, Ok, arith, refl, ap, ◌∙◌, inl, inr}
 use Rattle.std.proofs.lemmas.Bool.{cases_Bool, cond-true, cond-false}
 use Rattle.std.proofs.lemmas.List.{get_or-set_same, get_or-set_other}
@@ -48,7 +48,7 @@ module _ (w i : ℕ) (s : State) where
     not_below = omega arith;
   }
 
--- what a mark leaves to come
+-- the same from the state before a key is marked
 after_mark : (w i : ℕ) (s u t : State) → OnlyCall w i s u → call_at u i ≡ call_at s i → AbortOutcome w i u t → AbortOutcome w i s t
 after_mark w i s u t only same (runs_again kept at up) = runs_again (kept_on w i s u t (call_kept w i s u only) kept) at (up ∙ ap (λ (c : CallState). c.incarnation + 1) same)
 after_mark w i s u t only same (readies kept at up above) =

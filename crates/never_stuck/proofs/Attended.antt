@@ -1,4 +1,4 @@
--- Where nobody has a task, worker 0 alone has the next call run, or validated and, if need be, run again.
+-- If nobody has a task, worker 0 alone has the next call run, or validated and, if need be, run again.
 use Rattle.std.proofs.Common.{◌≡◌, ◌≢◌, ◌<◌, ◌≤◌, ◌+◌, ◌*◌, ℕ, true, false, [], length, None, Some, Ok, arith, refl, sym, ap, subst, ◌∙◌, inl, inr}
 use Rattle.std.proofs.lemmas.Bool.{cases_eq, cases_lt}
 use Rattle.std.proofs.lemmas.List.{get_or-set_same, get_or-set_other}
@@ -8,7 +8,7 @@ use Rattle.stm_state.specs.declared.state.Task.{Task}
 use Rattle.stm_state.specs.declared.state.Task.TheVariants.{Idle, Running, Validating}
 use Rattle.stm_state.specs.Limits.{incarnation_limit}
 use Rattle.stm_state.specs.State.{State, fresh, call_at, task_at, with_call, with_task}
-use Rattle.stm_state.specs.Steps.{counted, one_asking, reads_of}
+use Rattle.stm_state.specs.Steps.{counted, one_asking, recorded_reads}
 use Rattle.never_stuck.proofs.UnstuckGoals.{Setting, block}
 use Rattle.never_stuck.proofs.OwedLists.{Comes, comes_here, comes_so}
 use Rattle.never_stuck.proofs.Kept.{OnlyTask, OnlyCall, Kept, Stays, task_kept, call_kept, kept_on, stays_on}
@@ -19,8 +19,8 @@ use Rattle.never_stuck.proofs.Aborts.{AbortOutcome, runs_again, readies, abort_e
 use Rattle.never_stuck.proofs.Tasks.{FreshOutcome, executes, parks_call, fresh_ends, same_call}
 use Rattle.never_stuck.proofs.IdleStates.{below_executed, asks_validation, asks_run}
 
--- nobody has a task; the other calls stay, or were ABORTING and are readied; call i's incarnation grows by at most so much; the
--- execution index is the one that is given; and the validation index is past call i
+-- nobody has a task; the other calls stay, or were ABORTING and are readied; call i's incarnation grows by at most `grown`; the
+-- execution index is `execution`; and the validation index is past call i
 pub record Attended (i grown execution : ℕ) (s t : State) : Type 0 where
   pub idle : (x : ℕ) → task_at t x ≡ Idle
   pub others : (j : ℕ) → j ≢ i → Stays (call_at s j) (call_at t j)
@@ -28,14 +28,14 @@ pub record Attended (i grown execution : ℕ) (s t : State) : Type 0 where
   pub runs_from : t.execution ≡ execution
   pub checks_from : i < t.validation
 
--- all workers but worker 0 have no task
+-- all workers except worker 0 have no task
 abbrev OthersIdle : State → Type 0
 OthersIdle s = (x : ℕ) → x ≢ 0 → task_at s x ≡ Idle
 
 all_idle : (i : ℕ) (s t : State) → Kept 0 i s t → OthersIdle s → task_at t 0 ≡ Idle → (x : ℕ) → task_at t x ≡ Idle
 all_idle i s t kept others at x = elim (cases_eq x 0) [ inl e ↦ ap (task_at t) e ∙ at | inr ne ↦ kept.tasks x ne ∙ others x ne ]
 
--- all calls below the execution index but call i are EXECUTED
+-- all calls below the execution index except call i are EXECUTED
 abbrev IsClearBut : ℕ → State → Type 0
 IsClearBut i s = (j : ℕ) → j < s.execution → j ≢ i → (call_at s j).status ≡ Executed
 
@@ -43,7 +43,7 @@ executed_stays : (before after : CallState) → Stays before after → before.st
 executed_stays before after (inl same) done = ap (λ (c : CallState). c.status) same ∙ done
 executed_stays before after (inr readied) done = let other = readied.0 in cc
 
--- then a task of call i leaves the execution index
+-- if so, a task of call i leaves the execution index as it is
 index_stays : (i : ℕ) (s t : State) → Kept 0 i s t → IsClearBut i s → t.execution ≡ s.execution
 index_stays i s t kept clear = elim kept.execution [ inl same ↦ same | inr lower ↦ let done = clear t.execution lower.0 lower.1 in let aborts = lower.2 in cc ]
 
@@ -51,7 +51,7 @@ clear_still : (i : ℕ) (s t : State) → Kept 0 i s t → IsClearBut i s → Is
 clear_still i s t kept clear j low ne =
     let same = index_stays i s t kept clear in executed_stays (call_at s j) (call_at t j) (kept.calls j ne) (clear j (omega (arith, low, same)) ne)
 
--- what comes before call i is attended to
+-- the same from a state before call i is attended to
 attended_after : (i grown execution : ℕ) (s t u : State) → ((j : ℕ) → j ≢ i → Stays (call_at s j) (call_at t j)) → (call_at t i).incarnation ≤ (call_at s i).incarnation + grown → t.execution ≡ execution → Attended i 0 t.execution t u → Attended i grown execution s u
 attended_after i grown execution s t u others risen runs h = record {
   idle = h.idle;
@@ -69,9 +69,9 @@ module _ (setting : Setting) (w_in : 0 < setting.workers) where
     validated_done : (call_at s s.validation).status ≡ Executed
     validated_done = below_executed (block setting) s h.inv.facts idle s.validation behind
 
-    -- worker 0 is to validate it
+    -- worker 0 gets it to validate
     abbrev check : Task
-    check = Validating s.validation (call_at s s.validation).incarnation (length (reads_of (call_at s s.validation).last)) false
+    check = Validating s.validation (call_at s s.validation).incarnation (length (recorded_reads (call_at s s.validation).last)) false
 
     abbrev to_check : State
     to_check = counted one_asking 0 (with_task 0 check (record s { validation = s.validation + 1 }))
@@ -87,7 +87,7 @@ module _ (setting : Setting) (w_in : 0 < setting.workers) where
         steps_on setting 0 w_in s h (setting.reads + 2 + m) to_check
         (due_at setting 0 s Idle (idle 0) ∙ ap (λ u. Some (Ok (counted one_asking 0 u))) (asks_validation (block setting) setting.workers s h.inv 0 behind validated_done)) refl fewer
         (λ k. comes_then setting m r k
-        (validation_ends setting 0 s.validation (call_at s s.validation).incarnation w_in (length (reads_of (call_at s s.validation).last)) false to_check k (get_or-set_same s.tasks 0 check Idle (worker_there setting s h 0 w_in)))
+        (validation_ends setting 0 s.validation (call_at s s.validation).incarnation w_in (length (recorded_reads (call_at s s.validation).last)) false to_check k (get_or-set_same s.tasks 0 check Idle (worker_there setting s h 0 w_in)))
         rest (omega arith) (omega arith))
 
     -- its validation passes
@@ -100,8 +100,8 @@ module _ (setting : Setting) (w_in : 0 < setting.workers) where
       checks_from = let on = only.validation in omega (arith, on);
     }
 
-    -- it does where the call's reads stand
-    stands_pass : AllStand s.versions s.validation (reads_of (call_at s s.validation).last) → Comes setting (Attended s.validation 0 s.execution s) (setting.reads + 3) 0 s
+    -- it passes if the call's reads stand
+    stands_pass : AllStand s.versions s.validation (recorded_reads (call_at s s.validation).last) → Comes setting (Attended s.validation 0 s.execution s) (setting.reads + 3) 0 s
     stands_pass stood = validates_next 0 (omega arith) (λ t k outcome. passes_by t outcome)
       where
         passes_by : (t : State) → ValidationOutcome 0 s.validation false to_check t → Comes setting (Attended s.validation 0 s.execution s) 0 0 t
@@ -122,7 +122,7 @@ module _ (setting : Setting) (w_in : 0 < setting.workers) where
               let most = kept.not_below in
               let level : t.validation ≡ i = omega (arith, most, checks, not_past) in
               comes_so (λ u x. attended_after i 0 s.execution s t u kept.calls up index (subst (λ y. Attended y 0 t.execution t u) level x))
-              (stands_pass t k rest (omega (arith, level, index, runs)) (subst (λ y. AllStand t.versions y (reads_of (call_at t y).last)) (sym level) stood))
+              (stands_pass t k rest (omega (arith, level, index, runs)) (subst (λ y. AllStand t.versions y (recorded_reads (call_at t y).last)) (sym level) stood))
         ]
     after_run t k (parks_call b kept now same less ne) = absurd (ne (clear b (omega (arith, less, runs)) (λ e. omega (arith, less, e))))
 
@@ -133,7 +133,7 @@ module _ (setting : Setting) (w_in : 0 < setting.workers) where
   -- ---- the next call to run
 
   module _ (s : State) (h : IsSound setting s) (idle : (x : ℕ) → task_at s x ≡ Idle) (level : s.execution ≤ s.validation) (within : s.execution < (block setting).count) (ready : (call_at s s.execution).status ≡ Ready) (low : setting.strict ≡ true → (call_at s s.execution).incarnation < incarnation_limit) where
-    -- worker 0 is to run it
+    -- worker 0 gets it to run
     abbrev begun : CallState
     begun = record (call_at s s.execution) { status = Executing }
 

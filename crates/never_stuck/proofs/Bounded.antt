@@ -17,7 +17,7 @@ use Rattle.rv_step.proofs.Receipts.{reply_taken, start_gas}
 
 -- ---- what a reply takes
 
--- where the call goes on, at least `cost` of this gas is gone
+-- if the call continues, at least `cost` of this gas is gone
 unfoldable pub Takes : (cost gas : ℕ) → Progress → Type 0
 Takes cost gas (Going t) = t.gas + cost ≤ gas
 Takes cost gas (Over end out t) = Unit {0}
@@ -28,7 +28,7 @@ module _ (cost gas : ℕ) (s : Machine) where
   memory_takes registers (Ok memory) h = h
   memory_takes registers (Err cause) h = tt
 
-  -- a charge is taken where it can be paid
+  -- a charge is taken if it can be paid
   charged_takes : (charge : ℕ) (act : Machine → Progress) → (charge ≤ s.gas → Takes cost gas (act (record s { gas = s.gas - charge }))) → Takes cost gas (charged charge s act)
   charged_takes charge act h = cond_both (nat_le charge s.gas) _ _ (λ o. Takes cost gas o) (λ pays. h (grind (arith, nat_tests))) (λ _. unfold Takes in tt)
 

@@ -1,4 +1,4 @@
--- Where nobody has a task: all calls below the execution index are EXECUTED, and what an asking comes to.
+-- If nobody has a task: all calls below the execution index are EXECUTED, and what an asking does.
 use Rattle.std.proofs.Common.{◌≡◌, ◌<◌, ◌≤◌, ◌⊎◌, ◌+◌, ◌==◌, nat_lt, ℕ, zero, suc, true, false, List, [], ◌∷◌, length, get_or, None, arith, refl, ap, ◌∙◌, inl, inr}
 use Rattle.std.specs.Cmp.Derive.{both_true}
 use Rattle.std.specs.List.{list_all}
@@ -8,7 +8,7 @@ use Rattle.stm_state.specs.declared.state.Status.TheVariants.{Ready, Executing, 
 use Rattle.stm_state.specs.declared.state.Task.{Task}
 use Rattle.stm_state.specs.declared.state.Task.TheVariants.{Idle, Running, Validating}
 use Rattle.stm_state.specs.State.{State, call_at, task_at, with_call, with_task, is_executed, is_idle, is_ready, is_done}
-use Rattle.stm_state.specs.Steps.{Block, ask_execution, ask_validation, after_ask, reads_of}
+use Rattle.stm_state.specs.Steps.{Block, ask_execution, ask_validation, after_ask, recorded_reads}
 use Rattle.stm_state.proofs.Invariant.{view_of, ViewInvariant, Invariant}
 use Rattle.stm_state.proofs.Tests.{equal_itself, lt_is, not_lt_is}
 use Rattle.stm_state.proofs.Rounds.{not_done}
@@ -43,13 +43,13 @@ module _ (block : Block) (s : State) (f : ViewInvariant block (view_of s)) (idle
 
 -- ---- an asking
 
--- where nobody has a task all are idle
+-- if nobody has a task all are idle
 all_idle : (tasks : List Task) → ((x : ℕ) → get_or tasks x Idle ≡ Idle) → list_all is_idle tasks ≡ true
 all_idle [] idle = refl
 all_idle (task ∷ tasks) idle = both_true (ap is_idle (idle 0)) (all_idle tasks (λ x. idle (suc x)))
 
 module _ (block : Block) (workers : ℕ) (s : State) (inv : Invariant block workers s) where
-  -- workers are done where both indices are past the last call and nobody has a task
+  -- workers are done if both indices are past the last call and nobody has a task
   pub done_is : s.execution ≡ block.count → s.validation ≡ block.count → ((x : ℕ) → task_at s x ≡ Idle) → is_done s ≡ true
   unfolding is_done
   done_is runs checks idle =
@@ -61,7 +61,7 @@ module _ (block : Block) (workers : ℕ) (s : State) (inv : Invariant block work
   module _ (w : ℕ) where
     -- an asking that gets a call to validate
     pub asks_validation : s.validation < s.execution → (call_at s s.validation).status ≡ Executed
-        → after_ask w s ≡ with_task w (Validating s.validation (call_at s s.validation).incarnation (length (reads_of (call_at s s.validation).last)) false) (record s { validation = s.validation + 1 })
+        → after_ask w s ≡ with_task w (Validating s.validation (call_at s s.validation).incarnation (length (recorded_reads (call_at s s.validation).last)) false) (record s { validation = s.validation + 1 })
     unfolding ask_validation
     asks_validation behind done =
         cond-false (is_done s) _ _ (not_done block workers s inv (λ o. let e = o.execution in let v = o.validation in omega (arith, behind, e, v)))
@@ -69,7 +69,7 @@ module _ (block : Block) (workers : ℕ) (s : State) (inv : Invariant block work
         ∙ cond-true (is_executed (call_at s s.validation).status) _ _ (ap is_executed done)
 
     module _ (level : s.execution ≤ s.validation) (within : s.execution < block.count) where
-      -- one that passes over to the execution index
+      -- an asking that turns to the execution index
       asks_execution : after_ask w s ≡ ask_execution w s
       asks_execution =
           let size = inv.sized.calls in

@@ -153,9 +153,9 @@ new_entry w i add task key entry s = record {
   validation = refl;
 }
 
--- ---- to where an index is lowered
+-- ---- the call to which an index is lowered
 
--- an index stays, or is lowered to a call that is parked on call i, where the first call of the list has number p
+-- an index stays, or is lowered to a call that is parked on call i; the first call of the list has number p
 abbrev pub IsLoweredTo : (i x p : ℕ) → List CallState → ℕ → Type 0
 IsLoweredTo i x p calls y = (y ≡ x) ⊎ ((y < x) × ((k : ℕ) × (y ≡ p + k) × (is_parked_on i (get_or calls k fresh) ≡ true)))
 

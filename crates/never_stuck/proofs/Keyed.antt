@@ -1,4 +1,4 @@
--- A run that was answered a key which its call does not ask for is borne out by nothing.
+-- If a run was answered a key that its call does not ask for, its answers bear out no receipt.
 use Rattle.std.proofs.Common.{◌≡◌, ◌≢◌, ◌<◌, ◌++◌, ◌+◌, ℕ, false, List, [], ◌∷◌, length, None, Some, Ok, length-set, arith, sym, ap, subst, ◌∙◌}
 use Rattle.std.proofs.lemmas.Bool.{false_from_ne_true}
 use Rattle.std.proofs.lemmas.List.{get_or-set_same, length-replicate}
@@ -14,7 +14,7 @@ use Rattle.mvmap.specs.Reading.{reading}
 use Rattle.stm_state.specs.declared.state.Status.TheVariants.{Executing}
 use Rattle.stm_state.specs.declared.state.CallState.{CallState}
 use Rattle.stm_state.specs.declared.state.Task.TheVariants.{Idle, Running}
-use Rattle.stm_state.specs.State.{State, start, fresh, call_at, task_at, with_call, with_task, is_done}
+use Rattle.stm_state.specs.State.{State, start_state, fresh, call_at, task_at, with_call, with_task, is_done}
 use Rattle.stm_state.specs.Steps.{Block, Step, Ask, ReadKey, counted, one_asking, one_step, answered_with, step_with, worker_step}
 use Rattle.stm_state.specs.Done.{Reached, started, stepped, block_of}
 use Rattle.stm_state.proofs.StepsByTask.{IsMade, by_ask, by_read, by_park, by_record, by_move, by_finish, by_check, by_decide, by_mark, by_abort, made}
@@ -91,9 +91,9 @@ module _ (call : Invocation) (store : Storage) (key : List ℕ) (never : asked_b
 
   -- ---- how it goes astray
 
-  -- the start of the block
+  -- the start state of the block
   abbrev first_state : State
-  first_state = start one_call.count 1
+  first_state = start_state one_call.count 1
 
   one_worker : 0 < length first_state.tasks
   one_worker = let size = length-replicate 1 Idle in omega (arith, size)

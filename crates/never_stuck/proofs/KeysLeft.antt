@@ -92,7 +92,7 @@ executed_few : (w : ℕ) (s : State) → AllFewKeys s → (i : ℕ) (new : Bool)
 unfolding resume_dependents
 executed_few w s h i new = to_validate_few w _ h i (call_at s i).incarnation _ new
 
--- the keys that a run is to move are at most those that it wrote and those that the run before it wrote
+-- the keys that a run must move are at most those that it wrote and those that the run before it wrote
 few_to_move : (last : Option Recorded) (writes : WriteMap) → len writes ≤ 256 → length (keys_of (written_by last)) ≤ 256 → length (keys_to_move last writes) ≤ 512
 few_to_move last writes few before =
     let p : List ℕ × ContentChange → Bool = λ write. not (contains_key writes write.0) in
@@ -112,7 +112,7 @@ few_to_move last writes few before =
 -- ---- all states
 
 module _ (setting : Setting) where
-  -- a step leaves each task with few keys, where the worker's own has few
+  -- a step leaves each task with few keys, if the worker's own task has few
   made_few : (w : ℕ) (s : State) → Invariant (block setting) setting.workers s → AllFewKeys s → HasFewKeys (task_at s w) → (step : Step) (t : State) → IsMade (block setting) w s step t → AllFewKeys t
   made_few w s inv h own step t (by_ask at) = asked_few w s h
   made_few w s inv h own step t (by_read i answers key at) = read_few w s h setting.store key i answers

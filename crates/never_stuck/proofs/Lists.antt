@@ -8,7 +8,7 @@ use Rattle.rv_ledger.specs.Call.{Invocation}
 use Rattle.stm_state.specs.declared.state.Task.{Task}
 use Rattle.stm_state.specs.declared.state.Task.TheVariants.{Idle, Running}
 use Rattle.stm_state.specs.Limits.{incarnation_limit}
-use Rattle.stm_state.specs.State.{State, start, task_at}
+use Rattle.stm_state.specs.State.{State, start_state, task_at}
 use Rattle.stm_state.specs.Steps.{Limit}
 use Rattle.stm_state.specs.Done.{Reached}
 use Rattle.stm_state.specs.Drive.{DrivenTo, at_start, made_step, NotDone, BadWorker, continue_drive, due_result, driven, drive_of}
@@ -33,7 +33,7 @@ module _ (setting : Setting) (s : State) where
   sound_where_led : DrivenTo setting.calls setting.store setting.workers s → IsSound setting s
   sound_where_led led = sound_where (reached_where_led setting.calls setting.store setting.workers s led) (all_go setting.calls setting.store setting.workers s led)
 
--- where each run goes on, so does each task's
+-- if each run can continue, so can the run of each task
 module _ (calls : List Invocation) (s : State) (on : RunsGoOn calls s) where
   goes_by : (w : ℕ) (task : Task) → task_at s w ≡ task → Goes calls task
   goes_by w (Running i answers waits) at = λ call there. on w i answers waits call at there
@@ -56,7 +56,7 @@ total_most [] i call at = cc
 total_most (first ∷ calls) zero call at = let same : first.gas ≡ call.gas = cc in omega (arith, same)
 total_most (first ∷ calls) (suc i) call at = let most = total_most calls i call at in omega (arith, most)
 
--- a job whose calls have at most so much gas
+-- a job whose calls have at most this much gas
 abbrev setting_of : (calls : List Invocation) → Storage → ℕ → (gas : ℕ) → HasAtMostGas gas calls → Bool → Setting
 setting_of calls store workers gas most strict = record { calls = calls; store = store; workers = workers; reads = gas / 200; most = λ i call at. let within = most i call at in omega (arith, within); strict = strict }
 
@@ -96,7 +96,7 @@ never_stuck_where_reached calls store workers gas s w_in most reached on =
 -- ---- no list is a dead end
 
 module _ (calls : List Invocation) (store : Storage) (workers : ℕ) where
-  -- a list that is used up leads to a state, from which whatever follows it goes on
+  -- a list that is used up leads to a state, and whatever follows the list starts from there
   record IsUsedUp (list : List ℕ) (s : State) : Type 0 where
     state : State
     led : DrivenTo calls store workers state
@@ -107,7 +107,7 @@ module _ (calls : List Invocation) (store : Storage) (workers : ℕ) where
   unfolding driven
   driven_next w list s t w_in is = cond-true (nat_lt w workers) _ _ w_in ∙ ap (continue_drive (λ u. driven calls store workers list u)) is
 
-  -- what its first step comes to
+  -- the result of its first step
   used_on : (w : ℕ) (list : List ℕ) (s : State) → DrivenTo calls store workers s → nat_lt w workers ≡ true → ((t : State) → DrivenTo calls store workers t → driven calls store workers list t ≡ Err NotDone → IsUsedUp list t)
       → (o : Option (Result State Limit)) → due_result calls store w s ≡ o → IsSome o → continue_drive (λ t. driven calls store workers list t) o ≡ Err NotDone → IsUsedUp (w ∷ list) s
   used_on w list s led w_in rest None is some h = cc
@@ -130,19 +130,19 @@ module _ (calls : List Invocation) (store : Storage) (workers : ℕ) where
   abbrev are_allowed : Bool
   are_allowed = nat_le 1 workers && nat_le workers 32
 
-  drives : (list : List ℕ) → are_allowed ≡ true → drive_of calls store workers list ≡ driven calls store workers list (start (length calls) workers)
+  drives : (list : List ℕ) → are_allowed ≡ true → drive_of calls store workers list ≡ driven calls store workers list (start_state (length calls) workers)
   drives list allowed = cond-true are_allowed _ _ allowed
 
-  continued : (schedule : List ℕ) → are_allowed ≡ true → (used : IsUsedUp schedule (start (length calls) workers)) → CanEnd calls store workers used.state → IsContinued calls store workers schedule
+  continued : (schedule : List ℕ) → are_allowed ≡ true → (used : IsUsedUp schedule (start_state (length calls) workers)) → CanEnd calls store workers used.state → IsContinued calls store workers schedule
   continued schedule allowed used (ends more t h) = to_end more t (drives (schedule ++ more) allowed ∙ used.goes more ∙ h)
   continued schedule allowed used (meets more limit h) = to_limit more limit (drives (schedule ++ more) allowed ∙ used.goes more ∙ h)
 
   some_worker : nat_le 1 workers ≡ true → 0 < workers
   some_worker h = grind (arith, nat_tests)
 
-  continued_by : (schedule : List ℕ) (b : Bool) → are_allowed ≡ b → (if b then driven calls store workers schedule (start (length calls) workers) else Err BadWorker) ≡ Err NotDone → IsContinued calls store workers schedule
+  continued_by : (schedule : List ℕ) (b : Bool) → are_allowed ≡ b → (if b then driven calls store workers schedule (start_state (length calls) workers) else Err BadWorker) ≡ Err NotDone → IsContinued calls store workers schedule
   continued_by schedule true allowed h =
-      let used = used_up schedule (start (length calls) workers) at_start h in
+      let used = used_up schedule (start_state (length calls) workers) at_start h in
       continued schedule allowed used (never_stuck calls store workers used.state (some_worker (and_parts (nat_le 1 workers) (nat_le workers 32) allowed).0) used.led)
   continued_by schedule false none h = cc
 

@@ -1,4 +1,4 @@
--- A record that a worker alone goes on with: the keys of its call are moved, and the call is EXECUTED.
+-- A record that only one worker continues: the keys of its call are moved, and the call is EXECUTED.
 use Rattle.std.proofs.Common.{◌≡◌, ◌≢◌, ◌<◌, ◌≤◌, ◌⊎◌, ◌+◌, min, nat_lt, ℕ, Bool, true, false, List, [], ◌∷◌, length, map, get_or, set, Some, Ok, arith, refl, sym, ap, subst, ◌∙◌, inl, inr, true≢false}
 use Rattle.std.specs.List.{list_all}
 use Rattle.std.proofs.lemmas.Bool.{cases_Bool, cond-true, cond-false}
@@ -9,7 +9,7 @@ use Rattle.stm_state.specs.declared.state.CallState.{CallState}
 use Rattle.stm_state.specs.declared.state.Task.{Task}
 use Rattle.stm_state.specs.declared.state.Task.TheVariants.{Idle, Moving, Validating}
 use Rattle.stm_state.specs.State.{State, fresh, call_at, task_at, with_task}
-use Rattle.stm_state.specs.Steps.{counted, one_step, reads_of, is_parked_on, resume_if_parked, least_parked_call, resume_dependents, to_validate, after_move_key, after_finish_execution, version_of}
+use Rattle.stm_state.specs.Steps.{counted, one_step, recorded_reads, is_parked_on, resume_if_parked, least_parked_call, resume_dependents, to_validate, after_move_key, after_finish_execution, version_of}
 use Rattle.stm_state.proofs.Resumptions.{readied_cases, parked_aborting}
 use Rattle.stm_state.proofs.Finishes.{mapped_at}
 use Rattle.stm_state.proofs.Tests.{lt_says}
@@ -24,20 +24,20 @@ pub record IsExecutedFrom (w i : ℕ) (s t : State) : Type 0 where
   pub kept : Kept w i s t
   pub status : (call_at t i).status ≡ Executed
   pub incarnation : (call_at t i).incarnation ≡ (call_at s i).incarnation
-  pub stand : AllStand s.versions i (reads_of (call_at s i).last) → AllStand t.versions i (reads_of (call_at t i).last)
+  pub stand : AllStand s.versions i (recorded_reads (call_at s i).last) → AllStand t.versions i (recorded_reads (call_at t i).last)
 
 -- the worker's task is over, or it validates the call
 pub data MoveOutcome (w i : ℕ) (s t : State) : Type 0 where
   rests : IsExecutedFrom w i s t → task_at t w ≡ Idle → MoveOutcome w i s t
-  validates : (n : ℕ) → IsExecutedFrom w i s t → task_at t w ≡ Validating i n (length (reads_of (call_at t i).last)) false → MoveOutcome w i s t
+  validates : (n : ℕ) → IsExecutedFrom w i s t → task_at t w ≡ Validating i n (length (recorded_reads (call_at t i).last)) false → MoveOutcome w i s t
 
--- what a move of a key leaves to come
+-- the same from the state before a key is moved
 executed_after : (w i : ℕ) (s u t : State) → OnlyCall w i s u → call_at u i ≡ call_at s i → IsExecutedFrom w i u t → IsExecutedFrom w i s t
 executed_after w i s u t only same h = record {
   kept = kept_on w i s u t (call_kept w i s u only) h.kept;
   status = h.status;
   incarnation = h.incarnation ∙ ap (λ (c : CallState). c.incarnation) same;
-  stand = λ stood. h.stand (ap (λ (c : CallState). list_all (stands u.versions i) (reads_of c.last)) same ∙ stand_still s.versions u.versions i only.entries (reads_of (call_at s i).last) stood);
+  stand = λ stood. h.stand (ap (λ (c : CallState). list_all (stands u.versions i) (recorded_reads c.last)) same ∙ stand_still s.versions u.versions i only.entries (recorded_reads (call_at s i).last) stood);
 }
 
 after_move : (w i : ℕ) (s u t : State) → OnlyCall w i s u → call_at u i ≡ call_at s i → MoveOutcome w i u t → MoveOutcome w i s t
@@ -61,7 +61,7 @@ module _ (w i : ℕ) (new : Bool) (s : State) (i_in : i < length s.calls) where
 
   -- the validation of the run
   abbrev check : Task
-  check = Validating i (call_at s i).incarnation (length (reads_of (call_at s i).last)) false
+  check = Validating i (call_at s i).incarnation (length (recorded_reads (call_at s i).last)) false
 
   -- which state it is
   record Finish : Type 0 where
@@ -127,14 +127,14 @@ module _ (w i : ℕ) (new : Bool) (s : State) (i_in : i < length s.calls) where
     };
     status = ap (λ (c : CallState). c.status) (own_call f.task f.validation);
     incarnation = ap (λ (c : CallState). c.incarnation) (own_call f.task f.validation);
-    stand = λ stood. ap (λ (c : CallState). list_all (stands s.versions i) (reads_of c.last)) (own_call f.task f.validation) ∙ stood;
+    stand = λ stood. ap (λ (c : CallState). list_all (stands s.versions i) (recorded_reads c.last)) (own_call f.task f.validation) ∙ stood;
   }
 
   outcome : (f : Finish) → w < length s.tasks → MoveOutcome w i s (counted one_step w (finished f.task f.validation))
   outcome f w_in = elim f.kind [
     | inl idle ↦ rests (finished_kept f) (get_or-set_same s.tasks w f.task Idle w_in ∙ idle)
     | inr check_is ↦ validates (call_at s i).incarnation (finished_kept f)
-        (get_or-set_same s.tasks w f.task Idle w_in ∙ check_is ∙ ap (λ (c : CallState). Validating i (call_at s i).incarnation (length (reads_of c.last)) false) (sym (own_call f.task f.validation)))
+        (get_or-set_same s.tasks w f.task Idle w_in ∙ check_is ∙ ap (λ (c : CallState). Validating i (call_at s i).incarnation (length (recorded_reads c.last)) false) (sym (own_call f.task f.validation)))
   ]
 
 module _ (setting : Setting) (w i : ℕ) (new : Bool) (w_in : w < setting.workers) where

@@ -24,7 +24,7 @@ use Rattle.never_stuck.proofs.Sizes.{borne_small}
 use Rattle.never_stuck.proofs.KeysLeft.{AllFewKeys, HasFewKeys, few_after}
 use Rattle.never_stuck.proofs.OwedLists.{Comes, comes_here, comes_on, meets_full, meets_spent, comes_more}
 
--- the invariant holds, each run goes on, and each task has few keys left
+-- the invariant holds, each run can continue, and each task has few keys left
 pub record IsSound (setting : Setting) (s : State) : Type 0 where
   pub inv : Invariant (block setting) setting.workers s
   pub go : AllGo setting.calls s
@@ -56,7 +56,7 @@ module _ (setting : Setting) where
         few = few_after setting w s t step h.inv w_in is h.few;
       }
 
-  -- owed steps that go on from where others lead
+  -- owed steps that continue from the states that others lead to
   pub comes_then : {P Q : State → Type 0} {n r k p : ℕ} {s : State} (m q : ℕ) → IsSound setting s → Comes setting P n r s → ((t : State) → IsSound setting t → P t → Comes setting Q m q t) → n + m ≤ k → r + q ≤ p → Comes setting Q k p s
   comes_then {s = s} m q h (comes_here e) f longer wider = comes_more (omega (arith, longer)) (omega (arith, wider)) (f s h e)
   comes_then {s = s} m q h (comes_on w a b t w_in is fewer room rest) f longer wider =
@@ -76,7 +76,7 @@ module _ (setting : Setting) where
     steps_on {r = r} m t is same fewer rest = comes_on w m r t w_in is fewer (omega (arith, same)) (rest (sound_on w s t w_in is h))
 
     module _ (i : ℕ) (low : setting.strict ≡ true → (call_at s i).incarnation < incarnation_limit) where
-      -- where the incarnation is at the limit, `strict` is false
+      -- if the incarnation is at the limit, `strict` is false
       not_strict : (b : Bool) → setting.strict ≡ b → nat_le incarnation_limit (call_at s i).incarnation ≡ true → setting.strict ≡ false
       not_strict false is spent = is
       not_strict true is spent = let below = not_le_is incarnation_limit (call_at s i).incarnation (low is) in cc

@@ -1,4 +1,4 @@
--- What a read of a run comes to, and which reads stand after a step. Only this file takes apart what a call sees.
+-- What a read of a run does, and which reads stand after a step. Only this file takes apart what a call sees.
 use Rattle.std.proofs.Common.{◌≡◌, ◌≢◌, ◌<◌, ℕ, true, List, [], ◌∷◌, ◌++◌, map, Option, None, Some, is_some, refl, sym, ap, ◌∙◌, arith}
 use Rattle.std.specs.List.{list_all}
 use Rattle.rv_ledger.specs.Key.{Storage}
@@ -47,7 +47,7 @@ AllStand versions i reads = list_all (stands versions i) reads ≡ true
 pub answered_stand : (block : Block) (s : State) (key : List ℕ) (i : ℕ) (answers : List StorageAnswer) (answered : Answered block.base key i answers (reading s.versions key i)) → AllStand s.versions i (map read_of answers) → AllStand s.versions i (map read_of (answers ++ answered.answer ∷ []))
 answered_stand block s key i answers answered stand = answer_stands block s block.base key i answers stand answered
 
--- where other calls keep their entries, reads of call i stand as before
+-- if other calls keep their entries, reads of call i stand as before
 pub stand_still : (before after : Versions) (i : ℕ) → ((key : List ℕ) (j : ℕ) → j ≢ i → entry_at after key j ≡ entry_at before key j) → (reads : List Read) → AllStand before i reads → AllStand after i reads
 stand_still before after i same reads stand =
     all_same (stands after i) (stands before i) (λ read. ap (is_origin read.origin) (seen_same (entry_at after read.key) (entry_at before read.key) i (λ j less. same read.key j (λ e. omega (arith, less, e))))) reads ∙ stand

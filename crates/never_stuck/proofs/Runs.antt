@@ -1,4 +1,4 @@
--- A run that a worker alone goes on with: it is handed in, or its call is parked.
+-- A run that only one worker continues: it is handed in, or its call is parked.
 use Rattle.std.proofs.Common.{◌≡◌, ◌≢◌, ◌<◌, ◌≤◌, ◌+◌, ◌-◌, ℕ, zero, suc, Bool, true, List, [], ◌∷◌, ◌++◌, length, map, slice_get, Option, None, Some, Ok, arith, refl, sym, ap, ◌∙◌, length-append}
 use Rattle.std.specs.List.{list_all}
 use Rattle.std.proofs.lemmas.Bool.{cond-false, false_from_ne_true}
@@ -13,7 +13,7 @@ use Rattle.stm_state.specs.declared.state.Task.{Task}
 use Rattle.stm_state.specs.declared.state.Task.TheVariants.{Idle, Running, Moving}
 use Rattle.stm_state.specs.Limits.{incarnation_limit}
 use Rattle.stm_state.specs.State.{State, fresh, call_at, task_at, with_call, with_task, is_executed}
-use Rattle.stm_state.specs.Steps.{counted, one_step, one_execution, answered_with, read_of, reads_of, after_park, after_record, recorded_run, keys_to_move, has_new_key, step_with}
+use Rattle.stm_state.specs.Steps.{counted, one_step, one_execution, answered_with, read_of, recorded_reads, after_park, after_record, recorded_run, keys_to_move, has_new_key, step_with}
 use Rattle.stm_state.specs.Drive.{asked_at, due_step_of_run}
 use Rattle.stm_state.proofs.Invariant.{named_by}
 use Rattle.stm_state.proofs.Tests.{is_executed_says}
@@ -26,10 +26,10 @@ use Rattle.never_stuck.proofs.RunReads.{AllStand, ReadOutcome, answers_run, bloc
 use Rattle.never_stuck.proofs.Bounded.{asks_early}
 use Rattle.never_stuck.proofs.OwedSteps.{IsSound, worker_there, named_there, due_at, steps_on, parks_on, records_on}
 
--- call i's run is kept and its keys are to move, and its reads stand if the answers so far did; or the call is parked on a lower
--- one that is not EXECUTED
+-- call i's run is kept and its keys must be moved, and its reads stand if the answers so far did; or the call is parked on a
+-- lower one that is not EXECUTED
 pub data RunOutcome (w i : ℕ) (answers : List StorageAnswer) (s t : State) : Type 0 where
-  hands_in : (keys : List (List ℕ)) (new : Bool) → OnlyCall w i s t → task_at t w ≡ Moving i keys new → (call_at t i).incarnation ≡ (call_at s i).incarnation → (AllStand s.versions i (map read_of answers) → AllStand t.versions i (reads_of (call_at t i).last)) → RunOutcome w i answers s t
+  hands_in : (keys : List (List ℕ)) (new : Bool) → OnlyCall w i s t → task_at t w ≡ Moving i keys new → (call_at t i).incarnation ≡ (call_at s i).incarnation → (AllStand s.versions i (map read_of answers) → AllStand t.versions i (recorded_reads (call_at t i).last)) → RunOutcome w i answers s t
   parks : (b : ℕ) → OnlyCall w i s t → task_at t w ≡ Idle → (call_at t i).incarnation ≡ (call_at s i).incarnation → b < i → (call_at s b).status ≢ Executed → RunOutcome w i answers s t
 
 -- a call that is parked
@@ -62,7 +62,7 @@ module _ (setting : Setting) (w i : ℕ) (w_in : w < setting.workers) where
           execution = refl;
           validation = refl;
         }) (get_or-set_same s.tasks w (Moving i keys new) Idle (worker_there setting s h w w_in)) (ap (λ (c : CallState). c.incarnation) now)
-        (λ stand. ap (λ (c : CallState). list_all (stands s.versions i) (reads_of c.last)) now ∙ stand)
+        (λ stand. ap (λ (c : CallState). list_all (stands s.versions i) (recorded_reads c.last)) now ∙ stand)
 
     pub run_kept : asked_at (slice_get setting.calls i) (replies_of answers) ≡ None → Comes setting (RunOutcome w i answers s) 1 1 s
     run_kept asks = records_on setting w w_in s h i low 0 0 answers at asks (omega arith) (omega arith) (λ receipt _. comes_here (kept_run receipt))

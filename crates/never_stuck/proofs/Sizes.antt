@@ -11,7 +11,7 @@ use Rattle.rv_step.specs.Replies.{reply_of, replies_of}
 use Rattle.rv_step.proofs.Receipts.{bears_over}
 use Rattle.stm_state.specs.declared.state.Recorded.{Recorded}
 use Rattle.stm_state.specs.State.{State, call_at}
-use Rattle.stm_state.specs.Steps.{keys_of, read_of, reads_of, written_by}
+use Rattle.stm_state.specs.Steps.{keys_of, read_of, recorded_reads, written_by}
 use Rattle.stm_state.specs.Done.{borne_out_by}
 use Rattle.stm_state.proofs.Invariant.{view_of, ViewInvariant}
 use Rattle.rv_step.proofs.WriteLimit.{LeavesFew, few_at, moments_few}
@@ -50,7 +50,7 @@ module _ (setting : Setting) where
   borne_small i replies r e = small_by i replies r (slice_get setting.calls i) refl e
 
   module _ (s : State) (f : ViewInvariant (block setting) (view_of s)) where
-    reads_by : (i : ℕ) (last : Option Recorded) → (call_at s i).last ≡ last → (length (reads_of last) ≤ setting.reads + 1) × (length (keys_of (written_by last)) ≤ 256)
+    reads_by : (i : ℕ) (last : Option Recorded) → (call_at s i).last ≡ last → (length (recorded_reads last) ≤ setting.reads + 1) × (length (keys_of (written_by last)) ≤ 256)
     reads_by i None at = (omega arith, omega arith)
     reads_by i (Some run) at =
         let bears = f.recorded i run at in
@@ -61,8 +61,8 @@ module _ (setting : Setting) where
         let size = len-entries run.receipt.writes in
         (omega (arith, short, reads), omega (arith, few, size, length-map (entries run.receipt.writes) (λ write. write.0)))
 
-    -- a call has at most so many recorded reads, and wrote at most 256 keys
-    pub reads_short : (i : ℕ) → length (reads_of (call_at s i).last) ≤ setting.reads + 1
+    -- a call has at most `setting.reads + 1` recorded reads, and wrote at most 256 keys
+    pub reads_short : (i : ℕ) → length (recorded_reads (call_at s i).last) ≤ setting.reads + 1
     reads_short i = (reads_by i (call_at s i).last refl).0
 
     pub written_few : (i : ℕ) → length (keys_of (written_by (call_at s i).last)) ≤ 256

@@ -116,7 +116,7 @@ walk_grown block (entry ∷ entries) s t h =
     let first = walk_first block entry entries s t h in
     grown_on s.calls first.state.calls t.calls (made_grown block entry.0 s entry.1 first.state (made block entry.0 s first.state entry.1 first.step)) (walk_grown block entries first.state t first.rest)
 
--- where workers are done all calls are EXECUTED, below the limit
+-- if workers are done, all calls are EXECUTED, below the limit
 pub spent_calls_never_end : SpentCallsNeverEnd
 spent_calls_never_end block workers s i reached within spent entries t named comes =
     let inv = invariant_kept block workers t (reached_on block workers entries s t reached named comes) in

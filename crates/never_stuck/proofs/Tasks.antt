@@ -11,7 +11,7 @@ use Rattle.stm_state.specs.declared.state.Task.{Task}
 use Rattle.stm_state.specs.declared.state.Task.TheVariants.{Idle, Running, Moving, Validating, Marking}
 use Rattle.stm_state.specs.Limits.{incarnation_limit}
 use Rattle.stm_state.specs.State.{State, fresh, call_at, task_at, with_call, with_task, is_executed}
-use Rattle.stm_state.specs.Steps.{counted, one_step, after_park, read_of, reads_of}
+use Rattle.stm_state.specs.Steps.{counted, one_step, after_park, read_of, recorded_reads}
 use Rattle.stm_state.proofs.Tests.{not_executed_says}
 use Rattle.never_stuck.proofs.UnstuckGoals.{Setting}
 use Rattle.never_stuck.proofs.OwedLists.{Comes, comes_here, comes_more, comes_so}
@@ -28,29 +28,29 @@ use Rattle.never_stuck.proofs.Moves.{MoveOutcome, rests, validates, move_ends}
 -- a run of call i whose reads stood has ended. The call is EXECUTED, its reads stand, and the worker's task is over; or the call is
 -- parked on a lower one that is not EXECUTED
 pub data FreshOutcome (w i : ℕ) (s t : State) : Type 0 where
-  executes : Kept w i s t → task_at t w ≡ Idle → (call_at t i).incarnation ≡ (call_at s i).incarnation → (call_at t i).status ≡ Executed → AllStand t.versions i (reads_of (call_at t i).last) → FreshOutcome w i s t
+  executes : Kept w i s t → task_at t w ≡ Idle → (call_at t i).incarnation ≡ (call_at s i).incarnation → (call_at t i).status ≡ Executed → AllStand t.versions i (recorded_reads (call_at t i).last) → FreshOutcome w i s t
   parks_call : (b : ℕ) → Kept w i s t → task_at t w ≡ Idle → (call_at t i).incarnation ≡ (call_at s i).incarnation → b < i → (call_at s b).status ≢ Executed → FreshOutcome w i s t
 
--- where only a task changes, a call stays, and its reads stand
+-- if only a task changes, a call stays, and its reads stand if they did
 pub same_call : (w i : ℕ) (s t : State) → OnlyTask w s t → call_at t i ≡ call_at s i
 same_call w i s t only = ap (λ calls. get_or calls i fresh) only.calls
 
-stand_on : (w i : ℕ) (s t : State) → OnlyTask w s t → AllStand s.versions i (reads_of (call_at s i).last) → AllStand t.versions i (reads_of (call_at t i).last)
+stand_on : (w i : ℕ) (s t : State) → OnlyTask w s t → AllStand s.versions i (recorded_reads (call_at s i).last) → AllStand t.versions i (recorded_reads (call_at t i).last)
 stand_on w i s t only stood =
-    ap (λ versions. list_all (stands versions i) (reads_of (call_at t i).last)) only.versions ∙ ap (λ (c : CallState). list_all (stands s.versions i) (reads_of c.last)) (same_call w i s t only) ∙ stood
+    ap (λ versions. list_all (stands versions i) (recorded_reads (call_at t i).last)) only.versions ∙ ap (λ (c : CallState). list_all (stands s.versions i) (recorded_reads c.last)) (same_call w i s t only) ∙ stood
 
 -- a validation of a call whose reads stand passes
-after_validation : (w i : ℕ) (s u t : State) → Kept w i s u → (call_at u i).incarnation ≡ (call_at s i).incarnation → (call_at u i).status ≡ Executed → AllStand u.versions i (reads_of (call_at u i).last) → ValidationOutcome w i false u t → FreshOutcome w i s t
+after_validation : (w i : ℕ) (s u t : State) → Kept w i s u → (call_at u i).incarnation ≡ (call_at s i).incarnation → (call_at u i).status ≡ Executed → AllStand u.versions i (recorded_reads (call_at u i).last) → ValidationOutcome w i false u t → FreshOutcome w i s t
 after_validation w i s u t kept same done stood (passes only at) =
     executes (kept_on w i s u t kept (task_kept w i u t only)) at (ap (λ (c : CallState). c.incarnation) (same_call w i u t only) ∙ same) (ap (λ (c : CallState). c.status) (same_call w i u t only) ∙ done) (stand_on w i u t only stood)
 after_validation w i s u t kept same done stood (takes_back keys only at few taken fresh_fails) = absurd (fresh_fails refl stood)
 
 module _ (setting : Setting) (w i : ℕ) (w_in : w < setting.workers) where
   -- after the keys are moved
-  fresh_moved : (s t u : State) → Kept w i s t → (call_at t i).incarnation ≡ (call_at s i).incarnation → AllStand t.versions i (reads_of (call_at t i).last) → IsSound setting u → MoveOutcome w i t u → Comes setting (FreshOutcome w i s) (setting.reads + 2) 0 u
+  fresh_moved : (s t u : State) → Kept w i s t → (call_at t i).incarnation ≡ (call_at s i).incarnation → AllStand t.versions i (recorded_reads (call_at t i).last) → IsSound setting u → MoveOutcome w i t u → Comes setting (FreshOutcome w i s) (setting.reads + 2) 0 u
   fresh_moved s t u kept same stood h (rests x at) = comes_here (executes (kept_on w i s t u kept x.kept) at (x.incarnation ∙ same) x.status (x.stand stood))
   fresh_moved s t u kept same stood h (validates n x at) =
-      comes_so (λ v. after_validation w i s u v (kept_on w i s t u kept x.kept) (x.incarnation ∙ same) x.status (x.stand stood)) (validation_ends setting w i n w_in (length (reads_of (call_at u i).last)) false u h at)
+      comes_so (λ v. after_validation w i s u v (kept_on w i s t u kept x.kept) (x.incarnation ∙ same) x.status (x.stand stood)) (validation_ends setting w i n w_in (length (recorded_reads (call_at u i).last)) false u h at)
 
   -- after the run
   fresh_ran : (answers : List StorageAnswer) (s t : State) → AllStand s.versions i (map read_of answers) → IsSound setting t → RunOutcome w i answers s t → Comes setting (FreshOutcome w i s) (setting.reads + 515) 0 t
@@ -72,12 +72,12 @@ pub record TaskEnded (w i : ℕ) (s t : State) : Type 0 where
   pub idle : task_at t w ≡ Idle
   pub risen : (call_at t i).incarnation ≤ (call_at s i).incarnation + 1
 
--- a fresh run has
+-- a fresh run has ended
 fresh_ended : (w i : ℕ) (s t : State) → FreshOutcome w i s t → TaskEnded w i s t
 fresh_ended w i s t (executes kept at same done stood) = record { kept = kept; idle = at; risen = omega (arith, same) }
 fresh_ended w i s t (parks_call b kept at same less ne) = record { kept = kept; idle = at; risen = omega (arith, same) }
 
--- what comes before it leaves the incarnation
+-- the same from a state before, in which the call has the same incarnation
 ended_after : (w i : ℕ) (s u t : State) → Kept w i s u → (call_at u i).incarnation ≡ (call_at s i).incarnation → TaskEnded w i u t → TaskEnded w i s t
 ended_after w i s u t kept same h = record { kept = kept_on w i s u t kept h.kept; idle = h.idle; risen = let up = h.risen in omega (arith, up, same) }
 
@@ -121,7 +121,7 @@ module _ (setting : Setting) (w i : ℕ) (w_in : w < setting.workers) where
   moved_ends : (s t : State) → IsLow s → IsSound setting t → MoveOutcome w i s t → Comes setting (TaskEnded w i s) (3 * setting.reads + 776) 1 t
   moved_ends s t low h (rests x at) = let same = x.incarnation in comes_here (record { kept = x.kept; idle = at; risen = omega (arith, same) })
   moved_ends s t low h (validates n x at) =
-      comes_so (λ u. ended_after w i s t u x.kept x.incarnation) (validation_task n (length (reads_of (call_at t i).last)) false t (low_still s t x.incarnation low) h at)
+      comes_so (λ u. ended_after w i s t u x.kept x.incarnation) (validation_task n (length (recorded_reads (call_at t i).last)) false t (low_still s t x.incarnation low) h at)
 
   move_task : (keys : List (List ℕ)) (new : Bool) (s : State) → IsLow s → IsSound setting s → task_at s w ≡ Moving i keys new → Comes setting (TaskEnded w i s) (3 * setting.reads + 1289) 1 s
   move_task keys new s low h at =

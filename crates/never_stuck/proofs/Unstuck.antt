@@ -31,7 +31,7 @@ record IsResting (top : ℕ) (s : State) : Type 0 where
   under : IsUnder top s
 
 module _ (setting : Setting) where
-  -- at most so many rounds are left, and at most so many records
+  -- a bound on the rounds that are left, and one on the records that are left
   abbrev rounds_left : State → ℕ
   rounds_left s = 2 * ((block setting).count - s.execution) + (s.execution - s.validation)
 
@@ -140,11 +140,11 @@ module _ (setting : Setting) where
   -- ---- all rounds
 
   module _ (w_in : 0 < setting.workers) (top : ℕ) (limit : setting.strict ≡ true → top < incarnation_limit) where
-    -- workers are done within so many rounds
+    -- workers are done within m rounds
     abbrev EndsIn : ℕ → Type 0
     EndsIn m = (s : State) → rounds_left s ≤ m → IsSound setting s → IsResting top s → Comes setting AreDone (m * (4 * setting.reads + 1300)) (records_left s) s
 
-    -- they are where both indices are past the last call
+    -- workers are done if both indices are past the last call
     over_at_last : (s : State) → IsSound setting s → IsResting top s → s.execution ≤ s.validation → (block setting).count ≤ s.execution → AreDone s
     over_at_last s h rests level over =
         let runs = h.inv.facts.execution_within in let checks = h.inv.facts.validation_within in

@@ -17,10 +17,9 @@ pub record Setting : Type 0 where
   pub most : (i : ℕ) (call : Invocation) → slice_get calls i ≡ Some call → call.gas / 200 ≤ reads
   pub strict : Bool
 
--- its block
 abbrev pub block : Setting → Block
 block setting = block_of setting.calls setting.store
 
--- what the step that a worker owes comes to
+-- the result of the step that a worker owes
 abbrev pub due : Setting → ℕ → State → Option (Result State Limit)
 due setting w s = due_result setting.calls setting.store w s

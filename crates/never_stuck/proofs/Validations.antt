@@ -1,4 +1,4 @@
--- A validation that a worker alone goes on with: it ends, or it takes its call back.
+-- A validation that only one worker continues: it ends, or it takes its call back.
 use Rattle.std.proofs.Common.{◌≡◌, ◌<◌, ◌≤◌, ◌+◌, ◌-◌, ◌&&◌, ℕ, zero, suc, Bool, true, false, List, length, Some, Ok, arith, refl, sym, ap, ◌∙◌, inl, inr, true≢false}
 use Rattle.std.proofs.lemmas.Bool.{cases_Bool, cond-true, cond-false}
 use Rattle.std.proofs.lemmas.List.{get_or-set_same}
@@ -8,7 +8,7 @@ use Rattle.stm_state.specs.declared.state.CallState.{CallState}
 use Rattle.stm_state.specs.declared.state.Task.{Task}
 use Rattle.stm_state.specs.declared.state.Task.TheVariants.{Idle, Validating, Marking}
 use Rattle.stm_state.specs.State.{State, fresh, call_at, task_at, with_call, with_task}
-use Rattle.stm_state.specs.Steps.{counted, one_step, one_validation, after_check_read, after_decide, is_executed_at, keys_of, next_stands, reads_of, written_by}
+use Rattle.stm_state.specs.Steps.{counted, one_step, one_validation, after_check_read, after_decide, is_executed_at, keys_of, next_stands, recorded_reads, written_by}
 use Rattle.stm_state.proofs.Invariant.{IsChecked}
 use Rattle.stm_state.proofs.Checks.{executed_at_says}
 use Rattle.stm_state.proofs.Rounds.{each_stands}
@@ -23,12 +23,12 @@ use Rattle.never_stuck.proofs.OwedSteps.{IsSound, worker_there, named_there, due
 abbrev pub taken_back : CallState → CallState
 taken_back call = record call { status = Aborting }
 
--- a validation of call i has ended, or the call is taken back: not if all its reads stand and no check had failed
+-- a validation of call i has ended, or the call is taken back, but not if all its reads stand and no check had failed
 pub data ValidationOutcome (w i : ℕ) (failed : Bool) (s t : State) : Type 0 where
   passes : OnlyTask w s t → task_at t w ≡ Idle → ValidationOutcome w i failed s t
-  takes_back : (keys : List (List ℕ)) → OnlyCall w i s t → task_at t w ≡ Marking i keys → length keys ≤ 256 → call_at t i ≡ taken_back (call_at s i) → (failed ≡ false → AllStand s.versions i (reads_of (call_at s i).last) → ⊥) → ValidationOutcome w i failed s t
+  takes_back : (keys : List (List ℕ)) → OnlyCall w i s t → task_at t w ≡ Marking i keys → length keys ≤ 256 → call_at t i ≡ taken_back (call_at s i) → (failed ≡ false → AllStand s.versions i (recorded_reads (call_at s i).last) → ⊥) → ValidationOutcome w i failed s t
 
--- ---- what the steps come to
+-- ---- the results of the steps
 
 module _ (w i n : ℕ) (s : State) where
   decided_failed : is_executed_at n (call_at s i) ≡ true → after_decide w i n true s ≡ with_task w (Marking i (keys_of (written_by (call_at s i).last))) (with_call i (taken_back (call_at s i)) s)
@@ -51,8 +51,8 @@ module _ (w i n : ℕ) (s : State) where
   unfolding after_check_read
   checked_bad left is bad = cond-true (is_executed_at n (call_at s i)) _ _ is ∙ cond-false (next_stands i (suc left) s) _ _ bad
 
--- what a step to another task leaves to come
-after_task : (w i : ℕ) (failed was : Bool) (s u t : State) → OnlyTask w s u → call_at u i ≡ call_at s i → (was ≡ false → AllStand s.versions i (reads_of (call_at s i).last) → (failed ≡ false) × AllStand u.versions i (reads_of (call_at u i).last)) → ValidationOutcome w i failed u t → ValidationOutcome w i was s t
+-- the same from the state before a step to another task
+after_task : (w i : ℕ) (failed was : Bool) (s u t : State) → OnlyTask w s u → call_at u i ≡ call_at s i → (was ≡ false → AllStand s.versions i (recorded_reads (call_at s i).last) → (failed ≡ false) × AllStand u.versions i (recorded_reads (call_at u i).last)) → ValidationOutcome w i failed u t → ValidationOutcome w i was s t
 after_task w i failed was s u t first same stale (passes only at) = passes (task_on w s u t first only) at
 after_task w i failed was s u t first same stale (takes_back keys only at few taken fresh_fails) =
     takes_back keys (call_on w i s u t (task_call w i s u first) only) at few (taken ∙ ap taken_back same) (λ is stand. let now = stale is stand in fresh_fails now.0 now.1)
@@ -60,7 +60,7 @@ after_task w i failed was s u t first same stale (takes_back keys only at few ta
 -- ---- a validation
 
 module _ (setting : Setting) (w i n : ℕ) (w_in : w < setting.workers) where
-  -- the state where the task is over
+  -- the state after the task is over
   over_to : (add : Counts → Counts) (failed : Bool) (s : State) → IsSound setting s → ValidationOutcome w i failed s (counted add w (with_task w Idle s))
   over_to add failed s h = passes (new_task w add Idle s) (get_or-set_same s.tasks w Idle Idle (worker_there setting s h w w_in))
 
@@ -108,7 +108,7 @@ module _ (setting : Setting) (w i n : ℕ) (w_in : w < setting.workers) where
     | inr bad ↦
         let task : Task = Validating i n (suc left) true in
         let u : State = counted one_step w (with_task w task s) in
-        let fails_by : AllStand s.versions i (reads_of (call_at s i).last) → ⊥ = λ stand. let good = each_stands s.versions i (reads_of (call_at s i).last) (length (reads_of (call_at s i).last) - suc left) stand in true≢false (sym good ∙ bad) in
+        let fails_by : AllStand s.versions i (recorded_reads (call_at s i).last) → ⊥ = λ stand. let good = each_stands s.versions i (recorded_reads (call_at s i).last) (length (recorded_reads (call_at s i).last) - suc left) stand in true≢false (sym good ∙ bad) in
         steps_on setting w w_in s h 1 u
         (due_at setting w s (Validating i n (suc left) false) at ∙ ap (λ x. Some (Ok (counted one_step w x))) (checked_bad w i n s left is bad)) refl (omega arith)
         (λ k. comes_so (λ t. after_task w i true false s u t (new_task w one_step task s) refl (λ e stand. absurd (fails_by stand)))
@@ -120,7 +120,7 @@ module _ (setting : Setting) (w i n : ℕ) (w_in : w < setting.workers) where
   executed_ends left false s h at is = checks left s h at is
 
   -- an EXECUTED call has at least as many reads as a validation has left
-  few_left : (left : ℕ) (call : CallState) → call.status ≡ Executed → IsChecked call left → left ≤ length (reads_of call.last)
+  few_left : (left : ℕ) (call : CallState) → call.status ≡ Executed → IsChecked call left → left ≤ length (recorded_reads call.last)
   few_left left call done (inl checked_is) = checked_is.1
   few_left left call done (inr marked_is) = let other = marked_is.0 in cc
 

@@ -10,7 +10,7 @@ use Rattle.stm_state.specs.Steps.{Block, Step}
 use Rattle.stm_state.specs.Done.{Reached, block_of}
 use Rattle.stm_state.specs.Walk.{walk}
 
--- no list of pairs of a worker and a step leads from this state to one where workers are done
+-- no list of pairs of a worker and a step leads from this state to one in which workers are done
 abbrev pub NeverEnds : Block → ℕ → State → Type 0
 NeverEnds block workers s = (entries : List (ℕ × Step)) (t : State) → AllByRecursion (λ entry. entry.0 < workers) entries → walk block entries s ≡ Some t → is_done t ≡ false
 
@@ -19,6 +19,6 @@ NeverEnds block workers s = (entries : List (ℕ × Step)) (t : State) → AllBy
 abbrev pub KeyedListsGoAstray : Type 0
 KeyedListsGoAstray = (call : Invocation) (store : Storage) (key : List ℕ) → asked_by call [] ≢ Some key → (s : State) × Reached (block_of (call ∷ []) store) 1 s × NeverEnds (block_of (call ∷ []) store) 1 s
 
--- where the incarnation of a call is at the limit, no list leads to the end
+-- if the incarnation of a call is at the limit, no list leads to the end
 abbrev pub SpentCallsNeverEnd : Type 0
 SpentCallsNeverEnd = (block : Block) (workers : ℕ) (s : State) (i : ℕ) → Reached block workers s → i < block.count → incarnation_limit ≤ (call_at s i).incarnation → NeverEnds block workers s

@@ -6,12 +6,12 @@ use Rattle.stm_state.specs.State.{State}
 use Rattle.stm_state.specs.Steps.{Limit}
 use Rattle.stm_state.specs.Drive.{Limited, driven, drive_of}
 
--- some list leads from this state to one where workers are done, or one of its steps is refused for a limit
+-- some list leads from this state to one in which workers are done, or one of its steps is refused for a limit
 pub data CanEnd (calls : List Invocation) (store : Storage) (workers : ℕ) (s : State) : Type 0 where
   ends : (list : List ℕ) (t : State) → driven calls store workers list s ≡ Ok t → CanEnd calls store workers s
   meets : (list : List ℕ) (limit : Limit) → driven calls store workers list s ≡ Err (Limited limit) → CanEnd calls store workers s
 
--- some list of at most so many entries leads from this state to one where workers are done
+-- some list of at most `most` entries leads from this state to one in which workers are done
 pub record EndsWithin (most : ℕ) (calls : List Invocation) (store : Storage) (workers : ℕ) (s : State) : Type 0 where
   pub list : List ℕ
   pub short : length list ≤ most

@@ -1,4 +1,4 @@
--- No state that lists of worker numbers walk through is stuck: some list goes on from it to the end.
+-- No state that lists of worker numbers walk through is stuck: some list leads from it to the end.
 use Rattle.std.specs.Prelude.{◌≡◌, ◌<◌, ◌++◌, ℕ, List, length, Option, Some, slice_get, Err}
 use Rattle.rv_ledger.specs.Key.{Storage}
 use Rattle.rv_ledger.specs.Call.{Invocation}
@@ -19,7 +19,7 @@ use Rattle.never_stuck.specs.Far.{HasAtMostGas, IsFarFromLimits, entries_to_end}
 abbrev pub NeverStuck : Type 0
 NeverStuck = (calls : List Invocation) (store : Storage) (workers : ℕ) (s : State) → 0 < workers → DrivenTo calls store workers s → CanEnd calls store workers s
 
--- where such a state is far from the limits, a list of at most so many entries leads to the end
+-- if such a state is far from the limits, a list of at most `entries_to_end` entries leads to the end
 abbrev pub NeverStuckFarFromLimits : Type 0
 NeverStuckFarFromLimits = (calls : List Invocation) (store : Storage) (workers gas : ℕ) (s : State) → 0 < workers → HasAtMostGas gas calls → DrivenTo calls store workers s → IsFarFromLimits (length calls) workers s
     → EndsWithin (entries_to_end workers (length calls) gas) calls store workers s
@@ -28,12 +28,12 @@ NeverStuckFarFromLimits = (calls : List Invocation) (store : Storage) (workers g
 abbrev pub NoListIsDeadEnd : Type 0
 NoListIsDeadEnd = (calls : List Invocation) (store : Storage) (workers : ℕ) (schedule : List ℕ) → drive_of calls store workers schedule ≡ Err NotDone → IsContinued calls store workers schedule
 
--- each run that a worker has goes on: its answers and some replies after them bear a receipt of its call out
+-- each run that a worker has can continue: its answers and some replies after them bear out a receipt of its call
 abbrev pub RunsGoOn : List Invocation → State → Type 0
 RunsGoOn calls s = (w i : ℕ) (answers : List StorageAnswer) (waits : Option ℕ) (call : Invocation) → task_at s w ≡ Running i answers waits → slice_get calls i ≡ Some call
     → (rest : List Reply) × (receipt : Receipt) × (borne_out call (replies_of answers ++ rest) ≡ Some receipt)
 
--- the same of each state that any list of pairs of a worker and a step leads to, if its runs go on
+-- the same of each state that any list of pairs of a worker and a step leads to, if its runs can continue
 abbrev pub NeverStuckWhereReached : Type 0
 NeverStuckWhereReached = (calls : List Invocation) (store : Storage) (workers gas : ℕ) (s : State) → 0 < workers → HasAtMostGas gas calls → Reached (block_of calls store) workers s → RunsGoOn calls s
     → CanEnd calls store workers s × (IsFarFromLimits (length calls) workers s → EndsWithin (entries_to_end workers (length calls) gas) calls store workers s)

@@ -1,5 +1,5 @@
-//! The law that no schedule is a dead end: from each state that lists of worker numbers walk through, some
-//! list goes on to the end of the job.
+//! The law that no schedule is a dead end: from each state that lists of worker numbers walk through, some list leads to the end
+//! of the job.
 #![tactic(auto)]
 
 mod laws;

@@ -5,7 +5,7 @@ use Rattle.rv_ledger.specs.Change.{Content}
 use Rattle.rv_ledger.specs.Applied.{set_content}
 use Rattle.rv_ledger.specs.Key.{Storage, key_cmp}
 
--- what some keys are to have: a value, or None where the key is to be absent
+-- the new contents of some keys: a value, or None if the key will be absent
 abbrev pub Changes : Type 0
 Changes = map.FinMap key_cmp Content
 

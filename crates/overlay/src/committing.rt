@@ -5,18 +5,18 @@ ghost use Rattle.std.specs.FinMap as map;
 ghost use Rattle.rv_ledger.specs.Applied.{set_content};
 ghost use Rattle.overlay.specs.Overlay.{Changes, with_changes};
 ghost use Rattle.rv_ledger.specs.Key.{Storage};
-ghost use Rattle.overlay.specs.Commit.{AreAbsent, Fits, HasRoom, IsKnown, absent_of, all_set, grown, shrunk};
+ghost use Rattle.overlay.specs.Commit.{AreAbsent, Fits, HasRoom, IsKeyThere, absent_of, all_set, grown, shrunk};
 
 use crate::overlay::Overlay;
 use rv_ledger::{Key, Store, StoredValue, Value};
 use std::alloc::AllocError;
 use std::collections::BTreeMap;
 
-/// Makes changes of a storage, at a cost in proportion to their number. Refused where memory ran out, and then
-/// nothing changes.
+/// Makes changes of a storage, at a cost in proportion to their number. Refused if memory ran out, and then nothing
+/// changes.
 ///
-/// Only a key that the storage does not have yet takes memory. So these keys are put in first, with no value: where
-/// memory runs out they are removed again, which takes none. Then every key gets what it is to have.
+/// Only a key that the storage does not have yet takes memory. So these keys are put in first, with no value. If memory
+/// runs out, they are removed again, which takes none. Then every key gets its new content.
 #[tactic(auto, using(crate::proofs::Commits::room_fits, crate::proofs::Commits::room_made))]
 pub fn commit(store: &mut Store, changes: Overlay) -> Result<(), AllocError>
     ensures ok { OnOk result (store.new ≡ with_changes store.old changes) }
@@ -27,8 +27,8 @@ pub fn commit(store: &mut Store, changes: Overlay) -> Result<(), AllocError>
     Ok(())
 }
 
-/// Makes the room that changes need: puts in the keys that are to have a value and that the storage does not have, with no
-/// value, and returns them. Refused where memory ran out, and then nothing changes.
+/// Makes the room that changes need: puts in, with no value, the keys that get a value and that the storage does not
+/// have, and returns them. Refused if memory ran out, and then nothing changes.
 #[tactic(auto, using(crate::proofs::Commits::are_absent))]
 pub fn make_room(store: &mut Store, changes: &Overlay) -> Result<Vec<Key>, AllocError>
     ensures ok { IfOk result (λ keys. HasRoom store.old changes.now keys.items store.new) }
@@ -39,7 +39,7 @@ pub fn make_room(store: &mut Store, changes: &Overlay) -> Result<Vec<Key>, Alloc
     Ok(absent)
 }
 
-/// Gives the room back: the storage is as it was before.
+/// Frees the room: the storage is as it was before.
 #[tactic(auto, using(crate::proofs::Commits::given_back))]
 pub fn give_back(store: &mut Store, keys: &[Key])
     ensures { (before : Storage) (changes : Changes) → HasRoom before changes keys.now store.old → store.new ≡ before }
@@ -56,7 +56,7 @@ pub fn make(store: &mut Store, changes: Overlay)
     set_all(store, changes.into_entries());
 }
 
-/// The changed keys that are to have a value and that the storage does not have; refused where memory ran out.
+/// The changed keys that get a value and that the storage does not have; refused if memory ran out.
 fn absent_keys(store: &Store, changes: &Overlay) -> Result<Vec<Key>, AllocError>
     ensures { IfOk result (λ v. v.items ≡ absent_of store.now (map.entries changes.now)) }
 {
@@ -69,7 +69,7 @@ fn absent_keys(store: &Store, changes: &Overlay) -> Result<Vec<Key>, AllocError>
     Ok(absent)
 }
 
-/// Puts in keys that the storage does not have, with no value. Refused where memory ran out, and then nothing changes.
+/// Puts in keys that the storage does not have, with no value. Refused if memory ran out, and then nothing changes.
 #[tactic(auto, using(crate::proofs::Commits::grown_back))]
 fn grow(store: &mut Store, keys: &[Key]) -> Result<(), AllocError>
     requires { AreAbsent store.old keys.now }
@@ -94,7 +94,7 @@ fn shrink(store: &mut Store, keys: &[Key])
     }
 }
 
-/// Gives each key what it is to have. Takes no memory, since the storage has each key that is to have a value.
+/// Gives each key its new content. Takes no memory, since the storage has each key that gets a value.
 fn set_all(store: &mut Store, changes: BTreeMap<Key, Option<StoredValue>>)
     requires { Fits store.old changes.entries }
     ensures { store.new ≡ all_set store.old changes.entries }
@@ -104,9 +104,9 @@ fn set_all(store: &mut Store, changes: BTreeMap<Key, Option<StoredValue>>)
     }
 }
 
-/// Gives a key what it is to have. Takes no memory.
+/// Gives a key its new content. Takes no memory.
 fn set(store: &mut Store, key: Key, content: Option<StoredValue>)
-    requires { IsKnown store.old key content }
+    requires { IsKeyThere store.old key content }
     ensures { store.new ≡ set_content store.old key content }
 {
     match content {

@@ -28,7 +28,7 @@ impl Contents for Layers<'_> {
     }
 }
 
-/// The value at a key of a storage with changes over it, or None where it is absent.
+/// The value at a key of a storage with changes over it, or None if the key is absent.
 #[tactic(auto, using(crate::proofs::WithChanges::get_with_changes))]
 fn content<'a>(base: &'a Store, over: &'a Overlay, key: &Key) -> Option<&'a StoredValue>
     ensures { option_copied result ≡ map.get (with_changes base.now over.now) key.now }
@@ -39,7 +39,7 @@ fn content<'a>(base: &'a Store, over: &'a Overlay, key: &Key) -> Option<&'a Stor
     }
 }
 
-/// Adds the writes of receipts, one after another, to the changes over a storage. Refused where memory ran out, and then
+/// Adds the writes of receipts, one after another, to the changes over a storage. Refused if memory ran out, and then
 /// nothing changes.
 pub fn apply_receipts(
     base: &Store,
@@ -57,7 +57,7 @@ pub fn apply_receipts(
     Ok(())
 }
 
-/// A copy of a storage after the writes of receipts, one after another. Refused where memory ran out.
+/// A copy of a storage after the writes of receipts, one after another. Refused if memory ran out.
 pub fn copy_with_receipts(store: &Store, receipts: &[Receipt]) -> Result<Store, AllocError>
     ensures { IfOk result (λ s. s ≡ apply_receipts store.now receipts.now) }
 {
@@ -68,7 +68,8 @@ pub fn copy_with_receipts(store: &Store, receipts: &[Receipt]) -> Result<Store, 
     Ok(after)
 }
 
-/// Adds the writes of a call to the changes over a storage. Refused where memory ran out, and then some of them may be added.
+/// Adds the writes of a call to the changes over a storage. Refused if memory ran out, and then some of them may be
+/// added.
 #[tactic(auto, unfolding(rv_ledger::specs::Applied::apply_writes))]
 pub fn apply_writes(base: &Store, over: &mut Overlay, writes: &Writes) -> Result<(), AllocError>
     ensures { OnOk result (with_changes base.now over.new ≡ apply_writes (with_changes base.now over.old) writes.now) }
@@ -79,7 +80,7 @@ pub fn apply_writes(base: &Store, over: &mut Overlay, writes: &Writes) -> Result
     Ok(())
 }
 
-/// Adds one write. Refused where memory ran out.
+/// Adds one write. Refused if memory ran out.
 #[tactic(auto, using(crate::proofs::WithChanges::one_more_change))]
 fn apply_write(
     base: &Store,

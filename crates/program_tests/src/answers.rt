@@ -91,7 +91,7 @@ pub fn answer_on<T: Threads + Wait + Sync, W: Write>(
     answer_along(threads, alloc, line, stored, &mut input, out, errors)
 }
 
-/// The same with any reader of its input, and any writer for what stands on standard error.
+/// The same with any reader of its input, and any writer for standard error.
 pub fn answer_along<T: Threads + Wait + Sync, I: Read, W: Write, E: Write>(
     threads: &T,
     alloc: Global,

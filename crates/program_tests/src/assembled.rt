@@ -1,4 +1,4 @@
-//! `rvstm asm` over a disk of which each request fails in turn: the file that stood at OUT stays.
+//! `rvstm asm` over a disk of which each request fails in turn: the file that was at OUT stays.
 
 use crate::answers::{is_answered, is_refused};
 use crate::asserts::assert_right;
@@ -14,16 +14,16 @@ use std::thread::Threads;
 /// No request fails.
 const NONE: usize = usize::MAX;
 
-/// What stood at OUT before, and at each name that is taken.
+/// What was at OUT before, and at each name that is taken.
 const OLD: &[u8] = b"a good file";
 
-/// The line on standard error where OUT is not written.
+/// The line on standard error if OUT is not written.
 const UNWRITABLE: &str = "rvstm: file Unwritable 2\n";
 
 /// The command line.
 const LINE: &str = "rvstm asm echo.s --out out.elf";
 
-/// A disk with a source and, where it is wanted, a file at OUT, of which one change fails.
+/// A disk with a source and, if it is wanted, a file at OUT, of which one change fails.
 fn disk_of_source(alloc: Global, has_out: bool, failing: usize) -> io::Result<Stored> {
     let stored = Stored::new(alloc, failing);
     stored.put(alloc, "echo.s", ECHO_SOURCE.as_bytes())?;
@@ -33,7 +33,7 @@ fn disk_of_source(alloc: Global, has_out: bool, failing: usize) -> io::Result<St
     Ok(stored)
 }
 
-/// Such a disk with a file at OUT, on which so many of the names that are tried are taken.
+/// Such a disk with a file at OUT, on which this many of the names that are tried are taken.
 fn disk_of_names(alloc: Global, names: usize) -> io::Result<Stored> {
     let stored = disk_of_source(alloc, true, NONE)?;
     for number in 0..names {
@@ -82,7 +82,7 @@ fn is_old(stored: &Stored, has_out: bool) -> bool {
     }
 }
 
-/// Whether OUT stays as it was where one change fails, or takes nothing if it is a write.
+/// Whether OUT stays as it was if one change fails, or takes nothing if it is a write.
 fn is_kept<R: Threads + Wait + Sync>(
     rt: &R,
     alloc: Global,
@@ -110,7 +110,7 @@ fn a_refused_file_stays(rt: HostRuntime) -> Result<(), Fail> {
     Ok(())
 }
 
-/// Whether OUT is written where two names are taken, and the files there are as they were.
+/// Whether OUT is written if two names are taken, and the files there are as they were.
 fn is_beside_two_names<R: Threads + Wait + Sync>(rt: &R, alloc: Global) -> Result<bool, Fail> {
     let stored = disk_of_names(alloc, 2)?;
     let is_written = is_assembled(rt, alloc, &stored, LINE, "out.elf");
@@ -122,7 +122,7 @@ fn is_beside_two_names<R: Threads + Wait + Sync>(rt: &R, alloc: Global) -> Resul
     )
 }
 
-/// Whether OUT stays where all names are taken, and is written where the files there were left over.
+/// Whether OUT stays if all names are taken, and is written if the files there were left over.
 fn is_beside_all_names<R: Threads + Wait + Sync>(rt: &R, alloc: Global) -> Result<bool, Fail> {
     let mut stored = disk_of_names(alloc, 100)?;
     let stays = is_refused(rt, alloc, &stored, LINE, UNWRITABLE)
@@ -150,8 +150,8 @@ fn is_source_kept<R: Threads + Wait + Sync>(rt: &R, alloc: Global) -> io::Result
     )
 }
 
-/// Whether a command line is refused with a line, where it can't be told what OUT leads to, before anything on
-/// the disk is changed.
+/// Whether a command line is refused with a line if it can't be found out what OUT leads to, before anything on the disk is
+/// changed.
 fn is_lost<R: Threads + Wait + Sync>(
     rt: &R,
     alloc: Global,

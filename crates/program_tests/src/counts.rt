@@ -31,7 +31,7 @@ fn counts(alloc: Global) -> Result<RunCounts, AllocError> {
     Ok(RunCounts { calls: 2, workers })
 }
 
-/// Whether a writer that takes so many bytes holds the beginning, and the rest is refused.
+/// Whether a writer that takes this many bytes holds the beginning, and the rest is refused.
 fn is_cut(alloc: Global, counts: &RunCounts, left: usize) -> bool {
     let mut writer = FailingWriter::new(alloc, left, true);
     let answer = write_counts(alloc, counts, &mut writer);

@@ -45,12 +45,12 @@ impl Source for FailingReader<'_> {
     }
 }
 
-/// A writer that takes one byte a write, so many times, and then fails or takes nothing.
+/// A writer that takes one byte a write, a number of times, and then fails or takes nothing.
 #[derive(Drop)]
 pub struct FailingWriter {
     /// What it took.
     pub taken: Vec<u8>,
-    /// How many bytes it takes yet.
+    /// How many more bytes it takes.
     pub left: usize,
     /// Whether it fails then, or takes nothing.
     pub fails: bool,
@@ -66,7 +66,7 @@ impl FailingWriter {
         }
     }
 
-    /// Whether it took the first bytes of a text, so many as it was to take.
+    /// Whether it took this many bytes, and they are the first ones of a text.
     pub fn has_beginning(&self, text: &[u8], count: usize) -> bool {
         self.taken.len() == count && text.starts_with(self.taken.as_slice())
     }
@@ -110,7 +110,7 @@ impl Destination for FailingWriter {
     }
 }
 
-/// What an engine answers where its writer fails, or takes nothing.
+/// What an engine answers if its writer fails, or takes nothing.
 pub fn write_fault(fails: bool) -> WriteFault {
     if fails {
         WriteFault::Io
@@ -128,7 +128,7 @@ const BLOCK: &str = "rvblock 1\n\
 const PRINTED: &str =
     "store 00000000000000000000000000000000000000000000000000000000000000ff 0102\nend\n";
 
-/// Whether the block is unreadable if its reader fails after so many reads.
+/// Whether the block is unreadable if its reader fails after this many reads.
 fn is_read_refused(alloc: Global, reads: usize) -> bool {
     let mut reader = FailingReader {
         bytes: BLOCK.as_bytes(),
@@ -139,7 +139,7 @@ fn is_read_refused(alloc: Global, reads: usize) -> bool {
     is_unreadable(&answer, out.as_slice())
 }
 
-/// Whether the output is refused if a writer takes so many bytes, and then fails or takes nothing.
+/// Whether the output is refused if a writer takes this many bytes, and then fails or takes nothing.
 fn is_write_refused(alloc: Global, left: usize, fails: bool) -> bool {
     let mut writer = FailingWriter::new(alloc, left, fails);
     let answer = run_in_memory(alloc, &mut BLOCK.as_bytes(), &mut writer);
@@ -147,7 +147,7 @@ fn is_write_refused(alloc: Global, left: usize, fails: bool) -> bool {
         && writer.has_beginning(PRINTED.as_bytes(), left)
 }
 
-/// The block at each place of its text and of what it prints.
+/// Reads and writes of the block fail at each place of its text and of what it prints.
 #[test]
 fn failing_files(rt: HostRuntime) {
     for reads in 0..BLOCK.len() + 1 {

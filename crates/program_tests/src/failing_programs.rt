@@ -39,7 +39,7 @@ impl<'a> Programs for FailingProgram<'a> {
     fn close(&mut self, _file: FailingReader<'a>) {}
 }
 
-/// Whether a block is unreadable where the reader of its program fails after so many reads.
+/// Whether a block is unreadable if the reader of its program fails after this many reads.
 fn is_read_refused(alloc: Global, reads: usize) -> bool {
     let mut programs = FailingProgram {
         file: ECHO_FILE,

@@ -14,7 +14,7 @@ use std::test::Fail;
 const THREE_ECHOES: &str =
     "rvblock 1\nprogram 0 0\ncall 0 1000 -\ncall 0 1000 01\ncall 0 1000 0102\n";
 
-/// Runs the block by so many workers along the schedule of a reader.
+/// Runs the block by this many workers along the schedule of a reader.
 fn drive<S: Source>(
     alloc: Global,
     workers: usize,
@@ -46,7 +46,7 @@ fn bad_counts_of_workers_are_reported(rt: HostRuntime) {
     }
 }
 
-/// A schedule of so many steps of worker 0.
+/// A schedule of this many steps of worker 0.
 fn steps(alloc: Global, count: usize) -> Result<String, AllocError> {
     let mut schedule = String::new(alloc);
     for _ in 0..count {
@@ -55,7 +55,7 @@ fn steps(alloc: Global, count: usize) -> Result<String, AllocError> {
     Ok(schedule)
 }
 
-/// Whether a schedule is unreadable if its reader fails after so many reads.
+/// Whether a schedule is unreadable if its reader fails after this many reads.
 fn is_read_refused(alloc: Global, schedule: &str, reads: usize) -> bool {
     let mut reader = FailingReader {
         bytes: schedule.as_bytes(),

@@ -72,7 +72,7 @@ pub struct Stored {
     pub takes_nothing: bool,
     /// Whether the new files on it were left over by other processes.
     pub left_over: bool,
-    /// The error where it is asked what a path leads to, if that fails.
+    /// The error of asking what a path leads to, if that fails.
     pub lost_path: Option<io::ErrorKind>,
 }
 
@@ -169,7 +169,7 @@ impl Stored {
         }
     }
 
-    /// Counts a request to change something; refused where it is the one that fails.
+    /// Counts a request to change something. Refused if it is the one that fails.
     fn change(&self) -> io::Result<()> {
         let number = self.changes.get();
         self.changes.set(number.wrapping_add(1));
@@ -385,7 +385,7 @@ impl<'a> OutputDisk for FakeDisk<'a> {
     }
 }
 
-/// The path behind a link: that without `link/` at its beginning.
+/// The path that a link leads to: without `link/` at its beginning.
 fn behind_link(path: &str) -> &str {
     path.strip_prefix("link/").unwrap_or(path)
 }

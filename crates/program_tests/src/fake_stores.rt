@@ -74,7 +74,7 @@ impl FakeStores {
         })
     }
 
-    /// Keeps what the two files have. Where memory runs out the next open is refused as Memory.
+    /// Keeps what the two files have. If memory runs out, the next open is refused as Memory.
     fn keep(&mut self, files: &Files<Memory>) {
         let log = files.log.bytes().to_vec(self.alloc);
         let db = files.db.bytes().to_vec(self.alloc);
@@ -109,7 +109,7 @@ impl FakeStores {
         }
     }
 
-    /// Answers an input in a session that ends by a cut of the power, which leaves what was synced of the two files. False if the
+    /// Answers an input in a session that ends by a power cut, which leaves what was synced of the two files. False if the
     /// session is refused.
     pub fn answer_cut_off(&mut self, input: &[u8], out: &mut Vec<u8>) -> bool {
         let mut settings = Settings::new();
@@ -163,7 +163,7 @@ impl SessionStores for FakeStores {
         }
     }
 
-    /// Where the close fails, the bytes of before the session stay.
+    /// If the close fails, the bytes of before the session stay.
     fn close_store(
         &mut self,
         _path: &str,

@@ -97,7 +97,7 @@ impl<'a> SessionStores for KnownStores<'a> {
         }
     }
 
-    /// Any other path is refused as want of memory, for which a close may always be.
+    /// Any other path is refused as out of memory: any close may be refused so.
     fn close_store(&mut self, path: &str, store: MemStore) -> Result<(), (StoreError, MemStore)> {
         if path != self.path {
             return Err((StoreError::OutOfMemory, store));
@@ -112,7 +112,7 @@ impl<'a> SessionStores for KnownStores<'a> {
     }
 }
 
-/// What the next session is asked: the last answer, and the storage.
+/// The requests of the next session: the last answer, and the storage.
 const NEXT: &str = "\
     last\n\
     list 0000000000000000000000000000000000000000000000000000000000000000 9\n";

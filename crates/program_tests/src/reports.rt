@@ -1,4 +1,4 @@
-//! What the program reports where its input, its output or its standard error fails.
+//! What the program reports if its input, its output or its standard error fails.
 
 use crate::answers::{answer_along, answer_on};
 use crate::asserts::assert_right;
@@ -25,7 +25,7 @@ const PRINTED: [&str; 3] = ["", "0 00010000 addi x17,x0,3\n", BOTH];
 
 const BOTH: &str = "0 00010000 addi x17,x0,3\n1 00010004 ecall\n";
 
-/// Whether a read of those lines that fails after so many bytes is reported, behind what is printed of the lines before.
+/// Whether a read of those lines that fails after this many bytes is reported, after what is printed of the lines before.
 fn is_read_reported<R: Threads + Wait + Sync>(
     rt: &R,
     alloc: Global,
@@ -70,7 +70,8 @@ const LINES: &[(&str, &str)] = &[
     ("rvstm --help", "Exec"),
 ];
 
-/// Whether a writer that takes so many bytes of what a command line prints, and then fails or takes nothing, is reported.
+/// Whether a failing writer is reported: it takes this many bytes of what a command line prints, and then fails or takes
+/// nothing.
 fn is_write_reported<R: Threads + Wait + Sync>(
     rt: &R,
     alloc: Global,
@@ -109,14 +110,14 @@ fn failing_outputs_are_reported(rt: HostRuntime) -> Result<(), Fail> {
     Ok(())
 }
 
-/// A refusal, and its line.
+/// A refusal.
 const REFUSAL: Refusal = Refusal::File(FileFault::TooLong);
 
 /// The line of that refusal.
 const LINE: &str = "rvstm: file TooLong 3\n";
 
-/// Whether the status is 1 and a beginning of the line is written, where standard error takes so many
-/// bytes and then fails or takes nothing; and whether writing the line is refused so there.
+/// Whether the status is 1 and a beginning of the line is written if standard error takes this many bytes and then fails or
+/// takes nothing. Writing the line must then be refused too.
 fn is_report_cut(alloc: Global, left: usize, fails: bool, fault: WriteFault) -> bool {
     let mut errors = FailingWriter::new(alloc, left, fails);
     let status = report(&REFUSAL, &mut errors);
@@ -128,7 +129,7 @@ fn is_report_cut(alloc: Global, left: usize, fails: bool, fault: WriteFault) -> 
         && again.has_beginning(LINE.as_bytes(), left)
 }
 
-/// Whether the whole line is written where standard error takes one byte a write.
+/// Whether the whole line is written if standard error takes one byte a write.
 fn is_report_whole(alloc: Global) -> bool {
     let mut errors = FailingWriter::new(alloc, usize::MAX, true);
     report(&REFUSAL, &mut errors) == 1 && errors.taken.as_slice() == LINE.as_bytes()
@@ -143,7 +144,7 @@ fn reports_are_beginnings_of_the_line(rt: HostRuntime) {
     assert!(rt; is_report_whole(rt.alloc()));
 }
 
-/// Whether a command ends with 1, and prints this, where standard error takes nothing.
+/// Whether a command ends with 1, and prints this, if standard error takes nothing.
 fn has_status_without_errors<R: Threads + Wait + Sync>(
     rt: &R,
     alloc: Global,

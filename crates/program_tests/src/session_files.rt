@@ -1,4 +1,4 @@
-//! Sessions one after another over one file: the second goes on where a cut of the power ended the first.
+//! Sessions one after another over one file: the second continues after a power cut ended the first.
 
 use crate::answers::{Answer, answer_over};
 use crate::fake_disk::Stored;
@@ -8,7 +8,7 @@ use std::sync::Wait;
 use std::test::Fail;
 use std::thread::Threads;
 
-/// What a frame is answered that has no call.
+/// The answer to a frame that has no call.
 pub const DONE: &str = "\
     ok 4\n\
     end\n";
@@ -19,10 +19,10 @@ pub const PUT_ONE: &str = "\
     rvblock 1\n\
     store 0000000000000000000000000000000000000000000000000000000000000009 0a\n";
 
-/// What a frame of no bytes is answered.
+/// The answer to a frame of no bytes.
 const NO_HEADER: &str = "refused block 1 BadHeader 1\n";
 
-/// What a session with options is answered over a file.
+/// The answer of a session with options over a file.
 pub fn answer_in<R: Threads + Wait + Sync>(
     rt: &R,
     alloc: Global,
@@ -52,7 +52,7 @@ pub fn answer_in<R: Threads + Wait + Sync>(
     })
 }
 
-/// What the next session over the file is asked: the last answer, and the storage.
+/// The requests of the next session over the file: the last answer, and the storage.
 const NEXT: &[u8] = b"\
     last\n\
     list 0000000000000000000000000000000000000000000000000000000000000000 9\n";
@@ -63,7 +63,7 @@ const KEPT: &str = "\
     ok 74\n\
     store 0000000000000000000000000000000000000000000000000000000000000009 0a\n";
 
-/// Whether the next session over a file goes on after two frames, if the first one ended by a cut of the power.
+/// Whether the next session over a file continues after two frames, if the first one ended by a power cut.
 fn goes_on<R: Threads + Wait + Sync>(rt: &R, alloc: Global) -> Result<bool, AllocError> {
     let mut stores = FakeStores::new(alloc);
     let mut input = Vec::new(alloc);

@@ -6,7 +6,7 @@ use sha2::{Digest, Sha256};
 use std::alloc::{AllocError, Global};
 use std::test::Fail;
 
-/// Appends a request with bytes behind its line.
+/// Appends a request with bytes after its line.
 fn push_request(
     alloc: Global,
     input: &mut Vec<u8>,

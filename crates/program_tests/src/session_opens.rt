@@ -22,8 +22,8 @@ const FAULTS: &[(OpenFault, &str)] = &[
 /// A log that is shorter than its header and the header of a frame holds no commit.
 const FRAME_END: usize = 32 + 24;
 
-/// Whether a session is refused with a line, nothing is printed, the database file is as before, and the log too, but for a
-/// header where it had no commit.
+/// Whether a session is refused with a line, nothing is printed, and the database file is as before. The log must be as before
+/// too, except that it may get a header if it was empty.
 fn is_unopened<R: Threads + Wait + Sync>(
     rt: &R,
     alloc: Global,
@@ -38,7 +38,7 @@ fn is_unopened<R: Threads + Wait + Sync>(
     Ok((is_same_log || has_no_commit) && is_same_db && answer.is(1, "", line))
 }
 
-/// The file of a session that was closed behind a frame.
+/// The file of a session that was closed after a frame.
 fn session_file<R: Threads + Wait + Sync>(rt: &R, alloc: Global) -> Result<FakeStores, AllocError> {
     let mut stores = FakeStores::new(alloc);
     answer_in(rt, alloc, &mut stores, "", PUT_ONE.as_bytes())?;

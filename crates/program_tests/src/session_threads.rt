@@ -1,5 +1,5 @@
-//! Sessions whose calls run by threads: whatever their number, what is printed is what running them in order prints, also
-//! where the steps of a run by threads come to their limit.
+//! Sessions whose calls run by threads: whatever their number, what is printed is what running them in order prints, also if
+//! the steps of a run by threads reach their limit.
 
 use crate::session_inputs::{printed_by, session_over};
 use engines::{ByThreads, file_of_source};
@@ -10,7 +10,7 @@ use std::sync::Wait;
 use std::test::Fail;
 use std::thread::Threads;
 
-/// Works as many rounds as the word behind the key of its input says, and then counts the key up.
+/// Works as many rounds as the word after the key in its input says, and then counts the key up.
 const WORK: &str = "addi s0,a0,0\nlw t0,32(a0)\nround: addi t0,t0,-1\nbne t0,x0,round\n\
     sw x0,-8(sp)\naddi a1,sp,-8\naddi a2,x0,4\necall\n\
     lw t1,-8(sp)\naddi t1,t1,1\nsw t1,-8(sp)\n\
@@ -31,8 +31,8 @@ const CALLS: u32 = 24;
 /// How many keys they count up in turn.
 const KEYS: u32 = 8;
 
-/// Numbers of workers, each with how many threads run the calls behind the first ones of a frame. One thread does not
-/// pay. A run by 33 is refused, and then the calls run in order.
+/// Numbers of workers, each with how many threads run the calls after the first ones of a frame. One thread does not pay. A run
+/// by 33 is refused, and then the calls run in order.
 const WORKERS: &[(usize, usize)] = &[(1, 0), (4, 4), (32, 32), (33, 0)];
 
 /// A session of two frames of calls of 12,000 rounds, what they leave, and the counts of the session.
@@ -49,7 +49,7 @@ fn working_session(alloc: Global) -> Result<Vec<u8>, Fail> {
     Ok(input)
 }
 
-/// Whether a session prints a text by so many workers, and its last run by threads had so many.
+/// Whether a session with this many workers prints a text, and its last run by threads had this many threads.
 fn is_printed<R: Threads + Wait + Sync>(
     rt: &R,
     alloc: Global,
@@ -80,7 +80,7 @@ fn a_session_by_threads(rt: HostRuntime) -> Result<(), Fail> {
     Ok(())
 }
 
-/// Works as many rounds as the word behind the key of its input says, and then reads the key as often as the next word says.
+/// Works as many rounds as the word after the key in its input says, and then reads the key as often as the next word says.
 const READ: &str = "addi s0,a0,0\nlw t0,32(a0)\nround: addi t0,t0,-1\nbne t0,x0,round\n\
     lw s1,36(s0)\nread: addi a0,s0,0\naddi a1,sp,-64\naddi a2,x0,64\naddi a7,x0,0\necall\n\
     addi s1,s1,-1\nbne s1,x0,read\n\
@@ -117,7 +117,7 @@ fn calls_that_read_behind_calls_that_work(rt: HostRuntime) -> Result<(), Fail> {
     let input = reading_session(rt.alloc())?;
     let input = input.as_slice();
     let wanted = printed_by(rt.alloc(), &mut InOrder, SETTINGS, input)?;
-    // The threads of the last batch gave no shares back: their run was refused.
+    // The threads of the last batch returned no shares: their run was refused.
     assert!(rt; is_printed(&rt, rt.alloc(), input, wanted.as_slice(), 4, 0)?);
     Ok(())
 }

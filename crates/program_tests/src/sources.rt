@@ -7,7 +7,7 @@ use engines::{FileFault, Refusal, dis_to, file_of_source};
 use std::alloc::Global;
 use std::process::Abort;
 
-/// Whether a file is unreadable where its reader fails after so many reads.
+/// Whether a file is unreadable if its reader fails after this many reads.
 fn is_file_unreadable(alloc: Global, reads: usize) -> bool {
     let mut reader = FailingReader {
         bytes: ECHO_FILE,
@@ -18,7 +18,7 @@ fn is_file_unreadable(alloc: Global, reads: usize) -> bool {
     is_unreadable(&answer, out.as_slice())
 }
 
-/// Whether a source is unreadable where its reader fails after three reads.
+/// Whether a source is unreadable if its reader fails after three reads.
 fn is_source_unreadable(alloc: Global) -> bool {
     let mut reader = FailingReader {
         bytes: ECHO_SOURCE.as_bytes(),
@@ -28,7 +28,7 @@ fn is_source_unreadable(alloc: Global) -> bool {
     refusal == Some(Refusal::File(FileFault::Unreadable))
 }
 
-/// Whether a listing is refused where its writer takes so many bytes, and then fails or takes nothing.
+/// Whether a listing is refused if its writer takes this many bytes, and then fails or takes nothing.
 fn is_listing_refused(alloc: Global, left: usize, fails: bool) -> bool {
     let mut file = ECHO_FILE;
     let mut writer = FailingWriter::new(alloc, left, fails);

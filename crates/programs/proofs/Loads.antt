@@ -12,7 +12,7 @@ abbrev pub with_programs : List Layout → Result (List Layout) ProgramFault →
 with_programs done (Ok images) = Ok (done ++ images)
 with_programs done (Err fault) = Err fault
 
--- the programs so far and those of the paths that are left are the programs of all paths, where these are known
+-- the programs so far and those of the paths that are left are the programs of all paths, if these are known
 abbrev pub Loaded : (List ℕ → Option (Result Layout ProgramFault)) → List (List ℕ) → List (List ℕ) → List Layout → Type 0
 Loaded program_at paths rest done = IfSome (programs_of program_at paths) (λ all. option_map (with_programs done) (programs_of program_at rest) ≡ Some all)
 

@@ -19,19 +19,19 @@ file_limit = 131072
 abbrev pub program_of_file : List ℕ → Result Layout ProgramFault
 program_of_file bytes = if nat_lt file_limit (length bytes) then Err TooLong else result_map_both (λ image. image) Elf (image_of bytes)
 
--- a program before others, or the first fault; None where what decides this is unknown
+-- a program before others, or the first fault; None if what decides this is unknown
 abbrev pub with_program : Option (Result Layout ProgramFault) → Option (Result (List Layout) ProgramFault) → Option (Result (List Layout) ProgramFault)
 with_program None rest = None
 with_program (Some (Err fault)) rest = Some (Err fault)
 with_program (Some (Ok image)) rest = option_map (result_map_both (λ images. image ∷ images) (λ fault. fault)) rest
 
--- the programs at some paths, or the fault of the first faulty one, whatever comes after it; None where a program before
+-- the programs at some paths, or the fault of the first faulty one, whatever comes after it; None if a program before
 -- the first faulty one is unknown
 abbrev pub programs_of : (List ℕ → Option (Result Layout ProgramFault)) → List (List ℕ) → Option (Result (List Layout) ProgramFault)
 programs_of program_at [] = Some (Ok [])
 programs_of program_at (path ∷ paths) = with_program (program_at path) (programs_of program_at paths)
 
--- a refusal met in programs: that memory ran out, or the wanted one
+-- a refusal that programs meet: that memory ran out, or the wanted one
 abbrev pub IsProgramFault : {X : Type 0} → Option (Result X ProgramFault) → ProgramFault → Type 0
 IsProgramFault wanted fault = (fault ≡ Elf elf.Memory) ⊎ IfSome wanted (λ w. w ≡ Err fault)
 

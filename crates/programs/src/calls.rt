@@ -11,7 +11,7 @@ use rv_ledger::{Call, Rules};
 use std::alloc::{AllocError, Global};
 use std::sync::Arc;
 
-/// The calls of lines over the programs that have their numbers; refused where memory ran out.
+/// The calls of lines over the programs that have their numbers; refused if memory ran out.
 pub fn calls_over(
     alloc: Global,
     rules: Rules,
@@ -28,7 +28,7 @@ pub fn calls_over(
     Ok(calls)
 }
 
-/// The call of a line over the loaded programs; refused where memory ran out.
+/// The call of a line over the loaded programs; refused if memory ran out.
 fn call_over(rules: Rules, images: &[Arc<Image>], line: CallLine) -> Result<Call, AllocError>
     requires { line.program < length images.now }
     ensures { IfOk result (λ c. c ≡ call_over rules (map arc_value images.now) (call_value line)) }

@@ -9,6 +9,6 @@ mod paths;
 
 pub use calls::calls_over;
 pub use fault::ProgramFault;
-pub use files::{FILE_LIMIT, load_file};
+pub use files::{FILE_LIMIT, load_file, load_image};
 pub use loader::Loader;
 pub use paths::programs_at;

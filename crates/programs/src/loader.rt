@@ -1,4 +1,4 @@
-//! Where programs come from.
+//! The loader that gets a program by its path.
 
 ghost use Rattle.std.specs.Prelude.{◌≡◌, ℕ, List, Option, Result, Ok, IfErr, IfOk, IfSome};
 ghost use Rattle.std.specs.Arc.{arc_value};
@@ -12,8 +12,8 @@ use std::sync::Arc;
 
 /// What loads programs.
 pub trait Loader {
-    /// The program of the file at a path, or its fault, where the bytes of the file are known and nothing keeps them from
-    /// being read.
+    /// The program of the file at a path, or its fault. None if the bytes of the file are not known, or something may
+    /// keep them from being read.
     ghost program_at: { Self → List ℕ → Option (Result Layout ProgramFault) };
 
     /// Opens the file at a path, reads it and loads its program.

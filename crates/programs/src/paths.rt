@@ -11,7 +11,8 @@ use elf32::Image;
 use std::alloc::Global;
 use std::sync::Arc;
 
-/// The programs at some paths, loaded in order up to the first that is refused. Refused as that one is, and as Memory where memory ran out.
+/// The programs at some paths, loaded in order up to the first that is refused. Refused as that one is, and as Memory
+/// if memory ran out.
 pub fn programs_at<L: Loader>(
     alloc: Global,
     loader: &mut L,

@@ -29,7 +29,7 @@ impl Items {
         }
     }
 
-    /// Adds a read at the end; refused where memory ran out, and then nothing changes.
+    /// Adds a read at the end; refused if memory ran out, and then nothing changes.
     pub(crate) fn push(&mut self, alloc: Global, read: Read) -> Result<(), AllocError>
         ensures ok { OnOk result (reads_of self.new ≡ reads_of self.old ++ read ∷ []) }
         ensures err { OnErr result (reads_of self.new ≡ reads_of self.old) }
@@ -45,7 +45,7 @@ impl Items {
     }
 }
 
-/// A list of equal reads, with room for one more; refused where memory ran out.
+/// A list of equal reads, with room for one more; refused if memory ran out.
 fn copies_of(alloc: Global, reads: &[Read]) -> Result<Vec<Read>, AllocError>
     ensures { IfOk result (λ copies. copies.items ≡ reads.now) }
 {

@@ -1,4 +1,4 @@
-//! The reads that a run of a call made of the storage, in order, with where each answer came from.
+//! The reads that a run of a call made of the storage, in order, each with the origin of its answer.
 #![tactic(auto)]
 
 mod items;
@@ -20,12 +20,12 @@ use std::marker::Model;
 pub struct Read {
     /// The key.
     pub key: Key,
-    /// Where its answer came from.
+    /// The origin of its answer.
     pub origin: Origin,
 }
 
 impl Read {
-    /// An equal read; refused where memory ran out. Where nothing was passed this takes no memory.
+    /// An equal read; refused if memory ran out. If the read passed no version, this takes no memory.
     fn copy(&self) -> Result<Read, AllocError>
         ensures { IfOk result (λ read. read ≡ self.now) }
     {
@@ -65,7 +65,7 @@ impl ReadSet {
         }
     }
 
-    /// No reads, with room for so many; refused where memory ran out.
+    /// No reads, with room for `count` of them; refused if memory ran out.
     pub fn with_capacity(alloc: Global, count: usize) -> Result<ReadSet, AllocError>
         ensures { IfOk result (λ s. s ≡ []) }
     {
@@ -95,7 +95,7 @@ impl ReadSet {
         }
     }
 
-    /// Adds a read at the end; refused where memory ran out, and then nothing changes.
+    /// Adds a read at the end; refused if memory ran out, and then nothing changes.
     pub fn push(&mut self, read: Read) -> Result<(), AllocError>
         ensures ok { OnOk result (self.new ≡ self.old ++ read ∷ []) }
         ensures err { OnErr result (self.new ≡ self.old) }

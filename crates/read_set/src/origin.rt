@@ -1,4 +1,4 @@
-//! Where the answer to a read came from.
+//! The origin of the answer to a read.
 
 ghost use Rattle.std.specs.Prelude.{◌≡◌};
 
@@ -16,8 +16,8 @@ pub struct Version {
     pub incarnation: u16,
 }
 
-/// Where the answer to a read came from: the versions that it passed, each of which adds an amount, and
-/// what it found below them, a version or the storage before the block.
+/// The origin of the answer to a read: the versions that it passed, each of which adds an amount, and what it found below
+/// them, a version or the storage before the block.
 #[derive(Debug, Drop)]
 pub struct Origin {
     source: Source,
@@ -54,8 +54,8 @@ impl Origin {
         Origin::new(Vec::new(alloc), None)
     }
 
-    /// The origin that passed nothing and found this version, or the storage before the block where it is None. Takes
-    /// no memory.
+    /// The origin that passed nothing and found this version, or the storage before the block if it is None. Takes no
+    /// memory.
     pub fn plain(bottom: Option<Version>) -> Origin
         ensures { result ≡ record { passed = []; bottom = bottom } }
     {
@@ -64,8 +64,8 @@ impl Origin {
         }
     }
 
-    /// The origin that passed these versions, from the nearest call on, and found this version below them,
-    /// or the storage before the block where it is None. Takes no memory.
+    /// The origin that passed these versions, from the nearest call on, and found this version below them, or the storage
+    /// before the block if it is None. Takes no memory.
     pub fn new(passed: Vec<Version>, bottom: Option<Version>) -> Origin
         ensures { result ≡ record { passed = passed.items; bottom = bottom } }
     {
@@ -103,7 +103,7 @@ impl Origin {
         self.bottom() == other.bottom() && same_versions(self.passed(), other.passed())
     }
 
-    /// An equal origin. It takes memory only for a list of its own, and is refused where that ran out.
+    /// An equal origin. It takes memory only for a list of its own, and is refused if that memory ran out.
     pub fn copy(&self) -> Result<Origin, AllocError>
         ensures { IfOk result (λ o. o ≡ self.now) }
     {
@@ -115,8 +115,8 @@ impl Origin {
         Ok(Origin { source })
     }
 
-    /// Gives up its own list of the versions that were passed for a shared one that has the same, and hands out the
-    /// list that it had. Takes no memory.
+    /// Puts a shared list in place of its own list of the passed versions, and returns its own list. Both have the same
+    /// versions. Takes no memory.
     pub fn share(&mut self, list: &SharedVersions) -> Option<Vec<Version>>
         requires { list.now ≡ self.old.passed }
         ensures same { self.new ≡ self.old }

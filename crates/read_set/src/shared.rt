@@ -24,7 +24,7 @@ impl Model for SharedVersions {
 }
 
 impl SharedVersions {
-    /// A list of just these versions; refused where memory ran out.
+    /// A list of exactly these versions; refused if memory ran out.
     pub fn of(alloc: Global, versions: &[Version]) -> Result<SharedVersions, AllocError>
         ensures { IfOk result (λ s. s ≡ versions.now) }
     {

@@ -47,7 +47,7 @@ module _ {S : Type 0} {contents : S → Option (List ℕ)} {may_refuse : S → W
   pub nothing_appended : (a : TextBuffer) (k : S) → Appended contents may_refuse a k a k []
   nothing_appended a k = record { holds = λ start text h. subst (Holds contents may_refuse a start k) (sym (append-nil text)) h }
 
-  -- bytes that wait behind those that waited
+  -- bytes that wait after those that waited
   pub appended_waiting : (a b : TextBuffer) (k : S) (bytes : List ℕ) → b.waiting.items ≡ a.waiting.items ++ bytes → b.refused ≡ a.refused → Appended contents may_refuse a k b k bytes
   appended_waiting a b k bytes waits same = record {
     holds = λ start text h. (h.0, subst (λ r. IsKept contents may_refuse r b.waiting.items start k (text ++ bytes)) (sym same) (kept start text a.refused h.1));

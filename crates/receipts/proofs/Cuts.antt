@@ -1,8 +1,8 @@
--- A text of lines of fields tells its lines and their fields.
+-- A text of lines of fields determines its lines and their fields.
 use Rattle.std.proofs.Common.{◌≡◌, ℕ, Bool, true, false, ◌&&◌, List, [], ◌∷◌, ◌++◌, nat_lt, nat_le, refl, sym, ◌∙◌, arith, append_assoc}
 use Rattle.std.specs.Prelude.{flat_map}
 use Rattle.std.proofs.lemmas.Bool.Decides.{nat_tests}
-use Rattle.receipts.specs.Text.{more_fields, line_of}
+use Rattle.receipts.specs.Text.{more_fields, printed_line}
 
 -- both parts of a test that passed
 pub both : (a b : Bool) → (a && b) ≡ true → (a ≡ true) × (b ≡ true)
@@ -19,12 +19,12 @@ abbrev pub all_plain : List (List ℕ) → Bool
 all_plain [] = true
 all_plain (f ∷ fs) = plain f && all_plain fs
 
--- what comes behind a field begins with a space or a control byte
+-- what comes after a field begins with a space or a control byte
 abbrev ends : List ℕ → Bool
 ends [] = false
 ends (c ∷ t) = nat_le c 32
 
--- a byte of a field is not what comes behind one
+-- what comes after a field does not begin with a byte of a field
 inside : (c : ℕ) (cs t : List ℕ) → plain (c ∷ cs) ≡ true → ends t ≡ true → (r : List ℕ) → t ≡ c ∷ r → ⊥
 inside c cs [] p e r h = cc
 inside c cs (d ∷ t) p e r h =
@@ -32,7 +32,7 @@ inside c cs (d ∷ t) p e r h =
     let high = (both (nat_lt 32 c) (plain cs) p).0 in
     absurd (grind (arith, nat_tests))
 
--- a field and what comes behind it
+-- a field and what comes after it
 pub field_cut : (a b t u : List ℕ) → plain a ≡ true → plain b ≡ true → ends t ≡ true → ends u ≡ true → a ++ t ≡ b ++ u → (a ≡ b) × (t ≡ u)
 field_cut [] [] t u p q e f h = (refl, h)
 field_cut [] (y ∷ b) t u p q e f h = absurd (inside y b t q e (b ++ u) h)
@@ -44,7 +44,7 @@ field_cut (x ∷ a) (y ∷ b) t u p q e f h =
     let first : x ∷ a ≡ y ∷ b = cc (same, cut.0) in
     (first, cut.1)
 
--- what stands behind a field ends it
+-- what comes after a field ends it
 ends_fields : (fs : List (List ℕ)) (t : List ℕ) → ends (more_fields fs ++ t) ≡ true
 ends_fields [] t = refl
 ends_fields (f ∷ fs) t = refl
@@ -53,11 +53,11 @@ ends_fields (f ∷ fs) t = refl
 end_apart : (f : List ℕ) (fs : List (List ℕ)) (t u : List ℕ) → more_fields [] ++ t ≡ more_fields (f ∷ fs) ++ u → ⊥
 end_apart f fs t u h = cc
 
--- what stands behind the lines' ends
+-- what comes after the lines' ends
 end_cut : (t u : List ℕ) → more_fields [] ++ t ≡ more_fields [] ++ u → t ≡ u
 end_cut t u h = cc
 
--- what stands behind the spaces before the first fields
+-- what comes after the spaces before the first fields
 space_cut : (f g : List ℕ) (fs gs : List (List ℕ)) (t u : List ℕ) → more_fields (f ∷ fs) ++ t ≡ more_fields (g ∷ gs) ++ u → f ++ (more_fields fs ++ t) ≡ g ++ (more_fields gs ++ u)
 space_cut f g fs gs t u h =
     let behind : (f ++ more_fields fs) ++ t ≡ (g ++ more_fields gs) ++ u = cc in
@@ -67,7 +67,7 @@ space_cut f g fs gs t u h =
 same_fields : (f g : List ℕ) (fs gs : List (List ℕ)) → f ≡ g → fs ≡ gs → f ∷ fs ≡ g ∷ gs
 same_fields f g fs gs first rest = cc
 
--- the fields of a line and what comes behind it
+-- the fields of a line and what comes after it
 fields_cut : (fs gs : List (List ℕ)) (t u : List ℕ) → all_plain fs ≡ true → all_plain gs ≡ true → more_fields fs ++ t ≡ more_fields gs ++ u → (fs ≡ gs) × (t ≡ u)
 fields_cut [] [] t u p q h = (refl, end_cut t u h)
 fields_cut [] (g ∷ gs) t u p q h = absurd (end_apart g gs t u h)
@@ -94,10 +94,10 @@ plain_lines (l ∷ ls) = plain_line l && plain_lines ls
 
 -- the text of some lines
 abbrev pub text_of : List Line → List ℕ
-text_of lines = flat_map (λ line. line_of line.0 line.1) lines
+text_of lines = flat_map (λ line. printed_line line.0 line.1) lines
 
 -- a line has a byte
-line_some : (word : List ℕ) (fs : List (List ℕ)) (t : List ℕ) → [] ≡ line_of word fs ++ t → ⊥
+line_some : (word : List ℕ) (fs : List (List ℕ)) (t : List ℕ) → [] ≡ printed_line word fs ++ t → ⊥
 line_some [] [] t h = cc
 line_some [] (f ∷ fs) t h = cc
 line_some (c ∷ word) fs t h = cc

@@ -1,4 +1,4 @@
--- Each field of a result's text tells what it was made of, and has no space.
+-- Each field of a result's text determines what it was made of, and has no space.
 use Rattle.std.proofs.Common.{◌≡◌, ℕ, zero, suc, ◌/◌, ◌%◌, ◌^◌, ◌<◌, ◌≤◌, true, false, List, [], ◌∷◌, map, slice_index, Some, nat_lt, if◌then◌else◌, refl, sym, ap, ◌∙◌, arith, lit<}
 use Rattle.std.specs.Prelude.{◌==◌, codes}
 use Rattle.std.specs.Str.{bytes_eq}
@@ -39,7 +39,7 @@ pub decimal_plain : (n : ℕ) → plain (decimal n) ≡ true
 unfolding digits
 decimal_plain n = digits_plain 64 n [] refl
 
--- a decimal tells the gas
+-- a decimal determines the gas
 pub gas_tells : (m n : ℕ) → m < 2 ^ 32 → n < 2 ^ 32 → decimal m ≡ decimal n → m ≡ n
 gas_tells m n h k e = decimal_injective m n (omega arith) (omega arith) e
 
@@ -74,7 +74,7 @@ hex_plain (x ∷ xs) h =
     let byte : x < 256 = All-head (λ n. n < 256) x xs h in
     rw (digit_plain (x / 16) (omega arith), digit_plain (x % 16) (omega arith)) (hex_plain xs (All-tail (λ n. n < 256) x xs h))
 
--- hex tells its bytes
+-- hex determines its bytes
 pub hex_tells : (xs ys : List ℕ) → AreBytes xs → AreBytes ys → encode_lower xs ≡ encode_lower ys → xs ≡ ys
 hex_tells xs ys h k e =
     let mine = decode_of-encode_lower xs (are_bytes xs h) in
@@ -101,7 +101,7 @@ word_bytes x =
     )
     )
 
--- four bytes tell a word
+-- four bytes determine a word
 four_bytes_tell : (x y : ℕ) → x < 2 ^ 32 → y < 2 ^ 32 → x / 16777216 % 256 ≡ y / 16777216 % 256 → x / 65536 % 256 ≡ y / 65536 % 256 → x / 256 % 256 ≡ y / 256 % 256 → x % 256 ≡ y % 256 → x ≡ y
 four_bytes_tell x y h k a b c d = omega arith
 
@@ -109,7 +109,7 @@ four_bytes_tell x y h k a b c d = omega arith
 pub word_plain : (x : ℕ) → plain (word_text x) ≡ true
 word_plain x = hex_plain (to_be_bytes w32 x) (word_bytes x)
 
--- eight digits tell a word
+-- eight digits determine a word
 pub word_tells : (x y : ℕ) → x < 2 ^ 32 → y < 2 ^ 32 → word_text x ≡ word_text y → x ≡ y
 word_tells x y h k e =
     let same : to_be_bytes w32 x ≡ to_be_bytes w32 y = hex_tells (to_be_bytes w32 x) (to_be_bytes w32 y) (word_bytes x) (word_bytes y) e in
@@ -120,7 +120,7 @@ pub words_plain : (xs : List ℕ) → all_plain (map word_text xs) ≡ true
 words_plain [] = refl
 words_plain (x ∷ xs) = rw (word_plain x) (words_plain xs)
 
--- their fields tell the words
+-- the fields of words determine the words
 pub words_tell : (xs ys : List ℕ) → AreWords xs → AreWords ys → map word_text xs ≡ map word_text ys → xs ≡ ys
 words_tell [] [] h k e = refl
 words_tell [] (y ∷ ys) h k e = cc
@@ -139,7 +139,7 @@ pub bytes_plain : (xs : List ℕ) → AreBytes xs → plain (bytes_text xs) ≡ 
 bytes_plain [] h = refl
 bytes_plain (x ∷ xs) h = hex_plain (x ∷ xs) h
 
--- hex or a dash tells the bytes
+-- hex or a dash determines the bytes
 pub bytes_tell : (xs ys : List ℕ) → AreBytes xs → AreBytes ys → bytes_text xs ≡ bytes_text ys → xs ≡ ys
 unfolding encode_with
 bytes_tell [] [] h k e = refl
@@ -163,7 +163,7 @@ gone_apart (x ∷ xs) h e =
     let first : slice_index lower_digits (x / 16) ≡ 103 = cc in
     omega arith
 
--- the fields tell what was done: `gone` is no value, and an amount has a field more than either
+-- the fields determine what was done: `gone` is no value, and an amount has one field more than either
 pub change_tells : (a b : ContentChange) → IsChangeInRange a → IsChangeInRange b → change_fields a ≡ change_fields b → a ≡ b
 change_tells (change.Value x) (change.Value y) h k e = ap (λ (value : List ℕ). change.Value value) (bytes_tell x y h k (cc))
 change_tells (change.Value x) change.Gone h k e = absurd (gone_apart x h (cc))
@@ -192,7 +192,7 @@ end_by name =
     else if bytes_eq name (codes "bad-length") then Trapped BadLength
     else Trapped TooManyWrites
 
--- a name gives its end back
+-- the end of a name is the end that has this name
 named : (end : End) → end_by (end_name end) ≡ end
 named Returned = refl
 named Reverted = refl
@@ -206,7 +206,7 @@ named (Trapped UnknownCall) = refl
 named (Trapped BadLength) = refl
 named (Trapped TooManyWrites) = refl
 
--- a name tells its end
+-- a name determines its end
 pub name_tells : (a b : End) → end_name a ≡ end_name b → a ≡ b
 name_tells a b e = sym (named a) ∙ ap end_by e ∙ named b
 

@@ -26,7 +26,7 @@ read_at t js long small =
 
 -- ---- the high four bits, and the low
 
--- a byte without its low b bits
+-- the byte a without its low b bits
 abbrev pub down : ℕ → ℕ → ℕ
 down a b = a / 2 ^ b
 
@@ -132,7 +132,7 @@ pub first_eight : (a b c d : ℕ) → take 8 (four a b c d) ≡ encode_lower (a 
 unfolding encode_with
 first_eight a b c d = refl
 
--- so they are behind a space
+-- the digits after a space
 pub spaced : (a b c d : ℕ)
     → take 9 (pick_l 0 (four a b c d ++ replicate 16 32) (16 ∷ 0 ∷ 1 ∷ 2 ∷ 3 ∷ 4 ∷ 5 ∷ 6 ∷ 7 ∷ 8 ∷ 9 ∷ 10 ∷ 11 ∷ 12 ∷ 13 ∷ 14 ∷ []))
     ≡ 32 ∷ encode_lower (a ∷ b ∷ c ∷ d ∷ [])

@@ -11,8 +11,8 @@ use Rattle.hex.specs.Hex.{encode_lower}
 use Rattle.rv_ledger.specs.Change.{ContentChange}
 use Rattle.rv_ledger.specs.Key.{Storage}
 use Rattle.rv_ledger.specs.declared.receipt.Receipt.{Receipt}
-use Rattle.receipts.specs.Text.{bytes_text, word_text, change_fields, end_name, line_of, write_line, store_line, call_lines, result_text}
-use Rattle.receipts.specs.Ranges.{IsInRange, IsWriteInRange, IsEntryInRange, AreInRange}
+use Rattle.receipts.specs.Text.{bytes_text, word_text, change_fields, end_name, printed_line, write_line, store_line, call_lines, result_text}
+use Rattle.receipts.specs.Ranges.{IsReceiptInRange, IsWriteInRange, IsEntryInRange, AreInRange}
 use Rattle.receipts.proofs.Cuts.{Line, plain_line, plain_lines, text_of, lines_cut, both}
 use Rattle.receipts.proofs.Fields as field
 
@@ -50,11 +50,11 @@ last_lines store = map store_fields (entries store) ++ ((codes "end", []) ∷ []
 abbrev result_lines : List Receipt → Storage → List Line
 result_lines receipts store = lines_of_calls 0 receipts ++ last_lines store
 
--- ---- their text
+-- ---- the text of the lines
 
 -- the text of a line
 abbrev line_text : Line → List ℕ
-line_text line = line_of line.0 line.1
+line_text line = printed_line line.0 line.1
 
 -- the text of writes is that of their lines
 writes_text : (n : ℕ) (es : List (List ℕ × ContentChange)) → flat_map (write_line n) es ≡ text_of (map (write_fields n) es)
@@ -81,20 +81,20 @@ calls_text n (r ∷ rs) =
     ∙ sym (flat_map-append line_text (lines_of_call n r) (lines_of_calls (n + 1) rs))
 
 -- so is that of the storage and the end
-last_text : (store : Storage) → flat_map store_line (entries store) ++ line_of (codes "end") [] ≡ text_of (last_lines store)
+last_text : (store : Storage) → flat_map store_line (entries store) ++ printed_line (codes "end") [] ≡ text_of (last_lines store)
 last_text store =
-    ap (λ (t : List ℕ). t ++ line_of (codes "end") []) (stored_text (entries store))
+    ap (λ (t : List ℕ). t ++ printed_line (codes "end") []) (stored_text (entries store))
     ∙ sym (flat_map-append line_text (map store_fields (entries store)) ((codes "end", []) ∷ []))
 
 -- so is the whole text
 whole_text : (rs : List Receipt) (store : Storage) → result_text rs store ≡ text_of (result_lines rs store)
 whole_text rs store =
-    append_assoc (flat_map call_lines (enumerate_from 0 rs)) (flat_map store_line (entries store)) (line_of (codes "end") [])
-    ∙ ap (λ (t : List ℕ). t ++ (flat_map store_line (entries store) ++ line_of (codes "end") [])) (calls_text 0 rs)
+    append_assoc (flat_map call_lines (enumerate_from 0 rs)) (flat_map store_line (entries store)) (printed_line (codes "end") [])
+    ∙ ap (λ (t : List ℕ). t ++ (flat_map store_line (entries store) ++ printed_line (codes "end") [])) (calls_text 0 rs)
     ∙ ap (λ (t : List ℕ). text_of (lines_of_calls 0 rs) ++ t) (last_text store)
     ∙ sym (flat_map-append line_text (lines_of_calls 0 rs) (last_lines store))
 
--- ---- they have no space inside a field
+-- ---- the fields have no space inside
 
 -- lines of fields, one after the other
 plain_append : (ls ms : List Line) → plain_lines ls ≡ true → plain_lines ms ≡ true → plain_lines (ls ++ ms) ≡ true
@@ -118,15 +118,15 @@ stored_plain (e ∷ es) h =
     rw (field.hex_plain e.0 first.key, field.bytes_plain e.1 first.value) (stored_plain es (All-tail IsEntryInRange e es h))
 
 -- the fields of a call
-call_plain : (n : ℕ) (r : Receipt) → IsInRange r → plain_lines (lines_of_call n r) ≡ true
+call_plain : (n : ℕ) (r : Receipt) → IsReceiptInRange r → plain_lines (lines_of_call n r) ≡ true
 call_plain n r h =
     rw (field.decimal_plain n, field.name_plain r.end, field.decimal_plain r.gas, field.word_plain r.pc, field.bytes_plain r.out h.out, field.words_plain r.regs) (writes_plain n (entries r.writes) h.writes)
 
 -- the fields of calls
-calls_plain : (n : ℕ) (rs : List Receipt) → All IsInRange rs → plain_lines (lines_of_calls n rs) ≡ true
+calls_plain : (n : ℕ) (rs : List Receipt) → All IsReceiptInRange rs → plain_lines (lines_of_calls n rs) ≡ true
 calls_plain n [] h = refl
 calls_plain n (r ∷ rs) h =
-    plain_append (lines_of_call n r) (lines_of_calls (n + 1) rs) (call_plain n r (All-head IsInRange r rs h)) (calls_plain (n + 1) rs (All-tail IsInRange r rs h))
+    plain_append (lines_of_call n r) (lines_of_calls (n + 1) rs) (call_plain n r (All-head IsReceiptInRange r rs h)) (calls_plain (n + 1) rs (All-tail IsReceiptInRange r rs h))
 
 -- all fields
 whole_plain : (rs : List Receipt) (store : Storage) → AreInRange rs store → plain_lines (result_lines rs store) ≡ true
@@ -134,7 +134,7 @@ whole_plain rs store h =
     plain_append (lines_of_calls 0 rs) (last_lines store) (calls_plain 0 rs h.each_receipt)
     (plain_append (map store_fields (entries store)) ((codes "end", []) ∷ []) (stored_plain (entries store) h.each_entry) refl)
 
--- ---- they tell the result
+-- ---- the lines determine the result
 
 -- the field at a place
 abbrev field_at : ℕ → Line → List ℕ
@@ -149,7 +149,7 @@ first_word (l ∷ ls) = l.0
 cons_parts : {X : Type 0} (x y : X) (xs ys : List X) → x ∷ xs ≡ y ∷ ys → (x ≡ y) × (xs ≡ ys)
 cons_parts x y xs ys e = (cc, cc)
 
--- a line tells its write
+-- a line determines its write
 write_tells : (n : ℕ) (e f : List ℕ × ContentChange) → IsWriteInRange e → IsWriteInRange f → write_fields n e ≡ write_fields n f → e ≡ f
 write_tells n (k, v) (l, w) h i same =
     let keys : encode_lower k ≡ encode_lower l = ap (field_at 1) same in
@@ -158,7 +158,7 @@ write_tells n (k, v) (l, w) h i same =
     let two = field.change_tells v w h.change i.change changes in
     cc (one, two)
 
--- lines tell the writes, up to a line of another word
+-- lines determine the writes, up to a line of another word
 writes_tell : (n : ℕ) (es fs : List (List ℕ × ContentChange)) (t u : List Line) → All IsWriteInRange es → All IsWriteInRange fs → first_word t ≢ codes "write" → first_word u ≢ codes "write" → map (write_fields n) es ++ t ≡ map (write_fields n) fs ++ u → (es ≡ fs) × (t ≡ u)
 writes_tell n [] [] t u h i p q same = (refl, same)
 writes_tell n [] (f ∷ fs) t u h i p q same = absurd (p (ap first_word same))
@@ -170,7 +170,7 @@ writes_tell n (e ∷ es) (f ∷ fs) t u h i p q same =
     let both_lists : e ∷ es ≡ f ∷ fs = cc (first, rest.0) in
     (both_lists, rest.1)
 
--- a line tells its key and value
+-- a line determines its key and value
 store_tells : (e f : List ℕ × List ℕ) → IsEntryInRange e → IsEntryInRange f → store_fields e ≡ store_fields f → e ≡ f
 store_tells (k, v) (l, w) h i same =
     let keys : encode_lower k ≡ encode_lower l = ap (field_at 0) same in
@@ -179,7 +179,7 @@ store_tells (k, v) (l, w) h i same =
     let two = field.bytes_tell v w h.value i.value values in
     cc (one, two)
 
--- lines tell the entries, up to a line of another word
+-- lines determine the entries, up to a line of another word
 stored_tell : (es fs : List (List ℕ × List ℕ)) (t : List Line) → All IsEntryInRange es → All IsEntryInRange fs → first_word t ≢ codes "store" → map store_fields es ++ t ≡ map store_fields fs ++ t → es ≡ fs
 stored_tell [] [] t h i p same = refl
 stored_tell [] (f ∷ fs) t h i p same = absurd (p (ap first_word same))
@@ -190,17 +190,17 @@ stored_tell (e ∷ es) (f ∷ fs) t h i p same =
     let rest = stored_tell es fs t (All-tail IsEntryInRange e es h) (All-tail IsEntryInRange f fs i) p parts.1 in
     cc (first, rest)
 
--- words that a test tells apart
+-- words that a test finds different
 apart : (v w : List ℕ) → bytes_eq v w ≡ false → bytes_eq w w ≡ true → v ≢ w
 apart v w other same e = let tests = ap (λ (word : List ℕ). bytes_eq word w) e in cc
 
--- behind the writes of a call comes no write
+-- no write comes after the writes of a call
 call_not_write : (n : ℕ) (rs : List Receipt) (t : List Line) → first_word t ≢ codes "write" → first_word (lines_of_calls n rs ++ t) ≢ codes "write"
 call_not_write n [] t p = p
 call_not_write n (r ∷ rs) t p = apart (codes "call") (codes "write") refl refl
 
--- the lines of a call tell its receipt
-call_tells : (n : ℕ) (r s : Receipt) → IsInRange r → IsInRange s → call_fields n r ≡ call_fields n s → map word_text r.regs ≡ map word_text s.regs → entries r.writes ≡ entries s.writes → r ≡ s
+-- the lines of a call determine its receipt
+call_tells : (n : ℕ) (r s : Receipt) → IsReceiptInRange r → IsReceiptInRange s → call_fields n r ≡ call_fields n s → map word_text r.regs ≡ map word_text s.regs → entries r.writes ≡ entries s.writes → r ≡ s
 call_tells n r s h i call regs writes =
     let names : end_name r.end ≡ end_name s.end = ap (field_at 1) call in
     let gases : decimal r.gas ≡ decimal s.gas = ap (field_at 3) call in
@@ -214,14 +214,14 @@ call_tells n r s h i call regs writes =
     let writes_is = same_entries_map r.writes s.writes writes in
     λ j. record { end = end_is j; gas = gas_is j; pc = pc_is j; out = out_is j; regs = regs_is j; writes = writes_is j }
 
--- the lines of calls tell their receipts, up to a line of another word
-calls_tell : (n : ℕ) (rs ss : List Receipt) (t u : List Line) → All IsInRange rs → All IsInRange ss → first_word t ≢ codes "write" → first_word u ≢ codes "write" → first_word t ≢ codes "call" → first_word u ≢ codes "call" → lines_of_calls n rs ++ t ≡ lines_of_calls n ss ++ u → (rs ≡ ss) × (t ≡ u)
+-- the lines of calls determine their receipts, up to a line of another word
+calls_tell : (n : ℕ) (rs ss : List Receipt) (t u : List Line) → All IsReceiptInRange rs → All IsReceiptInRange ss → first_word t ≢ codes "write" → first_word u ≢ codes "write" → first_word t ≢ codes "call" → first_word u ≢ codes "call" → lines_of_calls n rs ++ t ≡ lines_of_calls n ss ++ u → (rs ≡ ss) × (t ≡ u)
 calls_tell n [] [] t u h i p q v w same = (refl, same)
 calls_tell n [] (s ∷ ss) t u h i p q v w same = absurd (v (ap first_word same))
 calls_tell n (r ∷ rs) [] t u h i p q v w same = absurd (w (ap first_word (sym same)))
 calls_tell n (r ∷ rs) (s ∷ ss) t u h i p q v w same =
-    let mine = All-head IsInRange r rs h in
-    let other = All-head IsInRange s ss i in
+    let mine = All-head IsReceiptInRange r rs h in
+    let other = All-head IsReceiptInRange s ss i in
     let mine_writes = map (write_fields n) (entries r.writes) ++ lines_of_calls (n + 1) rs in
     let other_writes = map (write_fields n) (entries s.writes) ++ lines_of_calls (n + 1) ss in
     let parts = cons_parts (call_fields n r) (call_fields n s) ((codes "regs", map word_text r.regs) ∷ mine_writes ++ t) ((codes "regs", map word_text s.regs) ∷ other_writes ++ u) same in
@@ -231,12 +231,12 @@ calls_tell n (r ∷ rs) (s ∷ ss) t u h i p q v w same =
     sym (append_assoc (map (write_fields n) (entries r.writes)) (lines_of_calls (n + 1) rs) t)
     ∙ more.1 ∙ append_assoc (map (write_fields n) (entries s.writes)) (lines_of_calls (n + 1) ss) u in
     let written = writes_tell n (entries r.writes) (entries s.writes) (lines_of_calls (n + 1) rs ++ t) (lines_of_calls (n + 1) ss ++ u) mine.writes other.writes (call_not_write (n + 1) rs t p) (call_not_write (n + 1) ss u q) parted in
-    let rest = calls_tell (n + 1) rs ss t u (All-tail IsInRange r rs h) (All-tail IsInRange s ss i) p q v w written.1 in
+    let rest = calls_tell (n + 1) rs ss t u (All-tail IsReceiptInRange r rs h) (All-tail IsReceiptInRange s ss i) p q v w written.1 in
     let first = call_tells n r s mine other parts.0 regs written.0 in
     let both_lists : r ∷ rs ≡ s ∷ ss = cc (first, rest.0) in
     (both_lists, rest.1)
 
--- the first word behind the calls
+-- the first word after the calls
 last_first : (store : Storage) (word : List ℕ) → codes "store" ≢ word → codes "end" ≢ word → first_word (last_lines store) ≢ word
 last_first store word p q = by_entries (entries store)
   where

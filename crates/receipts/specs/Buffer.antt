@@ -4,14 +4,14 @@ use Rattle.byte_streams.specs.Written.{AppendsPart, AtMostAs, IsWrittenBefore, W
 use Rattle.byte_streams.specs.declared.fault.WriteFault.{WriteFault}
 use Rattle.receipts.specs.declared.buffer.TextBuffer.{TextBuffer}
 
--- what of a text is not written yet waits, or a write was refused, and a beginning of the text was written, and not all
--- of it; the writer had `start`, of which a write might be refused so
+-- either the part of a text that is not written yet waits; or a write was refused, and a proper beginning of the text
+-- was written. The writer started as `start`, at which this refusal was possible.
 abbrev pub IsKept : {S : Type 0} → (S → Option (List ℕ)) → (S → WriteFault → Type 0) → Option WriteFault → List ℕ → S → S → List ℕ → Type 0
 IsKept contents may_refuse refused waiting start now text =
     MatchOption refused (IsWrittenBefore (contents start) (contents now) waiting text)
     (λ fault. AppendsPart (contents start) (contents now) text × may_refuse start fault)
 
--- since the writer had `start`, this text was appended; what may be refused now might be refused then
+-- this text was appended since the writer was `start`; a refusal that is possible now was possible then
 abbrev pub Holds : {S : Type 0} → (S → Option (List ℕ)) → (S → WriteFault → Type 0) → TextBuffer → S → S → List ℕ → Type 0
 Holds contents may_refuse buffer start now text =
     AtMostAs (may_refuse now) (may_refuse start) × IsKept contents may_refuse buffer.refused buffer.waiting.items start now text

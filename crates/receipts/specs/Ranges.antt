@@ -31,7 +31,7 @@ pub record IsEntryInRange (entry : List ℕ × List ℕ) : Type 0 where
   pub value : AreBytes entry.1
 
 -- gas, pc and registers have 32 bits, and output, keys and values are bytes
-pub record IsInRange (receipt : Receipt) : Type 0 where
+pub record IsReceiptInRange (receipt : Receipt) : Type 0 where
   pub gas : receipt.gas < 2 ^ 32
   pub pc : receipt.pc < 2 ^ 32
   pub out : AreBytes receipt.out
@@ -40,5 +40,5 @@ pub record IsInRange (receipt : Receipt) : Type 0 where
 
 -- the numbers of some receipts and of a storage are in their ranges
 pub record AreInRange (receipts : List Receipt) (store : Storage) : Type 0 where
-  pub each_receipt : All IsInRange receipts
+  pub each_receipt : All IsReceiptInRange receipts
   pub each_entry : All IsEntryInRange (entries store)

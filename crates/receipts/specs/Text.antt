@@ -32,7 +32,7 @@ end_name Reverted = codes "reverted"
 end_name OutOfGas = codes "out-of-gas"
 end_name (Trapped trap) = trap_name trap
 
--- bytes in lower-case hex, two digits each, or a dash where there are none
+-- bytes in lower-case hex, two digits each, or a dash if there are none
 abbrev pub bytes_text : List ℕ → List ℕ
 bytes_text [] = codes "-"
 bytes_text (b ∷ bytes) = encode_lower (b ∷ bytes)
@@ -41,7 +41,7 @@ bytes_text (b ∷ bytes) = encode_lower (b ∷ bytes)
 abbrev pub word_text : ℕ → List ℕ
 word_text word = encode_lower (to_be_bytes w32 word)
 
--- what was done to a key: its value, `gone` where it was removed, or `add` and the amount
+-- what was done to a key: its value, `gone` if it was removed, or `add` and the amount
 abbrev pub change_fields : ContentChange → List (List ℕ)
 change_fields (change.Value value) = bytes_text value ∷ []
 change_fields change.Gone = codes "gone" ∷ []
@@ -53,28 +53,28 @@ more_fields [] = codes "\n"
 more_fields (field ∷ fields) = 32 ∷ (field ++ more_fields fields)
 
 -- a line: a word, and the fields, each after one space
-abbrev pub line_of : List ℕ → List (List ℕ) → List ℕ
-line_of word fields = word ++ more_fields fields
+abbrev pub printed_line : List ℕ → List (List ℕ) → List ℕ
+printed_line word fields = word ++ more_fields fields
 
 -- how the call of an index ended
 abbrev pub call_line : ℕ → Receipt → List ℕ
 call_line index receipt =
-    line_of (codes "call") (
+    printed_line (codes "call") (
     decimal index ∷ end_name receipt.end ∷ codes "gas" ∷ decimal receipt.gas ∷ codes "pc" ∷ word_text receipt.pc
     ∷ codes "out" ∷ bytes_text receipt.out ∷ []
     )
 
 -- the registers, x0 first
 abbrev pub regs_line : List ℕ → List ℕ
-regs_line regs = line_of (codes "regs") (map word_text regs)
+regs_line regs = printed_line (codes "regs") (map word_text regs)
 
 -- one write of the call of an index
 abbrev pub write_line : ℕ → List ℕ × ContentChange → List ℕ
-write_line index (key, change) = line_of (codes "write") (decimal index ∷ encode_lower key ∷ change_fields change)
+write_line index (key, change) = printed_line (codes "write") (decimal index ∷ encode_lower key ∷ change_fields change)
 
 -- one key of the storage with its value
 abbrev pub store_line : List ℕ × List ℕ → List ℕ
-store_line (key, value) = line_of (codes "store") (encode_lower key ∷ bytes_text value ∷ [])
+store_line (key, value) = printed_line (codes "store") (encode_lower key ∷ bytes_text value ∷ [])
 
 -- all lines of a call, the writes by ascending key
 abbrev pub call_lines : ℕ × Receipt → List ℕ
@@ -84,4 +84,4 @@ call_lines (index, receipt) =
 -- all lines: the calls in block order, numbered from 0, the storage by ascending key, and the end
 abbrev pub result_text : List Receipt → Storage → List ℕ
 result_text receipts store =
-    flat_map call_lines (enumerate_from 0 receipts) ++ flat_map store_line (entries store) ++ line_of (codes "end") []
+    flat_map call_lines (enumerate_from 0 receipts) ++ flat_map store_line (entries store) ++ printed_line (codes "end") []

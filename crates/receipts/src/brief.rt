@@ -11,8 +11,8 @@ use byte_streams::{Destination, WriteFault};
 use rv_ledger::Receipt;
 use std::alloc::{AllocError, Global};
 
-/// The text of receipts: what each call did, in block order, and the line `end`. Where it is brief the lines of the registers are
-/// left out. Refused where memory ran out.
+/// The text of receipts: what each call did, in block order, and the line `end`. If it is brief, the lines of the
+/// registers are left out. Refused if memory ran out.
 pub fn receipts_text(
     alloc: Global,
     is_brief: bool,

@@ -13,8 +13,8 @@ use std::alloc::{AllocError, Global};
 /// The most bytes of text that wait, and so the most that are written at once.
 const PIECE: usize = 65_536;
 
-/// Text on its way to a writer. What is appended waits until there is no room for more, and is then written. So no more
-/// than 65,536 bytes of a text are in memory at once. After a write that was refused nothing more is written.
+/// Text on its way to a writer. What is appended waits until there is no room for more, and is then written. So no
+/// more than 65,536 bytes of a text are in memory at once. After a write that was refused, nothing more is written.
 #[derive(Drop)]
 pub struct TextBuffer {
     waiting: Vec<u8>,
@@ -28,7 +28,7 @@ impl TextBuffer {
     ghost use Rattle.std.specs.Prelude.{◌≡◌, ◌≢◌, ◌≤◌, ◌+◌, [], None, IfErr, IfOk, length};
     ghost use Rattle.receipts.specs.Buffer.{Appended, FinishesText};
 
-    /// No text; refused where memory ran out. Nothing that is appended takes memory.
+    /// No text; refused if memory ran out. Nothing that is appended takes memory.
     pub fn new(alloc: Global) -> Result<TextBuffer, AllocError>
         ensures { IfOk result (λ text. (text.refused ≡ None) × (text.waiting.items ≡ [])) }
     {
@@ -39,7 +39,7 @@ impl TextBuffer {
         })
     }
 
-    /// Appends at most 65,536 bytes. What waits is written first where there is no room for them.
+    /// Appends at most 65,536 bytes. What waits is written first if there is no room for them.
     #[inline(always)]
     pub fn push<W: Destination>(&mut self, bytes: &[u8], out: &mut W)
         requires { length bytes.now ≤ PIECE }
@@ -52,7 +52,7 @@ impl TextBuffer {
         }
     }
 
-    /// Writes what waits where there is no room for so many bytes more.
+    /// Writes what waits if there is no room for this many more bytes.
     #[inline(always)]
     fn make_room<W: Destination>(&mut self, count: usize, out: &mut W)
         requires { count ≤ PIECE }

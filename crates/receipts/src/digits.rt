@@ -67,7 +67,7 @@ fn push_sixteen<W: Destination>(text: &mut TextBuffer, bytes: &[u8], out: &mut W
     text.push(back.to_array().as_slice(), out);
 }
 
-/// Four bytes in eight hex digits, and eight zeros behind them.
+/// Four bytes in eight hex digits, and eight zeros after them.
 fn digits_of_four(a: u8, b: u8, c: u8, d: u8) -> u8x16
     ensures { result ≡ take 16 (encode_lower (a ∷ b ∷ c ∷ d ∷ replicate 12 0)) }
 {
@@ -139,7 +139,7 @@ fn push_pairs<W: Destination>(text: &mut TextBuffer, bytes: &[u8], out: &mut W)
     }
 }
 
-/// Appends bytes in hex, or a dash where there are none.
+/// Appends bytes in hex, or a dash if there are none.
 pub fn push_bytes<W: Destination>(text: &mut TextBuffer, bytes: &[u8], out: &mut W)
     ensures { Appended W.contents W.may_refuse text.old out.old text.new out.new (bytes_text bytes.now) }
 {

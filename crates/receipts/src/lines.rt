@@ -37,7 +37,7 @@ pub fn end_name(end: End) -> &'static str
     }
 }
 
-/// Bytes in lower-case hex, or a dash where there are none; refused where memory ran out.
+/// Bytes in lower-case hex, or a dash if there are none; refused if memory ran out.
 pub fn bytes_text(alloc: Global, bytes: &[u8]) -> Result<String, AllocError>
     ensures { IfOk result (λ t. string_bytes t ≡ bytes_text bytes.now) }
 {
@@ -47,14 +47,14 @@ pub fn bytes_text(alloc: Global, bytes: &[u8]) -> Result<String, AllocError>
     hex::encode(alloc, bytes)
 }
 
-/// A word in eight lower-case hex digits; refused where memory ran out.
+/// A word in eight lower-case hex digits; refused if memory ran out.
 pub fn word_text(alloc: Global, word: u32) -> Result<String, AllocError>
     ensures { IfOk result (λ t. string_bytes t ≡ word_text word) }
 {
     hex::encode(alloc, word.to_be_bytes().as_slice())
 }
 
-/// The line of the 32 registers, x0 first, with its end; refused where memory ran out.
+/// The line of the 32 registers, x0 first, with its end; refused if memory ran out.
 pub fn regs_line(alloc: Global, regs: &Regs) -> Result<String, AllocError>
     ensures { IfOk result (λ t. string_bytes t ≡ regs_line regs.now) }
 {
@@ -63,7 +63,7 @@ pub fn regs_line(alloc: Global, regs: &Regs) -> Result<String, AllocError>
     Ok(line)
 }
 
-/// Appends words, each after a space, and ends the line; refused where memory ran out.
+/// Appends words, each after a space, and ends the line; refused if memory ran out.
 fn push_words(line: &mut String, alloc: Global, words: &[u32; 32]) -> Result<(), AllocError>
     ensures { OnOk result (string_bytes line.new
         ≡ string_bytes line.old ++ more_fields (map word_text words.now)) }

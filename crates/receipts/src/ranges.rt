@@ -2,7 +2,7 @@
 
 ghost use Rattle.std.specs.Prelude.{All};
 ghost use Rattle.std.specs.FinMap.{entries};
-ghost use Rattle.receipts.specs.Ranges.{AreBytes, AreInRange, AreWords, IsChangeInRange, IsEntryInRange, IsInRange, IsWriteInRange};
+ghost use Rattle.receipts.specs.Ranges.{AreBytes, AreInRange, AreWords, IsChangeInRange, IsEntryInRange, IsReceiptInRange, IsWriteInRange};
 
 use rv_ledger::{Change, Key, Receipt, Store, StoredValue, Writes};
 
@@ -48,7 +48,7 @@ fn are_writes_in_range(writes: &Writes)
 
 /// The numbers of a receipt are in their ranges.
 fn is_in_range(receipt: &Receipt)
-    ensures { IsInRange receipt.now }
+    ensures { IsReceiptInRange receipt.now }
 {
     let _gas = receipt.gas;
     let _pc = receipt.pc;
@@ -76,7 +76,7 @@ fn are_entries_in_range(store: &Store)
 
 /// The numbers of all receipts are in their ranges.
 fn all_in_range(receipts: &[Receipt])
-    ensures { All IsInRange receipts.now }
+    ensures { All IsReceiptInRange receipts.now }
 {
     for receipt in receipts {
         is_in_range(receipt);

@@ -16,8 +16,8 @@ use rv_isa::Regs;
 use rv_ledger::{Change, End, Key, Receipt, Store, StoredValue, Writes};
 use std::alloc::{AllocError, Global};
 
-/// The text of a result: what each call did, in block order, and the storage after the last one.
-/// Refused where memory ran out.
+/// The text of a result: what each call did, in block order, and the storage after the last one. Refused if memory
+/// ran out.
 pub fn result_text(
     alloc: Global,
     receipts: &[Receipt],

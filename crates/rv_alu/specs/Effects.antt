@@ -21,11 +21,11 @@ with_register registers rd z = written registers rd.number (wrapped z)
 abbrev pub onward : List ℕ → ℕ → Option (List ℕ × ℕ)
 onward registers pc = Some (registers, wrapped (pos pc +ℤ pos 4))
 
--- goes to the target; None where it is not a multiple of 4: an instruction-address-misaligned exception
+-- goes to the target; None if it is not a multiple of 4: an instruction-address-misaligned exception
 abbrev pub jumped : List ℕ → ℕ → Option (List ℕ × ℕ)
 jumped registers target = if target % 4 == 0 then Some (registers, target) else None
 
--- the registers and the pc after an instruction at pc; None where its target is misaligned. What a load, a store,
+-- the registers and the pc after an instruction at pc; None if its target is misaligned. What a load, a store,
 -- ECALL and EBREAK do is not defined here: for them this only goes on to the next instruction
 abbrev pub effect_of : Instr → List ℕ → ℕ → Option (List ℕ × ℕ)
 effect_of (Lui rd immediate) registers pc = onward (with_register registers rd (pos (immediate.value * 2 ^ 12))) pc

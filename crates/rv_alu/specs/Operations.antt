@@ -10,11 +10,11 @@ use Rattle.rv_isa.specs.declared.instruction.ImmediateOperation.TheVariants as i
 use Rattle.rv_isa.specs.declared.instruction.Shift.{Shift}
 use Rattle.rv_isa.specs.declared.instruction.Shift.TheVariants as shift
 
--- z / n rounded down, where n is not 0
+-- z / n rounded down, if n is not 0
 abbrev pub floor : ℤ → ℕ → ℤ
 floor z n = int_div_euclid z (pos n)
 
--- 1 where the test holds, else 0
+-- 1 if the test holds, 0 if not
 abbrev pub flag : Bool → ℤ
 flag test = if test then pos 1 else pos 0
 

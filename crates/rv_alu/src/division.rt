@@ -5,10 +5,10 @@ ghost use Rattle.rv_isa.specs.Number.{wrapped};
 ghost use Rattle.rv_alu.specs.Operations.{value_of};
 ghost use Rattle.rv_isa.specs.declared.instruction.Operation.TheVariants as operation;
 
-/// The result of DIV and DIVU where the divisor is 0: 2^32 - 1.
+/// The result of DIV and DIVU if the divisor is 0: 2^32 - 1.
 const QUOTIENT_BY_ZERO: u32 = u32::MAX;
 
-/// The quotient of two signed numbers, rounded towards zero; 2^32 - 1 where the divisor is 0. -2^31 divided
+/// The quotient of two signed numbers, rounded towards zero; 2^32 - 1 if the divisor is 0. -2^31 divided
 /// by -1 gives -2^31.
 pub(crate) fn quotient(left: u32, right: u32) -> u32
     ensures { result ≡ wrapped (value_of operation.Div left right) }
@@ -22,7 +22,7 @@ pub(crate) fn quotient(left: u32, right: u32) -> u32
     }
 }
 
-/// The quotient of two unsigned numbers; 2^32 - 1 where the divisor is 0.
+/// The quotient of two unsigned numbers; 2^32 - 1 if the divisor is 0.
 pub(crate) fn unsigned_quotient(left: u32, right: u32) -> u32
     ensures { result ≡ wrapped (value_of operation.Divu left right) }
 {
@@ -33,7 +33,7 @@ pub(crate) fn unsigned_quotient(left: u32, right: u32) -> u32
     }
 }
 
-/// The remainder that belongs to `quotient`: 0, or a number with the sign of `left`; `left` where the
+/// The remainder that belongs to `quotient`: 0, or a number with the sign of `left`; `left` if the
 /// divisor is 0.
 pub(crate) fn remainder(left: u32, right: u32) -> u32
     ensures { result ≡ wrapped (value_of operation.Rem left right) }
@@ -45,7 +45,7 @@ pub(crate) fn remainder(left: u32, right: u32) -> u32
     }
 }
 
-/// The remainder that belongs to `unsigned_quotient`; `left` where the divisor is 0.
+/// The remainder that belongs to `unsigned_quotient`; `left` if the divisor is 0.
 pub(crate) fn unsigned_remainder(left: u32, right: u32) -> u32
     ensures { result ≡ wrapped (value_of operation.Remu left right) }
 {

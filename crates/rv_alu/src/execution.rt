@@ -10,8 +10,8 @@ use crate::immediates::{compute_immediate, compute_shift};
 use crate::operations::compute;
 use rv_isa::{Instr, Reg, Regs};
 
-/// Executes `instr`, which stands at `pc`, and gives the pc after it. `instr` is not a load, a store,
-/// ECALL or EBREAK. None where it is a jump or a taken branch to an address that is not a multiple of 4,
+/// Executes `instr`, which is at `pc`, and gives the pc after it. `instr` is not a load, a store,
+/// ECALL or EBREAK. None if it is a jump or a taken branch to an address that is not a multiple of 4,
 /// an instruction-address-misaligned exception; then nothing changes.
 #[inline(always)]
 pub fn execute(instr: &Instr, registers: &mut Regs, pc: u32) -> Option<u32>
@@ -49,7 +49,7 @@ pub fn execute(instr: &Instr, registers: &mut Regs, pc: u32) -> Option<u32>
     }
 }
 
-/// Jumps from `pc` to `target` and writes pc + 4 to `rd`. None where `target` is not a multiple of 4;
+/// Jumps from `pc` to `target` and writes pc + 4 to `rd`. None if `target` is not a multiple of 4;
 /// then nothing changes.
 #[inline(always)]
 fn jump(registers: &mut Regs, rd: Reg, pc: u32, target: u32) -> Option<u32>
@@ -66,7 +66,7 @@ fn jump(registers: &mut Regs, rd: Reg, pc: u32, target: u32) -> Option<u32>
     Some(target)
 }
 
-/// Writes to rd what `instr`, which stands at `pc`, computes. A FENCE writes nothing. After `instr` the
+/// Writes to rd what `instr`, which is at `pc`, computes. A FENCE writes nothing. After `instr` the
 /// program goes on with the next instruction.
 #[inline(always)]
 fn write_value(instr: &Instr, registers: &mut Regs, pc: u32)

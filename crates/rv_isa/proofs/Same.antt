@@ -1,4 +1,4 @@
--- Operands are told apart by their numbers: the proofs of their ranges are all alike.
+-- Two operands with the same number are equal: so are the proofs of their ranges.
 use Rattle.std.proofs.Common.{◌≡◌, ℕ, ℤ}
 use mathlib.Core.HLevel.{is_prop→PathP}
 use Rattle.std.proofs.Props.{props}

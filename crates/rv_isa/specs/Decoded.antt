@@ -1,5 +1,5 @@
 -- Decoding as a function, for definitions that compute. The contract of `decode` says that for every 32-bit word it
--- gives Some of the instruction that has the word, or None where no instruction has it.
+-- gives Some of the instruction that has the word, or None if no instruction has it.
 use Rattle.std.specs.Prelude.{ℕ, Option}
 use Rattle.rv_isa.specs.declared.instruction.Instr.{Instr}
 use Rattle.rv_isa.specs.Decoding.{instr_of, slots_of}

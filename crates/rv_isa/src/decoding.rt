@@ -13,7 +13,7 @@ use crate::fields::{
 use crate::tables::{condition, immediate_operation, load_kind, operation, shift, store_kind};
 use crate::{Instr, opcode};
 
-/// The instruction whose word is `word`; `None` where `word` is illegal, that is, no instruction has it.
+/// The instruction whose word is `word`; `None` if `word` is illegal: no instruction has it.
 #[inline(always)]
 #[tactic(auto, using(crate::proofs::Again::decoded_again), unfolding(crate::specs::Decoded::decoded))]
 pub fn decode(word: u32) -> Option<Instr>
@@ -88,7 +88,7 @@ pub fn decode_jal(word: u32) -> Option<Instr>
     })
 }
 
-/// The instruction of a word of the opcode JALR; `None` where its funct3 is not 0.
+/// The instruction of a word of the opcode JALR; `None` if its funct3 is not 0.
 #[inline(always)]
 #[tactic(auto, unfolding(crate::specs::Decoded::decoded, crate::specs::Decoding::instr_of))]
 pub fn decode_jalr(word: u32) -> Option<Instr>
@@ -106,7 +106,7 @@ pub fn decode_jalr(word: u32) -> Option<Instr>
     })
 }
 
-/// The branch of a word of the opcode BRANCH; `None` where no condition has its funct3.
+/// The branch of a word of the opcode BRANCH; `None` if no condition has its funct3.
 #[inline(always)]
 #[tactic(auto, unfolding(crate::specs::Decoded::decoded, crate::specs::Decoding::instr_of))]
 pub fn decode_branch(word: u32) -> Option<Instr>
@@ -122,7 +122,7 @@ pub fn decode_branch(word: u32) -> Option<Instr>
     })
 }
 
-/// The load of a word of the opcode LOAD; `None` where none has its funct3.
+/// The load of a word of the opcode LOAD; `None` if none has its funct3.
 #[inline(always)]
 #[tactic(auto, unfolding(crate::specs::Decoded::decoded, crate::specs::Decoding::instr_of))]
 pub fn decode_load(word: u32) -> Option<Instr>
@@ -138,7 +138,7 @@ pub fn decode_load(word: u32) -> Option<Instr>
     })
 }
 
-/// The store of a word of the opcode STORE; `None` where none has its funct3.
+/// The store of a word of the opcode STORE; `None` if none has its funct3.
 #[inline(always)]
 #[tactic(auto, unfolding(crate::specs::Decoded::decoded, crate::specs::Decoding::instr_of))]
 pub fn decode_store(word: u32) -> Option<Instr>
@@ -155,7 +155,7 @@ pub fn decode_store(word: u32) -> Option<Instr>
 }
 
 /// The computation or shift of a word of the opcode OP-IMM. The shifts are those with funct3 001 and 101;
-/// `None` where no shift has the word's funct7.
+/// `None` if no shift has the word's funct7.
 #[inline(always)]
 #[tactic(auto, unfolding(crate::specs::Decoded::decoded, crate::specs::Decoding::instr_of))]
 pub fn decode_immediate(word: u32) -> Option<Instr>
@@ -169,7 +169,7 @@ pub fn decode_immediate(word: u32) -> Option<Instr>
     }
 }
 
-/// A shift by a fixed amount; `None` where no shift has its funct7.
+/// A shift by a fixed amount; `None` if no shift has its funct7.
 #[inline(always)]
 fn decode_shift(word: u32) -> Option<Instr>
     requires { word % 2 ^ 7 ≡ 0b0010011 }
@@ -184,7 +184,7 @@ fn decode_shift(word: u32) -> Option<Instr>
     })
 }
 
-/// A computation with an immediate; `None` where none has its funct3.
+/// A computation with an immediate; `None` if none has its funct3.
 #[inline(always)]
 fn decode_compute_immediate(word: u32) -> Option<Instr>
     requires { word % 2 ^ 7 ≡ 0b0010011 }
@@ -199,7 +199,7 @@ fn decode_compute_immediate(word: u32) -> Option<Instr>
     })
 }
 
-/// The computation of a word of the opcode OP; `None` where none has its funct7 and funct3.
+/// The computation of a word of the opcode OP; `None` if none has its funct7 and funct3.
 #[inline(always)]
 #[tactic(auto, unfolding(crate::specs::Decoded::decoded, crate::specs::Decoding::instr_of))]
 pub fn decode_compute(word: u32) -> Option<Instr>
@@ -215,7 +215,7 @@ pub fn decode_compute(word: u32) -> Option<Instr>
     })
 }
 
-/// The fence of a word of the opcode MISC-MEM; `None` where its funct3 is not 0.
+/// The fence of a word of the opcode MISC-MEM; `None` if its funct3 is not 0.
 #[inline(always)]
 #[tactic(auto, unfolding(crate::specs::Decoded::decoded, crate::specs::Decoding::instr_of))]
 pub fn decode_fence(word: u32) -> Option<Instr>
@@ -233,7 +233,7 @@ pub fn decode_fence(word: u32) -> Option<Instr>
     })
 }
 
-/// ECALL or EBREAK, of a word of the opcode SYSTEM; `None` where it is neither.
+/// ECALL or EBREAK, of a word of the opcode SYSTEM; `None` if it is neither.
 #[inline(always)]
 #[tactic(auto, unfolding(crate::specs::Decoded::decoded, crate::specs::Decoding::instr_of))]
 pub fn decode_system(word: u32) -> Option<Instr>

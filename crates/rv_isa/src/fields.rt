@@ -96,7 +96,7 @@ pub fn immediate_of_s(word: u32) -> Immediate
     extend_12((word >> 25 << 5) + (word >> 7 & 0x1f))
 }
 
-/// The bits of a branch's offset that bits 31 to 25 of its word tell: 10 to 5, and 12 and those above, which are the sign.
+/// The bits of a branch's offset that bits 31 to 25 of its word give: 10 to 5, and 12 and those above, which are the sign.
 fn high_branch_bits(word: u32) -> u32
     ensures { result ≡ (slots_of word).funct7 / 2 ^ 6 * (2 ^ 32 - 2 ^ 12) + (slots_of word).funct7 % 2 ^ 6 * 2 ^ 5 }
 {

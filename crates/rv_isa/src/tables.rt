@@ -6,7 +6,7 @@ ghost use Rattle.rv_isa.specs.Decoding.{condition_at, load_at, store_at, immedia
 
 use crate::{Condition, ImmediateOperation, LoadKind, Operation, Shift, StoreKind};
 
-/// The condition of a branch by its funct3; `None` where no branch has it.
+/// The condition of a branch by its funct3; `None` if no branch has it.
 pub fn condition(funct3: u32) -> Option<Condition>
     ensures { result ≡ condition_at funct3 }
 {
@@ -21,7 +21,7 @@ pub fn condition(funct3: u32) -> Option<Condition>
     }
 }
 
-/// The kind of a load by its funct3; `None` where no load has it.
+/// The kind of a load by its funct3; `None` if no load has it.
 pub fn load_kind(funct3: u32) -> Option<LoadKind>
     ensures { result ≡ load_at funct3 }
 {
@@ -35,7 +35,7 @@ pub fn load_kind(funct3: u32) -> Option<LoadKind>
     }
 }
 
-/// The kind of a store by its funct3; `None` where no store has it.
+/// The kind of a store by its funct3; `None` if no store has it.
 pub fn store_kind(funct3: u32) -> Option<StoreKind>
     ensures { result ≡ store_at funct3 }
 {
@@ -47,7 +47,7 @@ pub fn store_kind(funct3: u32) -> Option<StoreKind>
     }
 }
 
-/// The computation with an immediate by its funct3; `None` where none has it. 001 and 101 are the shifts.
+/// The computation with an immediate by its funct3; `None` if none has it. 001 and 101 are the shifts.
 pub fn immediate_operation(funct3: u32) -> Option<ImmediateOperation>
     ensures { result ≡ immediate_operation_at funct3 }
 {
@@ -62,7 +62,7 @@ pub fn immediate_operation(funct3: u32) -> Option<ImmediateOperation>
     }
 }
 
-/// The shift by a fixed amount that has this funct7 and funct3; `None` where there is none.
+/// The shift by a fixed amount that has this funct7 and funct3; `None` if there is none.
 pub fn shift(funct7: u32, funct3: u32) -> Option<Shift>
     ensures { result ≡ shift_at funct7 funct3 }
 {
@@ -74,7 +74,7 @@ pub fn shift(funct7: u32, funct3: u32) -> Option<Shift>
     }
 }
 
-/// The computation of two registers that has this funct7 and funct3; `None` where there is none.
+/// The computation of two registers that has this funct7 and funct3; `None` if there is none.
 pub fn operation(funct7: u32, funct3: u32) -> Option<Operation>
     ensures { result ≡ operation_at funct7 funct3 }
 {

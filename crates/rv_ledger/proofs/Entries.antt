@@ -19,7 +19,7 @@ use Rattle.rv_ledger.specs.Entries.{AreAscending, IsWriteList}
 use Rattle.rv_ledger.specs.Key.{key_cmp, has_room, Storage, WriteMap}
 use Rattle.rv_ledger.specs.Inserted.{inserted}
 
--- keys that compare alike are one
+-- keys that compare as equal are one key
 pub key_cmp-IsAntisymmetric : IsAntisymmetric key_cmp
 key_cmp-IsAntisymmetric = slice_cmp-IsAntisymmetric nat_cmp-IsAntisymmetric
 
@@ -105,18 +105,18 @@ or_false : (a b : Bool) → b ≡ false → a ≡ (a || b)
 or_false true b h = refl
 or_false false b h = sym h
 
--- a lent value is there where the value is
+-- there is a lent value exactly if there is a value
 pub copied_is_some : {X : Type 0} (o : Option (Bor X)) → is_some (option_copied o) ≡ is_some o
 copied_is_some None = refl
 copied_is_some (Some x) = refl
 
--- there is room where few keys are written
+-- there is room if few keys are written
 pub room_by_count : (es : List (List ℕ × ContentChange)) (key : List ℕ) (n : ℕ) (m : WriteMap) → AreAscending es → from_entries es ≡ m → n ≡ length es → n < 256 → nat_lt n 256 ≡ has_room m key
 room_by_count es key n m up is count few =
     let test : nat_lt (length es) 256 ≡ true = grind (arith, nat_tests) in
     ap (λ k. nat_lt k 256) count ∙ or_true (is_some (lookup (is_at (key_cmp key)) es)) (nat_lt (length es) 256) test ∙ sym (has_room_entries es key up) ∙ ap (λ (w : WriteMap). has_room w key) is
 
--- and else where the key is written already
+-- otherwise there is room exactly if the key is written already
 pub room_by_key : (es : List (List ℕ × ContentChange)) (key : List ℕ) (n : ℕ) (m : WriteMap) → AreAscending es → from_entries es ≡ m → n ≡ length es → 256 ≤ n → is_some (get m key) ≡ has_room m key
 room_by_key es key n m up is count many =
     let test : nat_lt (length es) 256 ≡ false = grind (arith, nat_tests) in

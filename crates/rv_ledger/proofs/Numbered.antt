@@ -39,7 +39,7 @@ numbered_at n (e ∷ list) zero p key h is =
     λ j. Some (same j, first j)
 numbered_at n (e ∷ list) (suc i) p key h is = numbered_at (suc n) list i p key h (omega arith)
 
--- a key that is looked up stands where its number says
+-- a key that is looked up is at the position of its number
 numbered_from : (n : ℕ) (list : EntryList) (q : List ℕ) (p : ℕ) → lookup (is_at (key_cmp q)) (numbered n list) ≡ Some p → (i : ℕ) × (p ≡ n + i) × (key_at list i ≡ Some q)
 numbered_from n [] q p h = cc
 numbered_from n (e ∷ list) q p h = by (is_at (key_cmp q) e.0) refl (numbered_from (suc n) list q p) h
@@ -69,7 +69,7 @@ module _ (list : EntryList) (up : AreAscending list) where
     looked_up : (q : List ℕ) → position_of tree q ≡ lookup (is_at (key_cmp q)) (numbered 0 list)
     looked_up q = made q ∙ update_all_none (eq_by_cmp_equiv nat_list_cmp_total) (eq_by_cmp key_cmp) (λ x y. refl) (numbered 0 list) q distinct_numbered
 
-    -- a tree that is made of the numbers says where each key stands
+    -- a tree that is made of the numbers has the position of each key
     pub numbered_indexed : AreIndexed tree list
     numbered_indexed = record {
       listed = λ q p e.

@@ -1,4 +1,4 @@
--- Positions of keys in a list of entries: where a key stands, and what an edit does to the entries by key.
+-- Positions of keys in a list of entries: the position of each key, and what an edit does to the entries by key.
 use Rattle.std.proofs.Common.{◌≡◌, ◌≢◌, ◌<◌, ◌⊎◌, ◌++◌, ℕ, suc, zero, Bool, true, false, cond, List, [], ◌∷◌, length, set, get_or, slice_get, Option, None, Some, refl, sym, ap, subst, ◌∙◌, arith, inl, inr}
 use mathlib.Core.Bool.{false≢true}
 use Rattle.std.specs.BTreeMap.{is_at}
@@ -19,11 +19,11 @@ use Rattle.rv_ledger.specs.Positions.{AreIndexed, AreWithin, EntryList, IsSetAt,
 
 -- ---- keys
 
--- a key is found alike to itself
+-- a key is found equal to itself
 pub key_itself : (key : List ℕ) → is_at (key_cmp key) key ≡ true
 key_itself key = ap is_eq (tied_itself nat_list_cmp_total key)
 
--- keys that a test finds alike are one
+-- keys that a test finds equal are one key
 pub same_key : (key q : List ℕ) → is_at (key_cmp key) q ≡ true → key ≡ q
 same_key key q h = tells_apart exact_bytes key q h
 
@@ -82,11 +82,11 @@ key_found list p e l is = ap (option_map (λ (x : List ℕ × List ℕ). x.0)) (
 pub value_found : (list : EntryList) (p : ℕ) (e : List ℕ × List ℕ) → p < length list → e ≡ get_or list p e → value_in list p ≡ e.1
 value_found list p e l is = ap (λ (x : Option (List ℕ × List ℕ)). unwrap_or (option_map (λ (y : List ℕ × List ℕ). y.1) x) []) (slice_get-get_or list p e l ∙ ap Some (sym is))
 
--- a position that a key has is one of the list
+-- the position of a key is within the list
 pub position_within : (ps : Positions) (list : EntryList) → AreIndexed ps list → (key : List ℕ) (p : ℕ) → position_of ps key ≡ Some p → p < length list
 position_within ps list h key p at = key_within list p key (h.listed key p at)
 
--- so all positions are, where a look-up finds each
+-- so all positions are within it, if a look-up finds each
 pub all_within : (ps : Positions) (list : EntryList) → AreIndexed ps list → All (λ e. position_of ps e.0 ≡ Some e.1) ps → AreWithin ps list
 all_within ps list h found k d l = position_within ps list h (get_or ps k d).0 (get_or ps k d).1 (found k d l)
 
@@ -105,14 +105,14 @@ module _ (ps : Positions) (list : EntryList) (h : AreIndexed ps list) (key : Lis
     | inr ne ↦ ap (option_map (λ (x : List ℕ × List ℕ). x.0)) (get_set_apart list p q (key, value) ne)
   ]
 
-  -- the keys stand where they stood
+  -- the keys stay at their positions
   pub set_indexed : AreIndexed ps (set list p (key, value))
   set_indexed = record {
     listed = λ k q e. key_kept q ∙ h.listed k q e;
     indexed = λ k q e. h.indexed k q (sym (key_kept q) ∙ e);
   }
 
-  -- that key's value alone changes
+  -- only the value of that key changes
   pub set_in_order : IsSetAt (in_order ps list) (in_order ps (set list p (key, value))) key value
   set_in_order q =
       lookup_in_order ps now q
@@ -145,7 +145,7 @@ module _ (ps after : Positions) (list : EntryList) (h : AreIndexed ps list) (key
   was_or_last (x ∷ xs) zero q e = inl e
   was_or_last (x ∷ xs) (suc p) q e = elim (was_or_last xs p q e) [ inl was ↦ inl was | inr both ↦ inr (ap suc both.0, both.1) ]
 
-  -- each key stands at its position
+  -- each key is at its position
   pub added_indexed : AreIndexed after (list ++ (key, value) ∷ [])
   added_indexed = record {
     listed = λ q p e. listed_by q p (is_at (key_cmp key) q) refl (sym (added q) ∙ e);
@@ -163,7 +163,7 @@ module _ (ps after : Positions) (list : EntryList) (h : AreIndexed ps list) (key
       indexed_by q p true t was = let none : position_of ps q ≡ None = ap (position_of ps) (sym (same_key key q t)) ∙ absent in cc
       indexed_by q p false t was = added q ∙ ap (λ b. cond b (Some n) (position_of ps q)) t ∙ was
 
-  -- it has its value, and those at the other keys stay
+  -- it has its value, and the values of the other keys stay
   pub added_in_order : IsSetAt (in_order ps list) (in_order after (list ++ (key, value) ∷ [])) key value
   added_in_order q =
       lookup_in_order after (list ++ (key, value) ∷ []) q

@@ -9,13 +9,13 @@ use Rattle.rv_ledger.specs.Key.{key_cmp}
 use Rattle.rv_ledger.specs.Positions.{AreIndexed, EntryList, IsGoneAt, Positions, in_order, key_at, position_of, value_in}
 use Rattle.rv_ledger.proofs.Positions.{key_within, lookup_in_order, other_key, position_within, same_key}
 
--- left is list without the entry at p, where the last one then stands, if it was another
+-- left is list without the entry at p; the last entry, if it was another, is at p then
 pub record IsLeft (list left : EntryList) (p : ℕ) : Type 0 where
   pub shorter : length left + 1 ≡ length list
   pub here : (d : List ℕ × List ℕ) → p + 1 < length list → get_or left p d ≡ get_or list (length left) d
   pub apart : (k : ℕ) (d : List ℕ × List ℕ) → k ≢ p → k + 1 < length list → get_or left k d ≡ get_or list k d
 
--- where an entry at position r is then, where m is the last position
+-- the position after the removal of an entry that was at r; m is the last position
 abbrev pub moved : ℕ → ℕ → ℕ → ℕ
 moved m p r = cond (r == m) p r
 
@@ -36,7 +36,7 @@ module _ (ps : Positions) (list left : EntryList) (h : AreIndexed ps list) (key 
   within : p < length list
   within = position_within ps list h key p at
 
-  -- another position than p is another key's
+  -- a position other than p is another key's
   other_position : (q : List ℕ) (r : ℕ) → position_of ps q ≡ Some r → r ≢ p → is_at (key_cmp key) q ≡ false
   other_position q r e ne = by (is_at (key_cmp key) q) refl
     where
@@ -44,7 +44,7 @@ module _ (ps : Positions) (list left : EntryList) (h : AreIndexed ps list) (key 
       by true t = let one : Some p ≡ Some r = sym at ∙ ap (position_of ps) (same_key key q t) ∙ e in let same : r ≡ p = cc in absurd (ne same)
       by false t = refl
 
-  -- and another key's position is another
+  -- and another key's position is not p
   apart_position : (q : List ℕ) (r : ℕ) → is_at (key_cmp key) q ≡ false → position_of ps q ≡ Some r → r ≢ p
   apart_position q r t e same =
       let one : Some key ≡ Some q = sym (h.listed key p at) ∙ ap (key_at list) (sym same) ∙ h.listed q r e in
@@ -56,14 +56,14 @@ module _ (ps : Positions) (list left : EntryList) (h : AreIndexed ps list) (key 
   same_there : (k : ℕ) → k ≢ p → k < length left → slice_get left k ≡ slice_get list k
   same_there k ne l = slice_get-get_or left k ([], []) l ∙ ap Some (is.apart k ([], []) ne (omega (arith, is.shorter))) ∙ sym (slice_get-get_or list k ([], []) (omega (arith, is.shorter)))
 
-  -- each other entry stands where it was moved
+  -- each other entry is at the position that it moved to
   stays : (r : ℕ) → r < length list → r ≢ p → slice_get left (moved m p r) ≡ slice_get list r
   stays r l ne = elim (cases_eq r m) [
     | inl e ↦ ap (slice_get left) (moved_last m p r e) ∙ last_here (omega (arith, is.shorter, within)) ∙ ap (slice_get list) (sym e)
     | inr apart ↦ ap (slice_get left) (moved_not m p r apart) ∙ same_there r ne (omega (arith, is.shorter))
   ]
 
-  -- where the tree says so
+  -- if the tree after the removal has these positions
   module _ (after : Positions) (tells : (q : List ℕ) → position_of after q ≡ cond (is_at (key_cmp key) q) None (option_map (moved m p) (position_of ps q))) where
     found : (q : List ℕ) (r s : ℕ) → position_of ps q ≡ Some r → r ≢ p → moved m p r ≡ s → position_of after q ≡ Some s
     found q r s e ne to =
@@ -106,14 +106,14 @@ module _ (ps : Positions) (list left : EntryList) (h : AreIndexed ps list) (key 
         by false t (Some r) e =
             ap (λ (x : Option (List ℕ × List ℕ)). Some (unwrap_or (option_map (λ (y : List ℕ × List ℕ). y.1) x) [])) (stays r (position_within ps list h q r e) (apart_position q r t e))
 
-  -- where it was not, the last key is still where it was in a tree without the removed one
+  -- if it was not the last, the last key keeps its position in a tree without the removed key
   pub last_there : (between : Positions) (last : List ℕ) → p < length left → key_at left p ≡ Some last
       → ((q : List ℕ) → position_of between q ≡ cond (is_at (key_cmp key) q) None (position_of ps q)) → position_of between last ≡ Some (length left)
   last_there between last l stands gone =
       let was : position_of ps last ≡ Some m = h.indexed last m (ap (option_map (λ (x : List ℕ × List ℕ). x.0)) (sym (last_here l)) ∙ stands) in
       gone last ∙ ap (λ b. cond b None (position_of ps last)) (other_position last m was (omega arith)) ∙ was
 
-  -- the tree says so where the entry was the last, and the key was removed
+  -- the tree has these positions if the entry was the last and its key was removed
   pub tells_last : (after : Positions) → length left ≤ p → ((q : List ℕ) → position_of after q ≡ cond (is_at (key_cmp key) q) None (position_of ps q))
       → (q : List ℕ) → position_of after q ≡ cond (is_at (key_cmp key) q) None (option_map (moved (length left) p) (position_of ps q))
   tells_last after end gone q = gone q ∙ by (is_at (key_cmp key) q) refl (position_of ps q) refl
@@ -126,7 +126,7 @@ module _ (ps : Positions) (list left : EntryList) (h : AreIndexed ps list) (key 
           let l = within in
           ap Some (sym (moved_not m p r (λ same. ne (omega (arith, is.shorter, same)))))
 
-  -- and where it was not, and the last key was then given the position
+  -- and if it was not the last, and the last key then got its position
   pub tells_moved : (between after : Positions) (last : List ℕ) → p < length left → key_at left p ≡ Some last
       → ((q : List ℕ) → position_of between q ≡ cond (is_at (key_cmp key) q) None (position_of ps q))
       → ((q : List ℕ) → position_of after q ≡ cond (is_at (key_cmp last) q) (Some p) (position_of between q))
@@ -152,7 +152,7 @@ module _ (ps : Positions) (list left : EntryList) (h : AreIndexed ps list) (key 
           let one : Some last ≡ Some q = sym was ∙ ap (key_at list) (sym same) ∙ h.listed q r e in
           absurd (other_key last q other cc))))
 
--- where the key was absent, or the list keeps its entry, the others stay
+-- if the key was absent, or the list keeps its entry, the others stay
 pub gone_in_order : (ps after : Positions) (list : EntryList) (key : List ℕ) → ((q : List ℕ) → position_of after q ≡ cond (is_at (key_cmp key) q) None (position_of ps q)) → IsGoneAt (in_order ps list) (in_order after list) key
 gone_in_order ps after list key gone q =
     lookup_in_order after list q

@@ -20,7 +20,7 @@ use Rattle.std.proofs.lemmas.Option.{get_or_from_slice_get, slice_get_within, sl
 use Rattle.rv_ledger.specs.Entries.{IsAt, IsGapBy}
 
 module _ {K : Type 0} {cmp : K → K → Ordering} (total : IsTotalOrder cmp) (exact : IsAntisymmetric cmp) where
-  -- equal keys are equal by their order
+  -- equality by the order is an equivalence
   same_key : IsEquivalence (eq_by_cmp cmp)
   same_key = eq_by_cmp_equiv total
 
@@ -35,7 +35,7 @@ module _ {K : Type 0} {cmp : K → K → Ordering} (total : IsTotalOrder cmp) (e
   all_above key k (x ∷ ks) less h = (total.trans key k x less h.0, all_above key k ks less h.1)
 
   module _ {X : Type 0} where
-    -- the comparisons with a key rise along the entries, as a binary search asks
+    -- the comparisons with a key rise along the entries, as a binary search requires
     rising : (es : List (K × X)) (key : K) → IsStrictlySortedBy cmp (keys_of es) → IsNonDecreasingBy (λ e. ordering_index (cmp e.0 key)) es
     rising es key up = searchable_from_sorted total (λ (e : K × X). e.0) es key sorted
       where
@@ -64,19 +64,19 @@ module _ {K : Type 0} {cmp : K → K → Ordering} (total : IsTotalOrder cmp) (e
           };
         }
 
-    -- the key of a place has what stands there
+    -- a look-up of a key finds the value at the position of its entry
     pub there : (es : List (K × X)) (key : K) (i : ℕ) (d : K × X) → IsStrictlySortedBy cmp (keys_of es) → IsAt es key i → Some (get_or es i d).1 ≡ lookup (is_at (cmp key)) es
     there es key i d up at =
         let Has : K → Type 0 = λ k. Some (get_or es i d).1 ≡ lookup (is_at (cmp k)) es in
         subst Has (at.of_key d) (sym (lookup_from_place same_key es i (get_or es i d).0 (get_or es i d).1 (IsDistinct-from_sorted cmp (keys_of es) up) (slice_get-get_or es i d at.in_range)))
 
-    -- the key of a gap has nothing
+    -- a look-up of the key of a gap finds nothing
     pub absent : (es : List (K × X)) (key : K) (i : ℕ) → IsStrictlySortedBy cmp (keys_of es) → IsGapBy cmp es key i → lookup (is_at (cmp key)) es ≡ None
     absent es key i up gap = lookup_at_gap total key es i up gap.lower_before gap.higher_at
 
-    -- ---- a change in place of one
+    -- ---- a change in place of another
 
-    -- a write at a key's place sets the value of the key
+    -- a write at the position of a key's entry sets the value of the key
     set_there : (es : List (K × X)) (key : K) (i : ℕ) (v : X) → IsStrictlySortedBy cmp (keys_of es) → IsAt es key i → set es i (key, v) ≡ set_value (is_at (cmp key)) es v
     set_there [] key i v up at = absurd (omega (arith, at.in_range))
     set_there (e ∷ es) key zero v up at =

@@ -14,7 +14,7 @@ less Less h = refl
 less Equal h = absurd h
 less Greater h = absurd h
 
--- a key that ties with one below all others is not among them
+-- a key equal to one below all others is not among them
 pub not_below : {X : Type 0} (q k : List ℕ) (es : List (List ℕ × X)) → key_cmp q k ≡ Equal → T (below_all key_cmp k es) → find key_cmp q es ≡ None
 not_below q k [] tie h = refl
 not_below q k (e ∷ es) tie h =

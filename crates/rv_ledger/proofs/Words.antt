@@ -1,4 +1,4 @@
--- Lists of bytes are ordered as the numbers of their first bytes are, and where these are equal as the rest is.
+-- Lists of bytes are ordered as the numbers of their first bytes are, and if these are equal as the rest is.
 use Rattle.std.proofs.Common.{◌≡◌, ℕ, zero, suc, ◌+◌, ◌*◌, ◌^◌, ◌<◌, ◌≤◌, List, [], ◌∷◌, length, drop, get_or, refl, sym, ap, ◌∙◌, arith, length-drop, Ordering, Less, Equal, Greater}
 use Rattle.std.specs.Prelude.{slice_index}
 use Rattle.std.specs.Cmp.{nat_cmp_is, ranks}
@@ -15,7 +15,7 @@ moved c a b Less h = omega arith
 moved c a b Equal h = ap (λ n. c + n) h
 moved c a b Greater h = omega arith
 
--- a digit in front that is the same
+-- the same digit in front changes no comparison
 same_front : (c a b : ℕ) → nat_cmp (c + a) (c + b) ≡ nat_cmp a b
 same_front c a b = sym (nat_cmp_is (c + a) (c + b) (nat_cmp a b) (moved c a b (nat_cmp a b) (ranks a b)))
 
@@ -36,7 +36,7 @@ digits x y p a b la lb Greater h = sym (nat_cmp_is (x * p + a) (y * p + b) Great
 abbrev pub AreBytes : List ℕ → Type 0
 AreBytes xs = (i : ℕ) → get_or xs i 0 < 256
 
--- the number behind the first byte
+-- the number of the bytes after the first
 behind : (n i x : ℕ) (xs : List ℕ) → big_from (suc i) n (x ∷ xs) ≡ big_from i n xs
 behind zero i x xs = refl
 behind (suc n) i x xs = ap (λ rest. slice_index xs i * 256 ^ n + rest) (behind n (suc i) x xs)
@@ -56,7 +56,7 @@ then_then Less b c = refl
 then_then Equal b c = refl
 then_then Greater b c = refl
 
--- the numbers of the first n bytes decide, and where they are equal the bytes behind them
+-- the numbers of the first n bytes decide, and if they are equal the bytes after them
 pub by_number : (n : ℕ) (xs ys : List ℕ) → AreBytes xs → AreBytes ys → n ≤ length xs → n ≤ length ys → slice_cmp nat_cmp xs ys ≡ ordering_then (nat_cmp (big_from 0 n xs) (big_from 0 n ys)) (slice_cmp nat_cmp (drop n xs) (drop n ys))
 by_number zero xs ys hx hy lx ly = refl
 by_number (suc n) [] ys hx hy lx ly = absurd (omega arith)
@@ -72,11 +72,11 @@ by_number (suc n) (x ∷ xs) (y ∷ ys) hx hy lx ly =
     ∙ sym (then_then (nat_cmp x y) (nat_cmp (big_from 0 n xs) (big_from 0 n ys)) rest)
     ∙ ap (λ o. ordering_then o rest) (sym order ∙ ap (λ a. nat_cmp (x * 256 ^ n + a) (y * 256 ^ n + big_from 0 n ys)) (sym (behind n 0 x xs)) ∙ ap (λ b. nat_cmp (x * 256 ^ n + big_from 1 n (x ∷ xs)) (y * 256 ^ n + b)) (sym (behind n 0 y ys)))
 
--- the bytes behind a place
+-- the bytes from a position on
 bytes_behind : (n : ℕ) (xs : List ℕ) → AreBytes xs → AreBytes (drop n xs)
 bytes_behind n xs h i = rw (get_or-drop n xs i 0) (h (n + i))
 
--- eight bytes decide, and where their numbers are equal the bytes behind them
+-- eight bytes decide, and if their numbers are equal the bytes after them
 pub by_word : (k : ℕ) (xs ys : List ℕ) → AreBytes xs → AreBytes ys → length xs ≡ 32 → length ys ≡ 32 → k < 4 → slice_cmp nat_cmp (drop (k * 8) xs) (drop (k * 8) ys) ≡ ordering_then (nat_cmp (big_from 0 8 (drop (k * 8) xs)) (big_from 0 8 (drop (k * 8) ys))) (slice_cmp nat_cmp (drop ((k + 1) * 8) xs) (drop ((k + 1) * 8) ys))
 by_word k xs ys hx hy lx ly l =
     let kx : 8 ≤ length (drop (k * 8) xs) = omega (arith, length-drop (k * 8) xs) in

@@ -25,7 +25,7 @@ apply_each store writes = fold (λ before write. apply_write before write.0 writ
 unfoldable pub apply_writes : Storage → WriteMap → Storage
 apply_writes store writes = apply_each store (map.entries writes)
 
--- the first so many writes of a receipt were applied, and not all of them
+-- the first `count` writes of a receipt were applied, and not all of them
 abbrev pub ArePartlyApplied : Storage → WriteMap → Storage → Type 0
 ArePartlyApplied store writes after =
     (count : ℕ) × (count < length (map.entries writes))

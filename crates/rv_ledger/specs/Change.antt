@@ -6,7 +6,7 @@ use Rattle.std.specs.Int.{w64, from_le_bytes, to_le_bytes}
 use Rattle.rv_ledger.specs.declared.change.Change.{Change}
 use Rattle.rv_ledger.specs.declared.change.Change.TheVariants as change
 
--- what a key has: a value, or None where it is absent
+-- what a key has: a value, or None if the key is absent
 abbrev pub Content : Type 0
 Content = Option (List ℕ)
 
@@ -14,8 +14,8 @@ Content = Option (List ℕ)
 abbrev pub ContentChange : Type 0
 ContentChange = Change (List ℕ)
 
--- the number in a content: that of a value of exactly eight bytes, the least first; any other value counts as 0, and so does
--- absence
+-- the number in a content: that of a value of exactly eight bytes, the least first; any other value counts as 0, and so
+-- does absence
 unfoldable pub number_in : Content → ℕ
 number_in None = 0
 number_in (Some value) = if length value == 8 then from_le_bytes w64 value else 0
@@ -34,13 +34,13 @@ apply_change (change.Value value) content = Some value
 apply_change change.Gone content = None
 apply_change (change.Sum amount) content = Some (add content amount)
 
--- the same change with f of its value
+-- the same change with f applied to its value
 abbrev pub change_map : {V W : Type 0} → (V → W) → Change V → Change W
 change_map f (change.Value value) = change.Value (f value)
 change_map f change.Gone = change.Gone
 change_map f (change.Sum amount) = change.Sum amount
 
--- the change behind one that lends its value
+-- the change whose value is borrowed by c
 abbrev pub change_copied : {V : Type 0} → Change (Bor V) → Change V
 change_copied c = change_map (λ value. value.now) c
 
@@ -62,12 +62,12 @@ restored_change (value, None) = change.Value value
 restored_change (value, Some None) = change.Gone
 restored_change (value, Some (Some amount)) = change.Sum amount
 
--- such data gives the change back
+-- a change is restored from its data
 pub restored_change_is : (c : ContentChange) → restored_change (stored_change c) ≡ c
 restored_change_is (change.Value value) = refl
 restored_change_is change.Gone = refl
 restored_change_is (change.Sum amount) = refl
 
--- the code of a change
+-- the code of a change, by its data
 abbrev pub coded_change : Coded ContentChange
 coded_change = code_by (List ℕ × Option (Option ℕ)) (coded× (coded_list coded_ℕ) (coded_option (coded_option coded_ℕ))) stored_change restored_change restored_change_is

@@ -17,12 +17,12 @@ pub record IsWriteList (entries : List (List ℕ × ContentChange)) : Type 0 whe
   pub ascending : AreAscending entries
   pub few : length entries ≤ 256
 
--- the entry at place i is the key's
+-- the entry at position i is the key's
 pub record IsAt {K X : Type 0} (entries : List (K × X)) (key : K) (i : ℕ) : Type 0 where
   pub in_range : i < length entries
   pub of_key : HoldsAt (λ e. e.0 ≡ key) entries i
 
--- by the order cmp of keys, the key's entry would go at place i: lower keys before it, and a higher one at it
+-- by the order cmp of keys, the key's entry would go at position i: lower keys before it, and a higher one at it
 pub record IsGapBy {K X : Type 0} (cmp : K → K → Ordering) (entries : List (K × X)) (key : K) (i : ℕ) : Type 0 where
   pub in_range : i ≤ length entries
   pub lower_before : (j : ℕ) (e : K × X) → j < i → slice_get entries j ≡ Some e → cmp key e.0 ≡ Greater

@@ -6,6 +6,6 @@ use Rattle.rv_ledger.specs.declared.job.Job.{Job}
 use Rattle.rv_ledger.specs.declared.job.JobFault.{JobFault}
 use Rattle.rv_ledger.specs.declared.job.JobFault.TheVariants.{TooManyCalls}
 
--- the job of some calls and a storage, or TooManyCalls where there are more than 1,024 calls
+-- the job of some calls and a storage; TooManyCalls if there are more than 1,024 calls
 abbrev pub job_of : List Invocation → Storage → Result Job JobFault
 job_of calls store = if nat_lt 1024 (length calls) then Err TooManyCalls else Ok (record { block = calls; store = store })

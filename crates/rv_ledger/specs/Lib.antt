@@ -3,6 +3,7 @@ pub mod Lent
 pub mod Key
 pub mod Entries
 pub mod Rules
+pub mod Height
 pub mod Call
 pub mod Job
 pub mod Inserted

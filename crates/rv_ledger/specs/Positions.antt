@@ -15,7 +15,6 @@ EntryList = List (List ℕ × List ℕ)
 abbrev pub Positions : Type 0
 Positions = List (List ℕ × ℕ)
 
--- the position of a key
 abbrev pub position_of : Positions → List ℕ → Option ℕ
 position_of positions key = lookup (is_at (key_cmp key)) positions
 
@@ -31,16 +30,16 @@ value_in list position = unwrap_or (option_map (λ e. e.1) (slice_get list posit
 abbrev pub in_order : Positions → EntryList → EntryList
 in_order positions list = map (λ e. (e.0, value_in list e.1)) positions
 
--- each key stands in the list at its position and nowhere else
+-- each key is in the list at its position and nowhere else
 pub record AreIndexed (positions : Positions) (list : EntryList) : Type 0 where
   pub listed : (key : List ℕ) (position : ℕ) → position_of positions key ≡ Some position → key_at list position ≡ Some key
   pub indexed : (key : List ℕ) (position : ℕ) → key_at list position ≡ Some key → position_of positions key ≡ Some position
 
--- the positions are ones of the list
+-- the positions are within the list
 abbrev pub AreWithin : Positions → EntryList → Type 0
 AreWithin positions list = All (λ e. e.1 < length list) positions
 
--- each key of a table stands once in its list, where its tree says
+-- each key of a table is once in its list, at the position that its tree has
 abbrev pub IsIndexed : EntryTable → Type 0
 IsIndexed table = AreIndexed table.tree.entries table.list.items
 

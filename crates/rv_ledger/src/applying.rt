@@ -8,9 +8,8 @@ use crate::store::Store;
 use crate::writes::Writes;
 use std::alloc::AllocError;
 
-/// Applies the writes of a call to a storage in the order of their keys: a key that the call removed is
-/// removed, and a sum is added to the key's number. Refused where memory ran out for one of them, and then
-/// those before it are applied.
+/// Applies the writes of a call to a storage in the order of their keys: a key that the call removed is removed, and a
+/// sum is added to the key's number. Refused if memory ran out for one of them, and then those before it are applied.
 #[tactic(auto, unfolding(crate::specs::Applied::apply_writes))]
 pub fn apply_writes(store: &mut Store, writes: &Writes) -> Result<(), AllocError>
     ensures ok { OnOk result (store.new ≡ apply_writes store.old writes.now) }

@@ -64,9 +64,8 @@ impl Call {
         Call::under(Rules::One, image, gas, input)
     }
 
-    /// The call of a program under some rules, with a gas limit and an input. Refused as BadGas where the
-    /// gas limit is not 1 to 10,000,000, and else as InputTooLong where the input is longer than 4,096
-    /// bytes.
+    /// The call of a program under some rules, with a gas limit and an input. Refused as BadGas if the gas limit is not 1
+    /// to 10,000,000; otherwise as InputTooLong if the input is longer than 4,096 bytes.
     pub fn under(
         rules: Rules,
         image: Arc<Image>,
@@ -119,7 +118,7 @@ impl Call {
         self.input.as_slice()
     }
 
-    /// An equal call; refused where memory ran out.
+    /// An equal call; refused if memory ran out.
     pub fn copy(&self) -> Result<Call, AllocError>
         ensures { IfOk result (λ c. c ≡ self.now) }
     {

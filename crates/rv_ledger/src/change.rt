@@ -49,8 +49,8 @@ pub fn wrapping_sum(left: u64, right: u64) -> u64
     left.wrapping_add(right)
 }
 
-/// The number in what a key has: that of a value of exactly eight bytes, the least first. Any other value
-/// counts as 0, and so does absence.
+/// The number in what a key has: that of a value of exactly eight bytes, the least first. Any other value counts as 0,
+/// and so does absence.
 #[tactic(auto, unfolding(crate::specs::Change::number_in))]
 fn number_in(content: Option<LentValue>) -> u64
     ensures { result ≡ number_in (lent_content content.entry) }

@@ -13,7 +13,7 @@ use crate::stored_bytes::StoredValue;
 pub trait Contents {
     ghost storage: { Self → Storage };
 
-    /// The value at a key, or None where it is absent.
+    /// The value at a key, or None if the key is absent.
     fn get(&self, key: &Key) -> Option<&StoredValue>
         ensures { option_copied result ≡ map.get (storage self.now) key.now };
 }

@@ -1,4 +1,5 @@
-//! The entries of a storage: a list of them, a tree that says where in it each key stands, and hints of the same.
+//! The entries of a storage: a list of them, a tree with the position of each key in the list, and hints of the same
+//! positions.
 
 ghost use Rattle.std.specs.Prelude.{◌≡◌, ◌<◌, ◌↔◌, ◌^◌, [], IfOk, IsTrue, None, OnErr, OnOk, Some, length};
 ghost use Rattle.std.specs.FinMap.{from_entries};
@@ -19,13 +20,13 @@ use std::collections::BTreeMap;
 /// The most entries that a table has.
 pub(crate) const ENTRY_LIMIT: usize = u32::MAX as usize;
 
-/// How many keys are noted as hints when one is added. So noting all of them anew makes no pause.
+/// How many keys are noted as hints when one is added. So noting all of them again makes no pause.
 const NOTED_AT_ONCE: usize = 16;
 
 /// Keys with their values. Most keys are found by a hint, with few misses of the processor's cache.
 #[derive(Drop)]
 pub(crate) struct EntryTable {
-    /// The entries. Their order says nothing.
+    /// The entries. Their order has no meaning.
     pub(crate) list: Vec<(Key, StoredValue)>,
     /// The position of each key in the list.
     tree: BTreeMap<Key, u32>,
@@ -46,7 +47,7 @@ impl EntryTable {
         }
     }
 
-    /// The table of entries whose keys ascend; refused where memory ran out.
+    /// The table of entries whose keys ascend; refused if memory ran out.
     pub(crate) fn of_ascending(
         alloc: Global,
         list: Vec<(Key, StoredValue)>,
@@ -84,7 +85,7 @@ impl EntryTable {
         self.search(key)
     }
 
-    /// Whether a key stands at a position of the list.
+    /// Whether a key is at a position of the list.
     #[inline(always)]
     fn stands_at(&self, key: &Key, position: usize) -> bool
         ensures { IsTrue result ↔ (key_at self.now.list.items position ≡ Some key.now) }
@@ -95,7 +96,7 @@ impl EntryTable {
         }
     }
 
-    /// The position that the tree says.
+    /// The position of a key by the tree.
     #[inline(never)]
     fn search(&self, key: &Key) -> Option<usize>
         ensures { result ≡ position_of self.now.tree.entries key.now }
@@ -106,7 +107,7 @@ impl EntryTable {
         }
     }
 
-    /// Sets the value at a key. Refused where memory ran out or the table is full, and then nothing changes; only an absent
+    /// Sets the value at a key. Refused if memory ran out or the table is full, and then nothing changes. Only an absent
     /// key takes memory.
     pub(crate) fn put(&mut self, key: Key, value: StoredValue) -> Result<(), AllocError>
         requires { IsIndexed self.old }
@@ -124,7 +125,7 @@ impl EntryTable {
         }
     }
 
-    /// Adds a key that is not there. Refused where memory ran out or the table is full, and then nothing changes: room in
+    /// Adds a key that is not there. Refused if memory ran out or the table is full, and then nothing changes: room in
     /// the list is made first.
     #[inline(never)]
     fn add(&mut self, key: Key, value: StoredValue) -> Result<(), AllocError>
@@ -145,7 +146,7 @@ impl EntryTable {
         Ok(())
     }
 
-    /// Removes a key; nothing changes where it is absent. The last entry takes its position. Takes no memory.
+    /// Removes a key; nothing changes if it is absent. The last entry takes its position. Takes no memory.
     pub(crate) fn remove(&mut self, key: &Key)
         requires { IsIndexed self.old }
         ensures indexed { IsIndexed self.new }
@@ -183,7 +184,7 @@ impl EntryTable {
         StoreRange::new(self.tree.range(*from..), self.list.as_slice())
     }
 
-    /// An equal table; refused where memory ran out.
+    /// An equal table; refused if memory ran out.
     pub(crate) fn copy(&self) -> Result<EntryTable, AllocError>
         requires { IsIndexed self.now }
         ensures all { IfOk result (λ table. by_key table ≡ by_key self.now) }

@@ -1,7 +1,7 @@
-//! A hash of keys, for hints of where keys stand.
+//! A hash of keys, for hints of their positions.
 
 ghost use Rattle.std.specs.Prelude.{◌≡◌, ◌<◌};
-ghost use Rattle.rv_ledger.specs.KeyHash.{key_hash, mixed, word_of};
+ghost use Rattle.rv_ledger.specs.KeyHash.{key_hash, key_word, mixed};
 
 use crate::key::Key;
 
@@ -40,7 +40,7 @@ fn mix(number: u64) -> u64
 #[inline(always)]
 fn word_at(bytes: &[u8; 32], word: usize) -> u64
     requires { word < WORD_COUNT }
-    ensures { result ≡ word_of bytes.now word }
+    ensures { result ≡ key_word bytes.now word }
 {
     let start = word * WORD_SIZE;
     u64::from_le_bytes([

@@ -1,4 +1,4 @@
-//! Hints of where keys stand in a list of entries.
+//! Hints of the positions of keys in a list of entries.
 
 use crate::hash::key_hash;
 use crate::key::Key;
@@ -8,30 +8,30 @@ use std::alloc::{AllocError, Global};
 /// The number of hints in a row.
 const ROW_SIZE: usize = 8;
 
-/// How many keys there may be for each row, before there are twice as many rows. So about one key of a hundred finds
-/// its row full.
+/// How many keys there may be for each row, before there are twice as many rows. So for about one key of a hundred the
+/// row is full.
 const KEYS_PER_ROW: usize = 6;
 
-/// How many bits of a hash say the row of a key, where there are the fewest rows.
+/// How many bits of a hash select the row of a key, with the fewest rows.
 const FEWEST_ROW_BITS: u32 = 3;
 
-/// How many bits of a hash say the row of a key, where there are the most rows.
+/// How many bits of a hash select the row of a key, with the most rows.
 const MOST_ROW_BITS: u32 = 24;
 
 /// How many tags there are: a hint has the six lowest bits of its key's hash.
 const TAG_COUNT: u64 = 64;
 
-/// How many positions a hint can say; it says none that is higher.
+/// How many positions the bits of a hint can name; no hint names a higher one.
 const POSITION_COUNT: u32 = 0x0400_0000;
 
-/// What stands in a row where there is no hint. It says the highest position, which no hint says.
+/// What a row has in place of a hint. Its position is the highest one, which no hint names.
 const NO_HINT: u32 = u32::MAX;
 
-/// The hints of some keys. Each has its key's tag times 2^26, and the position at which the key stood when it was noted.
+/// The hints of some keys. Each has its key's tag times 2^26, plus the position that the key had when it was noted.
 pub(crate) type Row = [u32; ROW_SIZE];
 
-/// Rows of hints. A hint may be wrong, and a key may have none: a search believes a hint only where the key that it
-/// looks for stands there, and finds the other keys by the tree.
+/// Rows of hints. A hint may be wrong, and a key may have none. A search believes a hint only if the key that it looks
+/// for is at the hint's position. It finds the other keys by the tree.
 #[derive(Drop)]
 pub(crate) struct Hints {
     rows: Vec<Row>,
@@ -48,7 +48,7 @@ impl Hints {
         }
     }
 
-    /// The same hints; refused where memory ran out.
+    /// The same hints; refused if memory ran out.
     pub(crate) fn copy(&self) -> Result<Hints, AllocError> {
         let rows = self.rows.clone()?;
         Ok(Hints {
@@ -57,13 +57,13 @@ impl Hints {
         })
     }
 
-    /// The row of a hash, or None where there are no rows.
+    /// The row of a hash, or None if there are no rows.
     #[inline(always)]
     pub(crate) fn row(&self, hash: u64) -> Option<&Row> {
         self.rows.as_slice().get(row_of(hash, self.rows.len()))
     }
 
-    /// Makes rows where there are too few for a list, and notes up to so many of its keys that were not noted.
+    /// Makes rows if there are too few for a list. Then notes at most `count` of its keys that were not noted.
     pub(crate) fn note(&mut self, list: &[(Key, StoredValue)], count: usize) {
         self.make_rows(list.len());
         let end = list.len().min(self.noted.saturating_add(count));
@@ -74,7 +74,8 @@ impl Hints {
         self.noted = end;
     }
 
-    /// Notes that a key was removed from a position of a list, to which the last entry then came, if it was another.
+    /// Notes that a key was removed from a position of a list, and that the last entry, if it was another, moved to that
+    /// position.
     pub(crate) fn note_removal(&mut self, key: &Key, position: usize, list: &[(Key, StoredValue)]) {
         let hash = key_hash(key);
         self.replace(hash, hint_of(hash, position), NO_HINT);
@@ -90,8 +91,8 @@ impl Hints {
         self.noted = self.noted.min(last);
     }
 
-    /// Makes rows for so many keys, all without hints, unless there are enough. Where memory for them is refused, those that
-    /// there are stay.
+    /// Makes rows for `count` keys, all without hints, unless there are enough. If memory for them is refused, the old
+    /// rows stay.
     fn make_rows(&mut self, count: usize) {
         let row_count = row_count_for(count);
         if row_count <= self.rows.len() {
@@ -104,7 +105,8 @@ impl Hints {
         }
     }
 
-    /// Puts a hint in the place of another, or of none, in the row of a hash. Nothing changes where that is not there.
+    /// Puts a hint in the place of another, or of none, in the row of a hash. Nothing changes if the row does not have
+    /// the old one.
     #[inline(always)]
     fn replace(&mut self, hash: u64, old: u32, new: u32) {
         let row = row_of(hash, self.rows.len());
@@ -119,7 +121,7 @@ impl Hints {
     }
 }
 
-/// The position that a hint says of the key of a hash, or None where it is another key's.
+/// The position that a hint names for the key of a hash, or None if the hint is another key's.
 #[inline(always)]
 pub(crate) fn position_in(hint: u32, hash: u64) -> Option<usize> {
     if u64::from(hint / POSITION_COUNT) == hash % TAG_COUNT {
@@ -129,7 +131,7 @@ pub(crate) fn position_in(hint: u32, hash: u64) -> Option<usize> {
     }
 }
 
-/// The hint of the key of a hash at a position, or none where no hint can say the position.
+/// The hint of the key of a hash at a position, or none if no hint can name the position.
 #[inline(always)]
 fn hint_of(hash: u64, position: usize) -> u32 {
     if position < POSITION_COUNT as usize - 1 {
@@ -139,13 +141,13 @@ fn hint_of(hash: u64, position: usize) -> u32 {
     }
 }
 
-/// The place of a hash's row among so many rows, a power of two.
+/// The index of a hash's row among `row_count` rows, a power of two.
 #[inline(always)]
 fn row_of(hash: u64, row_count: usize) -> usize {
     (hash >> 32) as usize & row_count.wrapping_sub(1)
 }
 
-/// How many rows there are for so many keys, a power of two.
+/// How many rows there are for `count` keys, a power of two.
 fn row_count_for(count: usize) -> usize {
     let bits = usize::BITS - (count / KEYS_PER_ROW).leading_zeros();
     1 << bits.clamp(FEWEST_ROW_BITS, MOST_ROW_BITS)

@@ -42,7 +42,7 @@ impl<const LIMIT: usize> Model for InlineBytes<LIMIT> {
 }
 
 impl<const LIMIT: usize> InlineBytes<LIMIT> {
-    /// The same bytes, or None where there are more than `LIMIT`.
+    /// The same bytes, or None if there are more than `LIMIT`.
     pub fn of(bytes: &[u8]) -> Option<InlineBytes<LIMIT>>
         ensures fits { IsSome result ↔ (length bytes.now ≤ LIMIT) }
         ensures value { IfSome result (λ v. v ≡ bytes.now) }

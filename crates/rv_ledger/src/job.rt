@@ -58,7 +58,7 @@ impl Block {
         }
     }
 
-    /// An equal block; refused where memory ran out.
+    /// An equal block; refused if memory ran out.
     pub fn copy(&self) -> Result<Block, AllocError>
         ensures { IfOk result (λ b. b ≡ self.now) }
     {
@@ -67,7 +67,7 @@ impl Block {
     }
 }
 
-/// What is to be run: a block, and the storage that it starts from.
+/// A job to run: a block, and the storage that it starts from.
 #[derive(Drop)]
 pub struct Job {
     /// The calls.
@@ -80,7 +80,7 @@ impl Job {
     ghost use Rattle.std.specs.Prelude.{◌≡◌, IfOk};
     ghost use Rattle.rv_ledger.specs.Job.{job_of};
 
-    /// The job of these calls over a storage; or TooManyCalls where there are more than 1,024 calls.
+    /// The job of these calls over a storage; TooManyCalls if there are more than 1,024 calls.
     pub fn new(calls: Vec<Call>, store: Store) -> Result<Job, JobFault>
         ensures { result ≡ job_of calls.items store }
     {
@@ -93,7 +93,7 @@ impl Job {
         })
     }
 
-    /// An equal job; refused where memory ran out.
+    /// An equal job; refused if memory ran out.
     pub fn copy(&self) -> Result<Job, AllocError>
         ensures { IfOk result (λ j. j ≡ self.now) }
     {

@@ -15,7 +15,7 @@ pub struct LentBlock<'a> {
 impl<'a> LentBlock<'a> {
     ghost use Rattle.std.specs.Prelude.{◌≡◌, ◌<◌, ◌≤◌, ◌↔◌, IfSome, None, length};
 
-    /// These calls; None where there are more than 1,024.
+    /// These calls; None if there are more than 1,024.
     pub fn of(calls: &'a [Call]) -> Option<LentBlock<'a>>
         ensures some { IfSome result (λ block. block.calls.now ≡ calls.now) }
         ensures none { (result ≡ None) ↔ (1024 < length calls.now) }

@@ -1,6 +1,5 @@
-//! What a block is made of, and what running it leaves: keys, values, calls, jobs, receipts and
-//! outcomes. Each type but `Receipt` and `Outcome` keeps its own limits, so that a value of it is always within
-//! them.
+//! What a block is made of, and what running it leaves: keys, values, calls, jobs, receipts and outcomes. Each type
+//! except `Receipt` and `Outcome` keeps its own limits, so a value of it is always within them.
 #![tactic(auto)]
 
 mod applying;
@@ -10,6 +9,7 @@ mod contents;
 mod end;
 mod entry_table;
 mod hash;
+mod height;
 mod hints;
 mod inline_bytes;
 mod job;
@@ -32,6 +32,7 @@ pub use change::{Change, add, lend_change, wrapping_sum};
 pub use contents::Contents;
 pub use end::{End, Trap};
 pub use hash::key_hash;
+pub use height::GREATEST_HEIGHT;
 pub use inline_bytes::{InlineBytes, OUTPUT_LIMIT, Output, VALUE_LIMIT, Value};
 pub use job::{Block, CALL_LIMIT, Job, JobFault};
 pub use key::Key;

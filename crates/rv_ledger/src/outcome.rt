@@ -13,7 +13,7 @@ pub struct Counts {
     pub asks: u64,
     /// Its runs that were recorded.
     pub executions: u64,
-    /// Its validations that came to a decision.
+    /// Its validations that reached a decision.
     pub validations: u64,
 }
 
@@ -26,6 +26,6 @@ pub struct Outcome {
     pub receipts: Vec<Receipt>,
     /// The storage after the last call.
     pub store: Store,
-    /// What each worker did; empty where the calls were run one after another, without workers.
+    /// What each worker did; empty if the calls were run one after another, without workers.
     pub counts: Vec<Counts>,
 }

@@ -26,7 +26,7 @@ pub struct Receipt {
 impl Receipt {
     ghost use Rattle.std.specs.Prelude.{◌≡◌, IfOk};
 
-    /// An equal receipt; refused where memory ran out.
+    /// An equal receipt; refused if memory ran out.
     pub fn copy(&self) -> Result<Receipt, AllocError>
         ensures { IfOk result (λ r. r ≡ self.now) }
     {

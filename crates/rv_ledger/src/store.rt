@@ -55,8 +55,8 @@ impl Store {
         }
     }
 
-    /// The storage that inserting the entries in turn gives; refused where memory ran out. Where the keys ascend, the
-    /// entries are taken as they stand.
+    /// The storage that inserting the entries in turn gives; refused if memory ran out. If the keys ascend, the list of
+    /// entries is taken as it is.
     #[tactic(auto, using(std::proofs::lemmas::List::Sums::fold_push))]
     pub(crate) fn of_entries(
         alloc: Global,
@@ -75,7 +75,7 @@ impl Store {
         Ok(store)
     }
 
-    /// The value at a key, or None where it is absent.
+    /// The value at a key, or None if the key is absent.
     pub fn get(&self, key: &Key) -> Option<&StoredValue>
         ensures { option_copied result ≡ map.get self.now key.now }
     {
@@ -85,7 +85,7 @@ impl Store {
         }
     }
 
-    /// Sets the value at a key; refused where memory ran out, and then nothing changes.
+    /// Sets the value at a key; refused if memory ran out, and then nothing changes.
     pub fn insert(&mut self, key: Key, value: Value) -> Result<(), AllocError>
         ensures ok { OnOk result (self.new ≡ map.insert self.old key value) }
         ensures err { OnErr result (self.new ≡ self.old) }
@@ -93,7 +93,7 @@ impl Store {
         self.insert_lent(key, value.lend())
     }
 
-    /// Sets the value at a key to a copy of one that is lent; refused where memory ran out, and then nothing changes.
+    /// Sets the value at a key to a copy of one that is lent; refused if memory ran out, and then nothing changes.
     pub fn insert_lent(&mut self, key: Key, value: LentValue) -> Result<(), AllocError>
         ensures ok { OnOk result (self.new ≡ map.insert self.old key value.entry.bytes.now) }
         ensures err { OnErr result (self.new ≡ self.old) }
@@ -101,8 +101,8 @@ impl Store {
         self.put(key, StoredValue::of(self.alloc, value)?)
     }
 
-    /// Adds an amount to the number at a key, modulo 2^64; the key then has a value of eight bytes. Refused
-    /// where memory ran out, and then nothing changes.
+    /// Adds an amount to the number at a key, modulo 2^64; the key then has a value of eight bytes. Refused if memory ran
+    /// out, and then nothing changes.
     pub fn add(&mut self, key: &Key, amount: u64) -> Result<(), AllocError>
         ensures ok { OnOk result (self.new ≡ map.insert self.old key.now (add (map.get self.old key.now) amount)) }
         ensures err { OnErr result (self.new ≡ self.old) }
@@ -111,8 +111,8 @@ impl Store {
         self.insert(*key, value)
     }
 
-    /// Sets the value at a key, which is moved in. Refused where memory ran out, and then nothing changes; only an
-    /// absent key takes memory.
+    /// Sets the value at a key, which is moved in. Refused if memory ran out, and then nothing changes. Only an absent
+    /// key takes memory.
     pub fn put(&mut self, key: Key, value: StoredValue) -> Result<(), AllocError>
         ensures ok { OnOk result (self.new ≡ map.insert self.old key value) }
         ensures err { OnErr result (self.new ≡ self.old) }
@@ -121,7 +121,7 @@ impl Store {
         self.table.put(key, value)
     }
 
-    /// Removes a key; nothing changes where it is absent.
+    /// Removes a key; nothing changes if it is absent.
     pub fn remove(&mut self, key: &Key)
         ensures { self.new ≡ map.remove self.old key.now }
     {
@@ -143,7 +143,7 @@ impl Store {
         self.table.iter_from(from)
     }
 
-    /// An equal storage; refused where memory ran out.
+    /// An equal storage; refused if memory ran out.
     pub fn copy(&self) -> Result<Store, AllocError>
         ensures { IfOk result (λ s. s ≡ self.now) }
     {

@@ -7,8 +7,8 @@ use crate::stored_bytes::StoredValue;
 use std::alloc::{AllocError, Global};
 use std::marker::Model;
 
-/// The entries of a storage, taken one after another. The storage is made of them in one pass, which is
-/// faster than inserting each where the keys ascend.
+/// The entries of a storage, taken one after another. The storage is made of them in one pass. If the keys ascend, this
+/// is faster than inserting each.
 #[derive(Drop)]
 pub struct StoreBuilder {
     alloc: Global,
@@ -42,8 +42,8 @@ impl StoreBuilder {
         }
     }
 
-    /// Takes the next entry; of two with the same key the later one counts. Refused where memory ran out,
-    /// and then nothing changes.
+    /// Takes the next entry; of two with the same key the later one counts. Refused if memory ran out, and then nothing
+    /// changes.
     pub fn insert(&mut self, key: Key, value: &Value) -> Result<(), AllocError>
         ensures ok { OnOk result (self.new ≡ map.insert self.old key value.now) }
         ensures err { OnErr result (self.new ≡ self.old) }
@@ -53,7 +53,7 @@ impl StoreBuilder {
         Ok(())
     }
 
-    /// The storage of the entries; refused where memory ran out.
+    /// The storage of the entries; refused if memory ran out.
     pub fn finish(self) -> Result<Store, AllocError>
         ensures { IfOk result (λ s. s ≡ self) }
     {

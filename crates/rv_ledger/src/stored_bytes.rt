@@ -10,12 +10,12 @@ use std::alloc::{AllocError, Global};
 use std::marker::Model;
 use std::{fmt, mem};
 
-/// The greatest length that is kept in place, in bytes. `StoredBytes` then take 32 bytes, as with
-/// any lower limit, and an entry of a storage, a key and its value, takes 64.
+/// The greatest length that is kept in place, in bytes. With this limit, as with any lower one, `StoredBytes` take 32
+/// bytes. An entry of a storage, a key and its value, takes 64.
 pub const IN_PLACE_LIMIT: usize = 16;
 
 /// A byte string of at most 256 bytes: a short one is kept in place, a longer one in memory of its own.
-/// So what keeps many short ones takes no room for the longest.
+/// So keeping many short ones takes no room for the longest.
 #[derive(Drop)]
 pub struct StoredBytes {
     kept: SmallVec<u8, IN_PLACE_LIMIT>,
@@ -38,7 +38,7 @@ impl Model for StoredBytes {
 }
 
 impl StoredBytes {
-    /// Keeps what is lent; refused where memory ran out. At most 16 bytes take none, and are never refused.
+    /// Keeps what is lent; refused if memory ran out. At most 16 bytes take none, and are never refused.
     pub fn of(alloc: Global, lent: LentValue) -> Result<StoredBytes, AllocError>
         ensures value { IfOk result (λ v. v ≡ lent.entry.bytes.now) }
         ensures succeeds { length lent.entry.bytes.now ≤ 16 → IsOk result }
@@ -47,7 +47,7 @@ impl StoredBytes {
         Ok(StoredBytes { kept })
     }
 
-    /// Keeps what is lent. More than 16 bytes take a list with them, which must have room for them; at most 16 leave it.
+    /// Keeps what is lent. More than 16 bytes take the list `room`, which must have room for them; at most 16 leave it.
     /// Takes no memory.
     pub fn of_room(lent: LentValue, room: &mut Vec<u8>) -> StoredBytes
         requires { let bytes = lent.bytes.now in 16 < length bytes → length bytes ≤ vec_capacity room.old }

@@ -18,7 +18,7 @@ use std::marker::Model;
 /// The greatest number of keys that one call may write.
 pub const WRITE_LIMIT: usize = 256;
 
-/// How many writes there is room for once there is one. Most calls write no more keys.
+/// How many writes the list gets room for at first. Most calls write no more keys.
 const FIRST_ROOM: usize = 2;
 
 /// A write to one key: its new value, its removal, or an amount that is added.
@@ -30,8 +30,8 @@ pub struct Write {
     pub change: Change<Value>,
 }
 
-/// The writes of one call, the last to each key, for at most 256 keys. They stand in a list, in the order of their
-/// keys. So a call that writes a few keys takes room for these alone, where a tree's leaf has room for fifteen.
+/// The writes of one call, the last to each key, for at most 256 keys. They are in a list, in the order of their keys.
+/// So a call that writes a few keys takes room for these alone. A tree's leaf would have room for fifteen.
 #[derive(Drop)]
 pub struct Writes {
     entries: Vec<(Key, Change<StoredValue>)>,
@@ -74,7 +74,7 @@ impl Writes {
         *self.entries.allocator()
     }
 
-    /// What was last done to a key, or None where it was not written.
+    /// What was last done to a key, or None if it was not written.
     pub fn get(&self, key: &Key) -> Option<&Change<StoredValue>>
         ensures { option_copied result ≡ map.get self.now key.now }
     {
@@ -103,7 +103,7 @@ impl Writes {
     }
 
     /// Records a write, in place of an earlier one to the same key. `has_room` must allow the key.
-    /// Refused where memory ran out, and then nothing changes.
+    /// Refused if memory ran out, and then nothing changes.
     pub fn insert(&mut self, write: Write) -> Result<(), AllocError>
         requires { IsTrue (has_room self.old write.key) }
         ensures ok { OnOk result (self.new ≡ map.insert self.old write.key write.change) }
@@ -137,7 +137,7 @@ impl Writes {
         self.entries.as_slice()
     }
 
-    /// Equal writes; refused where memory ran out.
+    /// Equal writes; refused if memory ran out.
     pub fn copy(&self) -> Result<Writes, AllocError>
         ensures { IfOk result (λ w. w ≡ self.now) }
     {
@@ -146,7 +146,7 @@ impl Writes {
     }
 }
 
-/// Where the entry of a key is among entries in the order of their keys, or where it would go.
+/// The position of a key's entry among entries in the order of their keys, or the position at which it would go.
 fn search(entries: &[(Key, Change<StoredValue>)], key: &Key) -> Result<usize, usize>
     requires { AreAscending entries.now }
     ensures found { IfOk result (IsAt entries.now key.now) }
@@ -155,7 +155,7 @@ fn search(entries: &[(Key, Change<StoredValue>)], key: &Key) -> Result<usize, us
     entries.binary_search_by(|entry| entry.0.cmp(key))
 }
 
-/// The change of a key among entries in the order of their keys, or None where it has none.
+/// The change of a key among entries in the order of their keys, or None if it has none.
 fn get<'a>(entries: &'a [(Key, Change<StoredValue>)], key: &Key) -> Option<&'a Change<StoredValue>>
     requires { AreAscending entries.now }
     ensures { option_copied result ≡ lookup (is_at (key_cmp key.now)) entries.now }
@@ -166,8 +166,8 @@ fn get<'a>(entries: &'a [(Key, Change<StoredValue>)], key: &Key) -> Option<&'a C
     }
 }
 
-/// Puts the change of a key among entries in the order of their keys, in place of an earlier one. Refused where memory
-/// ran out, and then nothing changes.
+/// Puts the change of a key among entries in the order of their keys, in place of an earlier one. Refused if memory ran
+/// out, and then nothing changes.
 fn put(
     entries: &mut Vec<(Key, Change<StoredValue>)>,
     key: Key,
@@ -191,7 +191,7 @@ fn put(
     }
 }
 
-/// Makes room for the first entries; refused where memory ran out.
+/// Makes room for the first entries; refused if memory ran out.
 fn reserve_first(entries: &mut Vec<(Key, Change<StoredValue>)>) -> Result<(), AllocError>
     ensures { entries.new.items ≡ entries.old.items }
 {
@@ -201,7 +201,7 @@ fn reserve_first(entries: &mut Vec<(Key, Change<StoredValue>)>) -> Result<(), Al
     Ok(())
 }
 
-/// Keeps the value of a change; refused where memory ran out.
+/// Keeps the value of a change; refused if memory ran out.
 fn stored(alloc: Global, change: Change<&Value>) -> Result<Change<StoredValue>, AllocError>
     ensures { IfOk result (λ kept. kept ≡ change_copied change.entry) }
 {

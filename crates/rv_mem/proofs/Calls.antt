@@ -26,14 +26,14 @@ padded_sized : (pages : List (List ℕ)) (n : ℕ) → ArePages (λ q. q) pages 
 padded_sized pages n h =
     All-append (λ (q : List ℕ). length q ≡ 4096) pages (replicate n (zeros 4096)) h (All-replicate (λ (q : List ℕ). length q ≡ 4096) n (zeros 4096) (length_zeros 4096))
 
--- where each page is the program's, none is the call's own
+-- if each page is the program's, none is the call's own
 none_own : (count : ℕ) (index : List ℕ) (k : ℕ) → All (λ i. i < count) index → count ≤ 512 → 512 ≤ get_or index k 0 → ⊥
 none_own count index k low few own = elim (dec_lt k (length index)) [
   | yes inside ↦ let below = low k 0 inside in omega arith
   | no past ↦ let none = get_or_past index k 0 (omega arith) in omega arith
 ]
 
--- the first: each page is the program's
+-- the pages of a call that has written none: each is the program's
 pub paged_none : (p : Inside) (segments : List Segment) → HoldSegments (base_of p) segments → p.own.items ≡ [] → p.index.items ≡ (base_of p).index → IsPaged p
 paged_none p segments h none same =
     let count = h.count in
@@ -44,7 +44,7 @@ paged_none p segments h none same =
       writable = λ k own. absurd (none_own (length (base_of p).pages.items) p.index.items k (rw same h.places) (omega (arith, h.count)) own);
     }
 
--- its bytes
+-- the bytes in them are those of the segments
 pub bytes_none : (p : Inside) (segments : List Segment) → HoldSegments (base_of p) segments → p.own.items ≡ [] → p.index.items ≡ (base_of p).index → memory_bytes p ≡ segment_bytes segments
 bytes_none p segments h none same =
     rw (none, same, append-nil (base_pages p))

@@ -51,7 +51,7 @@ is_size n = eqb n 1 || eqb n 2 || eqb n 4
 aligned_in_page : (n a i : ℕ) → IsTrue (is_size n) → a % n ≡ 0 → i < n → a / 4096 ≡ (a + i) / 4096
 aligned_in_page n a i s h l = grind (arith, nat_tests)
 
--- so its first byte tells of all
+-- so its first byte decides for all
 by_first : (access : Access) (rights : List Rights) (a n : ℕ) (b : Bool) → IsTrue (is_size n) → a % n ≡ 0 → allows_at access rights a ≡ b → allows_range access rights a n ≡ b
 by_first access rights a n true s h e =
     each_true access rights a n (λ i l. sym (may_same access rights a (a + i) (aligned_in_page n a i s h l)) ∙ e)

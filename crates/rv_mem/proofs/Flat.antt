@@ -1,4 +1,4 @@
--- Bytes that stand in pages, and what a write to one page makes of all.
+-- Bytes that are kept in pages, and what a write to one page makes of all of them.
 use Rattle.std.proofs.Common.{◌≡◌, ℕ, suc, ◌+◌, ◌-◌, ◌*◌, ◌/◌, ◌%◌, ◌<◌, ◌≤◌, List, [], ◌∷◌, ◌++◌, length, get_or, set, take, drop, refl, sym, ap, ◌∙◌, arith, length-append, length-drop, append_assoc}
 use Rattle.std.specs.Prelude.{flat_map}
 use Rattle.std.proofs.Math.Seq.{take-append-add, drop-append-add}
@@ -7,7 +7,7 @@ use Rattle.std.proofs.lemmas.List.Concat.{flat_map-append}
 use Rattle.std.proofs.lemmas.List.Elements.{All-head, All-tail, All-take}
 use Rattle.elf32.specs.Pages.{overwritten_at, ArePages}
 
--- ---- a list laid over a part of another
+-- ---- a list written over a part of another
 
 -- over the second part
 over_second : (xs ys new : List ℕ) (at : ℕ) → overwritten_at (xs ++ ys) (length xs + at) new ≡ xs ++ overwritten_at ys at new

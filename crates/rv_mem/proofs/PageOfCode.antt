@@ -1,4 +1,4 @@
--- The instructions of a page of code, and what a store leaves of it.
+-- The instructions of a page of code, and that a store does not change such a page.
 use Rattle.std.proofs.Common.{◌≡◌, ℕ, ◌+◌, ◌-◌, ◌/◌, ◌%◌, ◌<◌, ◌≤◌, Bool, true, false, List, [], ◌∷◌, ◌++◌, length, take, drop, Ok, Err, refl, sym, ap, ◌∙◌, arith, ◌==◌, if◌then◌else◌, length-append, length-drop, append_assoc}
 use native.Mathlib.Decide.{dec_lt}
 use Rattle.std.proofs.lemmas.Bool.Decides.{nat_tests}
@@ -71,14 +71,14 @@ write_before bytes new f n at h inside =
 
 -- ---- a write beside a page
 
--- a write leaves no fewer bytes
+-- memory has no fewer bytes after a write
 pub length_written : (bytes new : List ℕ) (at : ℕ) → at ≤ length bytes → length bytes ≤ length (overwritten_at bytes at new)
 unfolding overwritten_at
 length_written bytes new at h =
     let size : length (take at bytes) ≡ at = length-take-le at bytes h in
     omega (arith, length-append (take at bytes ++ new) (drop (at + length new) bytes), length-append (take at bytes) new, length-drop (at + length new) bytes)
 
--- a write leaves a page of code where it leaves its bytes
+-- a write keeps a page of code if it does not change its bytes
 beside : (memory : Space) (first place : ℕ) (new code : List ℕ) → place ≤ length memory.bytes → IsCode memory first code → take 4096 (drop (first - 65536) (overwritten_at memory.bytes place new)) ≡ take 4096 (drop (first - 65536) memory.bytes) → IsCode (written memory new place) first code
 beside memory first place new code inside is same =
     let long : 1048576 ≤ length memory.bytes = is.size in
@@ -91,7 +91,7 @@ beside memory first place new code inside is same =
       bytes = is.bytes ∙ sym same;
     }
 
--- so does a write of which each byte may be stored to
+-- so does a write to bytes that may all be stored to
 pub write_stays : (memory : Space) (a first : ℕ) (new code : List ℕ) → allows_range Write memory.rights a (length new) ≡ true → IsCode memory first code → IsCode (written memory new (a - 65536)) first code
 write_stays memory a first [] code may is = rw (over_nothing memory.bytes (a - 65536) [] refl) is
 write_stays memory a first (x ∷ xs) code may is =
@@ -121,7 +121,7 @@ write_stays memory a first (x ∷ xs) code may is =
 
 -- ---- stores and copies
 
--- memory after a change that leaves its rights and its pages of code
+-- memory after a change that keeps its rights and its pages of code
 pub record Keeps (memory after : Space) : Type 0 where
   pub rights : after.rights ≡ memory.rights
   pub code : (first : ℕ) (code : List ℕ) → IsCode memory first code → IsCode after first code

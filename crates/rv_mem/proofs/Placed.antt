@@ -35,7 +35,7 @@ placed_none base count index few low len h =
       alone = λ i j bi bj own same. absurd (omega (arith, h i 0 (omega arith)));
     }
 
--- a page more is the call's own
+-- one more page is the call's own
 module _ (base count own page : ℕ) (index : List ℕ) (h : ArePlaced base count own index) (below : page < 256) (shared : get_or index page 0 < count) where
   there : (i : ℕ) → i ≡ page → get_or (set index page (count + own)) i 0 ≡ count + own
   there i e =

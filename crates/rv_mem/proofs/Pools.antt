@@ -1,4 +1,4 @@
--- Bytes that stand in pages by an index, and what a page more or a write makes of them.
+-- Bytes that an index takes from pages, and what one more page or a write makes of them.
 use Rattle.std.proofs.Common.{◌≡◌, ◌≢◌, ℕ, suc, ◌+◌, ◌/◌, ◌%◌, ◌<◌, ◌≤◌, List, [], ◌∷◌, ◌++◌, length, get_or, set, map, All, inl, inr, refl, sym, ap, ◌∙◌, arith}
 use Rattle.std.specs.Prelude.{flat_map}
 use Rattle.std.proofs.lemmas.Bool.{cases_eq}
@@ -39,7 +39,7 @@ module _ (all : List (List ℕ)) (index : List ℕ) (page : ℕ) (places : All (
             ∙ get_or_append_left all (p ∷ []) [] (get_or index i e) (places i e inside)
       ])
 
--- a write to a page that stands once
+-- a write to a page that the index gives once
 module _ (all : List (List ℕ)) (index new p : List ℕ) (at place : ℕ) where
   pub put_bytes : ArePages (λ q. q) all → length index ≡ 256 → All (λ k. k < length all) index → at < 1048576 → get_or index (at / 4096) 0 ≡ place → ((j : ℕ) → j < 256 → get_or index j 0 ≡ place → j ≡ at / 4096) → at % 4096 + length new ≤ 4096 → p ≡ overwritten_at (page_at all place) (at % 4096) new → flat_map (page_at (set all place p)) index ≡ overwritten_at (flat_map (page_at all) index) at new
   put_bytes sizes len places first here alone room is =

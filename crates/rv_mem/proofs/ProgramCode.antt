@@ -11,7 +11,7 @@ use Rattle.rv_mem.proofs.Flat.{length_pages, rest_one}
 use Rattle.rv_mem.proofs.PageOfCode.{Keeps, length_written, write_after}
 use Rattle.rv_mem.proofs.Pools.{sized}
 
--- a change that leaves the rights and the pages of code leaves the code of a program
+-- a change that keeps the rights and the pages of code keeps the code of a program
 pub keeps_program : (memory after : Space) (program : BasePages) → Keeps memory after → HasCode memory program → HasCode after program
 keeps_program memory after program kept has = record {
   rights = kept.rights ∙ has.rights;

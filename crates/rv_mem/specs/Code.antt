@@ -19,7 +19,7 @@ pub record IsCode (memory : Space) (first : ℕ) (code : List ℕ) : Type 0 wher
   pub fixed : allows_at Write memory.rights first ≡ false
   pub bytes : code ≡ bytes_at memory first page_size
 
--- the place of each page of memory among the pages of a program is one of theirs
+-- each place that `index` gives is one of the program's pages, which are at most page_count + 1
 pub record HasPlaces (program : BasePages) : Type 0 where
   pub few : length program.pages.items ≤ page_count + 1
   pub each : All (λ k. k < length program.pages.items) program.index

@@ -1,4 +1,4 @@
--- The pages of a call, and the bytes that stand in them. Private help of proofs; no public clause cites it.
+-- The pages of a call, and the bytes in them. Private help of proofs; no public clause cites it.
 use Rattle.std.specs.Prelude.{◌≡◌, ℕ, ◌+◌, ◌-◌, ◌≤◌, ◌<◌, ◌%◌, ◌/◌, nat_lt, ◌==◌, Bool, true, ◌&&◌, if◌then◌else◌, List, ◌++◌, length, flat_map, replicate, slice_index, slice_index_or, All}
 use Rattle.std.specs.List.{sum_by}
 use Rattle.std.specs.Arc.{arc_value}
@@ -21,11 +21,10 @@ abbrev pub base_pages : Inside → List (List ℕ)
 base_pages p =
     (base_of p).pages.items ++ replicate (first_own - length (base_of p).pages.items) (zeros page_size)
 
--- they, and after them the call's own
+-- these, and after them the call's own
 abbrev pub all_pages : Inside → List (List ℕ)
 all_pages p = base_pages p ++ p.own.items
 
--- the bytes of memory
 abbrev pub memory_bytes : Inside → List ℕ
 memory_bytes p = flat_map (page_at (all_pages p)) p.index.items
 
@@ -33,12 +32,12 @@ memory_bytes p = flat_map (page_at (all_pages p)) p.index.items
 abbrev pub space_of : Inside → Space
 space_of p = record { bytes = memory_bytes p; rights = (base_of p).rights }
 
--- one for a place among the first n pages, else nothing
+-- 1 for a place among the first n pages, otherwise 0
 abbrev pub is_shared : ℕ → ℕ → ℕ
 is_shared n k = if nat_lt k n then 1 else 0
 
--- what holds of the places `index` of which those below `count` are shared, at most `base`, and the `own` from there
--- on are the call's own: none of its own stands twice, and each of them stands
+-- the places `index` of the pages of memory. Those below `count` are shared, and are below `base`. The `own` places from
+-- `count` on are the call's own, and each of them is the place of exactly one page
 pub record ArePlaced (base count own : ℕ) (index : List ℕ) : Type 0 where
   pub few : base ≤ page_count + 1
   pub len : length index ≡ page_count

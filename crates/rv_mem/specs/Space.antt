@@ -29,7 +29,7 @@ allows Read rights = rights.readable
 allows Write rights = rights.writable
 allows Execute rights = rights.executable
 
--- the rights where there is no page
+-- the rights if there is no page
 abbrev pub no_rights : Rights
 no_rights = record { readable = false; writable = false; executable = false }
 
@@ -48,13 +48,13 @@ pub data AccessFault : Type 0 where
   MemoryFault : AccessFault
   FetchFault : AccessFault
 
--- the fault that a call answers where an access is refused
+-- the fault that a call returns if an access is refused
 abbrev pub as_fault : AccessFault → Fault
 as_fault Misaligned = fault.Misaligned
 as_fault MemoryFault = fault.MemoryFault
 as_fault FetchFault = fault.FetchFault
 
--- what a call answers
+-- what a call returns
 abbrev pub as_answer : {X : Type 0} → Result X AccessFault → Result X Fault
 as_answer (Ok x) = Ok x
 as_answer (Err cause) = Err (as_fault cause)
@@ -65,12 +65,12 @@ access_fault Read = MemoryFault
 access_fault Write = MemoryFault
 access_fault Execute = FetchFault
 
--- where in the bytes an access to n bytes at an address begins, or its fault: alignment comes first
+-- the place in the bytes at which an access to n bytes at an address begins, or its fault: alignment is tested first
 abbrev pub place_of : ℕ → Access → List Rights → ℕ → Result ℕ AccessFault
 place_of n access rights a =
     if a % n == 0 then (if allows_range access rights a n then Ok (a - first_address) else Err (access_fault access)) else Err Misaligned
 
--- what f makes of a place, or the fault
+-- the result of f for a place, or the fault
 abbrev pub from_place : {X : Type 0} → (ℕ → X) → Result ℕ AccessFault → Result X AccessFault
 from_place f (Ok place) = Ok (f place)
 from_place f (Err cause) = Err cause
@@ -93,8 +93,8 @@ abbrev pub copied : Space → ℕ → List ℕ → Result Space AccessFault
 copied m a new =
     if allows_range Write m.rights a (length new) then Ok (written m new (a - first_address)) else Err MemoryFault
 
--- a call that should leave memory as `want` has it: it does so, or it answers the fault that `want` has. Where
--- `want` has no fault it may also answer Memory. A refused call changes nothing
+-- a call that should leave memory as `want` has it: it does so, or it returns the fault that `want` has. If `want` has no fault
+-- it may also return Memory. A refused call changes nothing
 abbrev pub LeavesMemory : {X : Type 0} → Result X Fault → Result Space AccessFault → Space → Space → Type 0
 LeavesMemory (Ok x) want old new = want ≡ Ok new
 LeavesMemory (Err fault.Memory) want old new = IsOk want × (new ≡ old)

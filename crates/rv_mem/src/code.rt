@@ -11,8 +11,8 @@ use elf32::{BasePages, Page};
 /// The number of bytes from the first address of memory to the input.
 const BEFORE_INPUT: u32 = INPUT_ADDRESS - FIRST_ADDRESS;
 
-/// The page of the address among the pages of a program, if a call's instructions can be taken from there as long as the
-/// call runs: the page lies before the input, and may be executed and not stored to. None else.
+/// The page of the address among the pages of a program, if a call's instructions can be taken from there as long as the call
+/// runs. That is so if the page lies before the input, and may be executed and not stored to. Otherwise None.
 #[inline(always)]
 pub fn code_page(program: &BasePages, address: u32) -> Option<&Page>
     requires { HasPlaces program.now }

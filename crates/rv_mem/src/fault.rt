@@ -2,7 +2,7 @@
 
 use thiserror::Error;
 
-/// Why memory refuses an access. The causes are tested in this order, and the first that holds is answered.
+/// Why memory refuses an access. The causes are tested in this order, and the first that holds is returned.
 #[derive(Clone, Copy, Debug, PartialEq, Eq, Error)]
 pub enum Fault {
     /// The address is not a multiple of the number of bytes.
@@ -14,7 +14,7 @@ pub enum Fault {
     /// A byte of an instruction is outside memory or in a page that may not be executed.
     #[error("FetchFault 3")]
     FetchFault = 3,
-    /// Memory ran out when a page was to be copied.
+    /// Memory ran out when a page had to be copied.
     #[error("Memory 4")]
     Memory = 4,
 }

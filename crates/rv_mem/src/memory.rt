@@ -24,7 +24,7 @@ use std::marker::Model;
 /// The place of the input, in bytes from the first address of memory.
 const INPUT: usize = (INPUT_ADDRESS - FIRST_ADDRESS) as usize;
 
-/// Writes the input at its address; refused where memory ran out.
+/// Writes the input at its address; refused if memory ran out.
 fn put_input(pages: &mut Pages, input: &[u8]) -> Result<(), AllocError>
     requires input { length input.now ≤ 4096 }
     requires writable { IsWritable pages.old.space.rights input_page }
@@ -52,9 +52,9 @@ impl Model for Memory {
 }
 
 impl Memory {
-    /// The memory of a call before its first instruction: the image's segments, and the input, of at most
-    /// 4,096 bytes, from 0x00100000 on. Refused where memory ran out. The pages of the image are shared, and
-    /// its pages of zeros take no bytes. An input that is not empty gets a page of its own.
+    /// The memory of a call before its first instruction: the image's segments, and the input, of at most 4,096 bytes, from
+    /// 0x00100000 on. Refused if memory ran out. The pages of the image are shared, and its pages of zeros take no bytes. An
+    /// input that is not empty gets a page of its own.
     pub fn of(alloc: Global, image: &Image, input: &[u8]) -> Result<Memory, AllocError>
         requires { length input.now ≤ 4096 }
         ensures { IfOk result (λ m. m ≡ start_space image.now input.now) }
@@ -64,8 +64,8 @@ impl Memory {
         Ok(Memory { pages })
     }
 
-    /// Makes it the memory of another call before its first instruction, as `of` does, in its own room. Refused where memory
-    /// ran out; then it is to be dropped or begun again.
+    /// Makes it the memory of another call before its first instruction, as `of` does, in its own room. Refused if memory ran
+    /// out; then it must be dropped or begun again.
     pub fn begin(&mut self, image: &Image, input: &[u8]) -> Result<(), AllocError>
         requires { length input.now ≤ 4096 }
         ensures { OnOk result (self.new ≡ start_space image.now input.now) }
@@ -74,8 +74,8 @@ impl Memory {
         put_input(&mut self.pages, input)
     }
 
-    /// The instruction word at the address, or Misaligned where the address is not a multiple of 4, or
-    /// FetchFault where one of the word's bytes may not be executed.
+    /// The instruction word at the address. Refused with Misaligned if the address is not a multiple of 4, otherwise with
+    /// FetchFault if one of the word's bytes may not be executed.
     #[inline(always)]
     pub fn fetch(&self, address: u32) -> Result<u32, Fault>
         ensures { result ≡ as_answer (loaded 4 Execute self.now address) }
@@ -84,7 +84,7 @@ impl Memory {
         Ok(word_at(&self.pages, at))
     }
 
-    /// The byte at the address, or MemoryFault where it may not be loaded.
+    /// The byte at the address, or MemoryFault if it may not be loaded.
     #[inline(always)]
     pub fn load8(&self, address: u32) -> Result<u8, Fault>
         ensures { result ≡ as_answer (loaded 1 Read self.now address) }
@@ -93,7 +93,7 @@ impl Memory {
         Ok(byte_at(&self.pages, at))
     }
 
-    /// The halfword at the address, or Misaligned where the address is odd, or MemoryFault where one of its
+    /// The halfword at the address. Refused with Misaligned if the address is odd, otherwise with MemoryFault if one of its
     /// bytes may not be loaded.
     #[inline(always)]
     pub fn load16(&self, address: u32) -> Result<u16, Fault>
@@ -103,7 +103,7 @@ impl Memory {
         Ok(halfword_at(&self.pages, at))
     }
 
-    /// The word at the address, or Misaligned where the address is not a multiple of 4, or MemoryFault where
+    /// The word at the address. Refused with Misaligned if the address is not a multiple of 4, otherwise with MemoryFault if
     /// one of its bytes may not be loaded.
     #[inline(always)]
     pub fn load32(&self, address: u32) -> Result<u32, Fault>
@@ -152,8 +152,8 @@ impl Memory {
         self.store_word(address, value)
     }
 
-    /// Writes one, two or four bytes at the address where they are aligned in a page of the call's own, whose rights
-    /// need no test then. False where they are not; then nothing changes.
+    /// Writes one, two or four bytes at the address if they are aligned and in a page of the call's own; the rights of such a
+    /// page need no test. Returns false if they are not; then nothing changes.
     #[inline(always)]
     fn put_in_own(&mut self, address: u32, bytes: &[u8]) -> bool
         requires { IsTrue (length bytes.now == 1 || length bytes.now == 2 || length bytes.now == 4) }
@@ -170,7 +170,7 @@ impl Memory {
         true
     }
 
-    /// Writes a byte as `store8` does, where its page is tested for its rights, and copied where it is the program's.
+    /// Writes a byte as `store8` does, with a test of the page's rights; a page of the program is copied first.
     #[cold]
     #[inline(never)]
     fn store_byte(&mut self, address: u32, value: u8) -> Result<(), Fault>
@@ -180,7 +180,7 @@ impl Memory {
         write_in_page(&mut self.pages, at, &[value]).map_err(|_: AllocError| Fault::Memory)
     }
 
-    /// The same for a halfword, as `store16` does.
+    /// The same for a halfword, as `store16` writes it.
     #[cold]
     #[inline(never)]
     fn store_halfword(&mut self, address: u32, value: u16) -> Result<(), Fault>
@@ -192,7 +192,7 @@ impl Memory {
         write_in_page(&mut self.pages, at, &halfword).map_err(|_: AllocError| Fault::Memory)
     }
 
-    /// The same for a word, as `store32` does.
+    /// The same for a word, as `store32` writes it.
     #[cold]
     #[inline(never)]
     fn store_word(&mut self, address: u32, value: u32) -> Result<(), Fault>
@@ -218,8 +218,8 @@ impl Memory {
         range_has(rights(&self.pages), Access::Write, address, len)
     }
 
-    /// Fills `out` with the bytes from the address on, at any alignment. Where one of them may not be loaded
-    /// it answers MemoryFault and leaves `out` as it was. `out` has less than 2^32 bytes.
+    /// Fills `out` with the bytes from the address on, at any alignment. If one of them may not be loaded, it returns
+    /// MemoryFault and leaves `out` as it was. `out` has less than 2^32 bytes.
     pub fn copy_out(&self, address: u32, out: &mut [u8]) -> Result<(), Fault>
         requires { length out.old < 2 ^ 32 }
         ensures copied { OnOk result (out.new ≡ bytes_at self.now address (length out.old)) }

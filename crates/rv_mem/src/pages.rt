@@ -1,4 +1,4 @@
-//! Reads and writes of bytes that stand in pages. A page is shared with the program until it is written.
+//! Reads and writes of bytes that are kept in pages. A page is shared with the program until it is written.
 
 ghost use Rattle.std.specs.Prelude.{◌≡◌, ◌+◌, ◌/◌, ◌%◌, ◌-◌, ◌^◌, ◌≤◌, ◌<◌, ◌++◌, ℕ, length, take, drop, slice_index, OnOk, OnErr, IfOk, IfSome, None};
 ghost use Rattle.byteorder.specs.Endian.{little_number};
@@ -53,7 +53,7 @@ pub fn rights(pages: &Pages) -> &[Rights]
     &pages.base.rights
 }
 
-/// The pages of a program before its first instruction; refused where memory ran out.
+/// The pages of a program before its first instruction; refused if memory ran out.
 pub fn program_pages(alloc: Global, image: &Image) -> Result<Pages, AllocError>
     ensures bytes { IfOk result (λ p. p.space.bytes ≡ segment_bytes image.now.segments) }
     ensures rights { IfOk result (λ p. p.space.rights ≡ page_rights page_count image.now.segments) }
@@ -68,8 +68,8 @@ pub fn program_pages(alloc: Global, image: &Image) -> Result<Pages, AllocError>
     Ok(Pages { base, index, own })
 }
 
-/// Makes them the pages of a program before its first instruction, in their own room; refused where memory ran out, and
-/// then nothing changes.
+/// Makes them the pages of a program before its first instruction, in their own room; refused if memory ran out, and then
+/// nothing changes.
 pub fn begin(pages: &mut Pages, image: &Image) -> Result<(), AllocError>
     ensures bytes { OnOk result (pages.new.space.bytes ≡ segment_bytes image.now.segments) }
     ensures rights { OnOk result (pages.new.space.rights ≡ page_rights page_count image.now.segments) }
@@ -99,8 +99,8 @@ fn page_at<'a>(base: &'a [Page], own: &'a [Page], place: PagePlace) -> &'a Page
     &own[place.in_own()]
 }
 
-/// Makes a page the call's own; refused where memory ran out, and then nothing changes. It answers the
-/// place of the page among the call's own.
+/// Makes a page the call's own; refused if memory ran out, and then nothing changes. Returns the place of the page among the
+/// call's own.
 #[cold]
 #[inline(never)]
 fn copy_page(pages: &mut Pages, page: usize) -> Result<usize, AllocError>
@@ -133,8 +133,8 @@ pub fn put_own(pages: &mut Pages, place: usize, at: usize, new: &[u8])
     put(&mut pages.own[place], at % PAGE_SIZE, new);
 }
 
-/// Makes the page at a place in memory the call's own, and writes the bytes, which lie in the page, at the
-/// place; refused where memory ran out, and then nothing changes.
+/// Makes the page at a place in memory the call's own, and writes the bytes, which lie in the page, at the place. Refused if
+/// memory ran out, and then nothing changes.
 #[cold]
 #[inline(never)]
 fn copy_and_write(pages: &mut Pages, at: usize, new: &[u8]) -> Result<(), AllocError>
@@ -150,7 +150,7 @@ fn copy_and_write(pages: &mut Pages, at: usize, new: &[u8]) -> Result<(), AllocE
     Ok(())
 }
 
-/// The place of the page of a place in memory among the call's own pages; None where it is not its own.
+/// The page of a place in memory, as a place among the call's own pages; None if the page is not the call's own.
 #[inline(always)]
 pub fn own_place(pages: &Pages, at: usize) -> Option<usize>
     requires first { at < memory_size }
@@ -165,8 +165,7 @@ pub fn own_place(pages: &Pages, at: usize) -> Option<usize>
     Some(place.in_own())
 }
 
-/// Writes the bytes, which lie in one page, at a place in memory; refused where memory ran out, and then
-/// nothing changes.
+/// Writes the bytes, which lie in one page, at a place in memory; refused if memory ran out, and then nothing changes.
 pub fn write_in_page(pages: &mut Pages, at: usize, new: &[u8]) -> Result<(), AllocError>
     requires first { at < memory_size }
     requires room { at % page_size + length new.now ≤ page_size }
@@ -183,8 +182,7 @@ pub fn write_in_page(pages: &mut Pages, at: usize, new: &[u8]) -> Result<(), All
     }
 }
 
-/// Makes the pages from the first to the last the call's own; refused where memory ran out. No byte of
-/// memory changes.
+/// Makes the pages from the first to the last the call's own; refused if memory ran out. No byte of memory changes.
 fn own_pages(pages: &mut Pages, first: usize, last: usize) -> Result<(), AllocError>
     requires last { last < page_count }
     requires writable { AreAllowed Write pages.old.space.rights first (last + 1) }
@@ -218,8 +216,8 @@ fn put_in_pages(pages: &mut Pages, at: usize, new: &[u8])
     put_own(pages, place, at, here);
 }
 
-/// Writes the bytes from a place in memory on; refused where memory ran out, and then nothing changes. To
-/// keep this, all of the pages are the call's own before a byte is written.
+/// Writes the bytes from a place in memory on; refused if memory ran out, and then nothing changes. For this, all of the pages
+/// become the call's own before a byte is written.
 pub fn write(pages: &mut Pages, at: usize, new: &[u8]) -> Result<(), AllocError>
     requires some { 0 < length new.now }
     requires room { at + length new.now ≤ memory_size }

@@ -56,9 +56,9 @@ fn is_open(rights: &[Rights], access: Access, at: u32, size: u32) -> bool
     at < MEMORY_SIZE && at % size == 0 && access.is_allowed_by(rights[(at / PAGE) as usize])
 }
 
-/// The place, from the start of memory, of the number of `size` bytes at the address. Refused with
-/// Misaligned, else with the fault of the access where a byte is outside memory or its page does not allow
-/// the access.
+/// The place, from the start of memory, of the number of `size` bytes at the address. Refused with Misaligned if the address is
+/// not a multiple of `size`. Otherwise refused with the fault of the access if a byte is outside memory or its page does not
+/// allow the access.
 #[inline(always)]
 pub fn place(rights: &[Rights], access: Access, address: u32, size: u32) -> Result<usize, Fault>
     requires pages { length rights.now ≡ page_count }
@@ -78,8 +78,8 @@ pub fn place(rights: &[Rights], access: Access, address: u32, size: u32) -> Resu
     Err(access.fault())
 }
 
-/// The place, from the start of memory, of an aligned number of `size` bytes at the address, whatever the rights of its
-/// page; None where the address is not aligned or not in memory.
+/// The place, from the start of memory, of an aligned number of `size` bytes at the address, whatever the rights of its page.
+/// None if the address is not aligned or not in memory.
 #[inline(always)]
 pub fn aligned_place(address: u32, size: u32) -> Option<usize>
     requires size { IsTrue (size == 1 || size == 2 || size == 4) }

@@ -22,6 +22,6 @@ held_branch_at m z e h = same_branch m (branch_at (residue 13 z / 2)) (e ∙ sym
 pub held_jump_at : (m : JumpOffset) (z : ℤ) → m.value ≡ z → IsJumpOffset z → m ≡ jump_at (residue 21 z / 2)
 held_jump_at m z e h = same_jump m (jump_at (residue 21 z / 2)) (e ∙ sym (jump_value z h))
 
--- and what is left above them
+-- the operand that holds the bits above the low part
 pub high_again : (m : Upper) (v : ℕ) → v < 2 ^ 32 → m.value ≡ (v + 2048) / 2 ^ 12 % 2 ^ 20 → m ≡ upper_at (high_of v)
 high_again m v small e = same_upper m (upper_at (high_of v)) (grind (arith, ints))

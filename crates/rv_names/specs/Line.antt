@@ -20,7 +20,7 @@ content_of text = trimmed (before_first (λ b. b == 35) text)
 abbrev pub has_label : List ℕ → Bool
 has_label content = list_any (λ b. b == 58) content
 
--- what stands before the first `:` is the label
+-- the text before the first `:` is the label
 unfoldable pub label_of : List ℕ → Result (Option (List ℕ)) LineCause
 label_of content =
     if has_label content then
@@ -28,7 +28,7 @@ label_of content =
     if is_name label then Ok (Some label) else Err BadOperand)
     else Ok None
 
--- the statement is what stands behind the first `:`, or the whole content where there is no label
+-- the statement is the text after the first `:`, or the whole content if there is no label
 unfoldable pub body_of : List ℕ → List ℕ
 body_of content = if has_label content then trimmed (after_first (λ b. b == 58) content) else content
 
@@ -39,7 +39,7 @@ word_of_body body = before_first is_blank body
 abbrev pub rest_of_body : List ℕ → List ℕ
 rest_of_body body = trimmed (after_first is_blank body)
 
--- the keyword of a statement; None where the statement is empty
+-- the keyword of a statement; None if the statement is empty
 unfoldable pub command_of : List ℕ → Result (Option Keyword) LineCause
 command_of body =
     if length body == 0 then Ok None else ok_or (option_map Some (keyword_of (word_of_body body))) UnknownMnemonic

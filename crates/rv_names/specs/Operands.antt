@@ -18,7 +18,7 @@ use Rattle.rv_names.specs.declared.target.Target.TheVariants.{Number, Label}
 use Rattle.rv_names.specs.declared.lines.LineCause.{LineCause}
 use Rattle.rv_names.specs.declared.lines.LineCause.TheVariants.{BadOperand, ImmediateRange}
 
--- goes on with f where the first step gave a value; else keeps its cause
+-- continues with f if the first step gave a value; otherwise keeps its cause
 infixl 10 ◌>>=◌
 abbrev pub ◌>>=◌ : {A B : Type 0} → Result A LineCause → (A → Result B LineCause) → Result B LineCause
 (Ok x) >>= f = f x
@@ -48,7 +48,6 @@ abbrev pub first_operand : List ℕ → Result (List ℕ × List ℕ) LineCause
 first_operand text =
     if list_any is_comma text then Ok (trimmed (before_first is_comma text), after_first is_comma text) else Err BadOperand
 
--- the last operand
 abbrev pub last_operand : List ℕ → Result (List ℕ) LineCause
 last_operand text = if list_any is_comma text then Err BadOperand else Ok (trimmed text)
 
@@ -87,7 +86,7 @@ register_operand text = ok_or (register_of text) BadOperand
 abbrev pub number_operand : List ℕ → Result ℤ LineCause
 number_operand text = ok_or (number_of text) BadOperand
 
--- `N(REGISTER)`, with nothing behind the closing parenthesis
+-- `N(REGISTER)`, with nothing after the closing parenthesis
 abbrev pub inside_parenthesis : List ℕ → Result (List ℕ) LineCause
 inside_parenthesis rest = if slice_index rest (length rest - 1) == 41 then Ok (take (length rest - 1) rest) else Err BadOperand
 

@@ -35,6 +35,5 @@ register_number text =
 unfoldable pub register_of : List ℕ → Option Reg
 register_of text = option_map register_at (register_number text)
 
--- the x name of a register
 unfoldable pub x_name : Reg → List ℕ
 x_name register = get_or x_names register.number []

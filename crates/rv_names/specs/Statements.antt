@@ -232,7 +232,7 @@ zero_statement rest = do
 
 -- ---- all of them
 
--- the statement of a keyword, in a section where it may stand
+-- the statement of a keyword, in a section that allows it
 unfoldable pub keyword_statement : Keyword → List ℕ → Result TextLine LineCause
 keyword_statement keyword.Lui rest = lui rest
 keyword_statement keyword.Auipc rest = auipc rest
@@ -262,7 +262,7 @@ abbrev pub is_data : Section → Bool
 is_data Text = false
 is_data Data = true
 
--- `.byte` and `.zero` stand in data, `.word` in both sections, instructions in text
+-- `.byte` and `.zero` are allowed in data, `.word` in both sections, instructions in text
 unfoldable pub may_stand_in : Section → Keyword → Bool
 may_stand_in section keyword.TextSection = true
 may_stand_in section keyword.DataSection = true
@@ -271,6 +271,6 @@ may_stand_in section keyword.ByteDirective = is_data section
 may_stand_in section keyword.ZeroDirective = is_data section
 may_stand_in section _ = not (is_data section)
 
--- the statement of a keyword; BadOperand where it may not stand in the section
+-- the statement of a keyword; BadOperand if the section does not allow it
 unfoldable pub statement_of : Section → Keyword → List ℕ → Result TextLine LineCause
 statement_of section keyword rest = if may_stand_in section keyword then keyword_statement keyword rest else Err BadOperand

@@ -36,7 +36,6 @@ word_directive word = command keyword.WordDirective ((codes "0x" ++ encode_lower
 abbrev pub fence_text : ℕ → List ℕ
 fence_text word = if word == 0x0ff0000f then mnemonic keyword.Fence else word_directive word
 
--- the text of an instruction
 unfoldable pub instruction_text : Instr → List ℕ
 instruction_text (Lui rd immediate) = command keyword.Lui (x_name rd ∷ upper_text immediate ∷ [])
 instruction_text (Auipc rd immediate) = command keyword.Auipc (x_name rd ∷ upper_text immediate ∷ [])
@@ -56,7 +55,7 @@ instruction_text (Fence rd source immediate) = fence_text (word_of (Fence rd sou
 instruction_text Ecall = mnemonic keyword.Ecall
 instruction_text Ebreak = mnemonic keyword.Ebreak
 
--- the text of a word: the text of its instruction, or `.word 0x` and eight hex digits where it has none
+-- the text of a word: the text of its instruction, or `.word 0x` and eight hex digits if it has none
 abbrev pub text_or_word : ℕ → Option Instr → List ℕ
 text_or_word word None = word_directive word
 text_or_word word (Some instr) = instruction_text instr

@@ -121,7 +121,7 @@ const KEYWORDS: [Keyword; 58] = [
     Keyword::ZeroDirective,
 ];
 
-/// The first of the keywords whose mnemonic or directive is `word`; `None` where there is none.
+/// The first of the keywords whose mnemonic or directive is `word`; `None` if there is none.
 fn found(keywords: &[Keyword], word: &[u8]) -> Option<Keyword>
     ensures { result ≡ find (λ keyword. bytes_eq (mnemonic keyword) word.now) keywords.now }
 {

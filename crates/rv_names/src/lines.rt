@@ -13,7 +13,7 @@ pub enum Section {
     Data,
 }
 
-/// What is wrong with a line by itself. If several hold, the one with the least number is answered.
+/// What is wrong with a line by itself. If several causes hold, the one with the least number is returned.
 #[derive(Clone, Copy, Debug, PartialEq, Eq)]
 pub enum LineCause {
     /// The first word is neither a mnemonic nor a directive.
@@ -60,14 +60,14 @@ pub enum Statement {
 /// A line of source. `N` is the type of the names of labels in it.
 #[derive(Clone, Copy, Debug, PartialEq, Eq)]
 pub struct Line<N> {
-    /// The name of the place where the line begins.
+    /// The name of the place at which the line begins.
     pub label: Option<N>,
     /// What the line says beside its label.
     pub statement: Statement,
     /// The label that the statement refers to. `BranchTo`, `JumpTo` and `AddressOf` have one, and no other
     /// statement has.
-    // It does not stand in these variants: the borrow checker covers no enum that holds a reference beside
-    // a struct with a ghost field, as `Reg` has one.
+    // It is not a field of these variants: the borrow checker covers no enum that holds a reference beside a struct
+    // with a ghost field, as `Reg` has one.
     pub target: Option<N>,
 }
 

@@ -60,14 +60,14 @@ pub fn trimmed(text: &[u8]) -> &[u8]
     without_blanks_behind(without_blanks_before(text))
 }
 
-/// The first place of a byte in a text; `None` where the text does not have it.
+/// The first place of a byte in a text; `None` if the text does not have it.
 pub(crate) fn place_of(text: &[u8], byte: u8) -> Option<usize>
     ensures { result ≡ position (λ b. b == byte) text.now }
 {
     text.iter().position(|b| *b == byte)
 }
 
-/// What stands before the first such byte; the whole text where there is none.
+/// What comes before the first such byte; the whole text if there is none.
 pub(crate) fn before(text: &[u8], byte: u8) -> &[u8]
     ensures { result.now ≡ before_first (λ b. b == byte) text.now }
 {
@@ -77,7 +77,7 @@ pub(crate) fn before(text: &[u8], byte: u8) -> &[u8]
     }
 }
 
-/// What stands behind the first such byte; nothing where there is none.
+/// What comes after the first such byte; nothing if there is none.
 pub(crate) fn behind(text: &[u8], byte: u8) -> &[u8]
     ensures { result.now ≡ after_first (λ b. b == byte) text.now }
 {
@@ -94,7 +94,7 @@ pub(crate) fn has(text: &[u8], byte: u8) -> bool
     text.contains(&byte)
 }
 
-/// The first of several operands, and the text of the others; BadOperand where there is no comma.
+/// The first of several operands, and the text of the others; BadOperand if there is no comma.
 fn first_operand(text: &[u8]) -> Result<(&[u8], &[u8]), LineCause>
     ensures { result_map_both (λ p. (p.0.now, p.1.now)) (λ cause. cause) result ≡ first_operand text.now }
 {
@@ -104,7 +104,7 @@ fn first_operand(text: &[u8]) -> Result<(&[u8], &[u8]), LineCause>
     Ok((trimmed(before(text, b',')), behind(text, b',')))
 }
 
-/// The last operand; BadOperand where there is a comma.
+/// The last operand; BadOperand if there is a comma.
 fn last_operand(text: &[u8]) -> Result<&[u8], LineCause>
     ensures { result_map_both (λ a. a.now) (λ cause. cause) result ≡ last_operand text.now }
 {
@@ -114,7 +114,7 @@ fn last_operand(text: &[u8]) -> Result<&[u8], LineCause>
     Ok(trimmed(text))
 }
 
-/// Checks that there is no operand; else BadOperand.
+/// Checks that there is no operand; BadOperand if there is one.
 #[tactic(auto, unfolding(crate::specs::Operands::no_operand))]
 pub(crate) fn no_operand(text: &[u8]) -> Result<(), LineCause>
     ensures { result ≡ no_operand text.now }
@@ -125,7 +125,7 @@ pub(crate) fn no_operand(text: &[u8]) -> Result<(), LineCause>
     Err(LineCause::BadOperand)
 }
 
-/// The one operand; BadOperand where there is none or more than one.
+/// The one operand; BadOperand if there is none or more than one.
 #[tactic(auto, unfolding(crate::specs::Operands::one_operand))]
 pub(crate) fn one_operand(text: &[u8]) -> Result<&[u8], LineCause>
     ensures { result_map_both (λ a. a.now) (λ cause. cause) result ≡ one_operand text.now }
@@ -136,7 +136,7 @@ pub(crate) fn one_operand(text: &[u8]) -> Result<&[u8], LineCause>
     last_operand(text)
 }
 
-/// The two operands; BadOperand where there is another number of them.
+/// The two operands; BadOperand if there is another number of them.
 #[tactic(auto, unfolding(crate::specs::Operands::two_operands))]
 pub(crate) fn two_operands(text: &[u8]) -> Result<(&[u8], &[u8]), LineCause>
     ensures { result_map_both (λ p. (p.0.now, p.1.now)) (λ cause. cause) result ≡ two_operands text.now }
@@ -146,7 +146,7 @@ pub(crate) fn two_operands(text: &[u8]) -> Result<(&[u8], &[u8]), LineCause>
     Ok((first, last))
 }
 
-/// The three operands; BadOperand where there is another number of them.
+/// The three operands; BadOperand if there is another number of them.
 #[tactic(auto, unfolding(crate::specs::Operands::three_operands))]
 pub(crate) fn three_operands(text: &[u8]) -> Result<(&[u8], &[u8], &[u8]), LineCause>
     ensures { result_map_both (λ p. (p.0.now, p.1.now, p.2.now)) (λ cause. cause) result ≡ three_operands text.now }
@@ -157,14 +157,14 @@ pub(crate) fn three_operands(text: &[u8]) -> Result<(&[u8], &[u8], &[u8]), LineC
     Ok((first, second, last))
 }
 
-/// Whether a byte may stand in a name.
+/// Whether a byte is allowed in a name.
 fn is_name_byte(byte: u8) -> bool
     ensures { result ≡ is_name_byte byte }
 {
     byte.is_ascii_alphanumeric() || byte == b'_'
 }
 
-/// Whether each byte may stand in a name.
+/// Whether each byte is allowed in a name.
 fn are_name_bytes(text: &[u8]) -> bool
     ensures { result ≡ list_all is_name_byte text.now }
 {
@@ -182,21 +182,21 @@ pub(crate) fn is_name(text: &[u8]) -> bool
     are_name_bytes(text)
 }
 
-/// A register, else BadOperand.
+/// A register; BadOperand if the text names none.
 pub(crate) fn register_operand(text: &[u8]) -> Result<Reg, LineCause>
     ensures { result ≡ register_operand text.now }
 {
     register(text).ok_or(LineCause::BadOperand)
 }
 
-/// A number, else BadOperand.
+/// A number; BadOperand if the text writes none.
 pub(crate) fn number_operand(text: &[u8]) -> Result<i64, LineCause>
     ensures { result ≡ number_operand text.now }
 {
     number(text).ok_or(LineCause::BadOperand)
 }
 
-/// The text without the closing parenthesis at its end; BadOperand where it has none there.
+/// The text without the closing parenthesis at its end; BadOperand if it has none there.
 fn inside_parenthesis(text: &[u8]) -> Result<&[u8], LineCause>
     ensures { result_map_both (λ a. a.now) (λ cause. cause) result ≡ inside_parenthesis text.now }
 {
@@ -206,7 +206,7 @@ fn inside_parenthesis(text: &[u8]) -> Result<&[u8], LineCause>
     Ok(&text[..text.len() - 1])
 }
 
-/// The number and the register of `N(REGISTER)`, else BadOperand.
+/// The number and the register of `N(REGISTER)`; BadOperand for any other text.
 #[tactic(auto, unfolding(crate::specs::Operands::place_operand))]
 pub(crate) fn place_operand(text: &[u8]) -> Result<(i64, Reg), LineCause>
     ensures { result ≡ place_operand text.now }
@@ -217,7 +217,7 @@ pub(crate) fn place_operand(text: &[u8]) -> Result<(i64, Reg), LineCause>
     Ok((number, base))
 }
 
-/// A number or a name, else BadOperand.
+/// A number or a name; BadOperand for any other text.
 #[tactic(auto, unfolding(crate::specs::Operands::target_operand))]
 pub(crate) fn target_operand(text: &[u8]) -> Result<Target<&[u8]>, LineCause>
     ensures { result_map_both (target_map (λ label. label.now)) (λ cause. cause) result ≡ target_operand text.now }

@@ -22,7 +22,7 @@ fn immediate_in_range(number: i64) -> Immediate
     }
 }
 
-/// An immediate, -2048 to 2047, else ImmediateRange.
+/// An immediate, -2048 to 2047; ImmediateRange for any other number.
 #[tactic(auto, unfolding(crate::specs::Operands::immediate_of))]
 pub(crate) fn immediate(number: i64) -> Result<Immediate, LineCause>
     ensures { result ≡ immediate_of number }
@@ -83,7 +83,7 @@ fn upper_in_range(n: u32) -> Upper
     Upper { value: n }
 }
 
-/// The upper 20 bits of LUI and AUIPC, 0 to 1048575, else ImmediateRange.
+/// The upper 20 bits of LUI and AUIPC, 0 to 1048575; ImmediateRange for any other number.
 #[tactic(auto, unfolding(crate::specs::Operands::upper_of))]
 pub(crate) fn upper(number: i64) -> Result<Upper, LineCause>
     ensures { result ≡ upper_of number }
@@ -102,7 +102,7 @@ fn amount_in_range(n: u8) -> ShiftAmount
     ShiftAmount { value: n }
 }
 
-/// The number of places of a shift, 0 to 31, else ImmediateRange.
+/// The number of places of a shift, 0 to 31; ImmediateRange for any other number.
 #[tactic(auto, unfolding(crate::specs::Operands::amount_of))]
 pub(crate) fn amount(number: i64) -> Result<ShiftAmount, LineCause>
     ensures { result ≡ amount_of number }
@@ -113,7 +113,7 @@ pub(crate) fn amount(number: i64) -> Result<ShiftAmount, LineCause>
     Ok(amount_in_range(number as u8))
 }
 
-/// A word: a number from -2147483648 to 4294967295, taken modulo 2^32; else ImmediateRange.
+/// A word: a number from -2147483648 to 4294967295, taken modulo 2^32; ImmediateRange for any other number.
 #[tactic(auto, unfolding(crate::specs::Operands::word_value_of))]
 pub(crate) fn word_value(number: i64) -> Result<u32, LineCause>
     ensures { result ≡ word_value_of number }
@@ -124,7 +124,7 @@ pub(crate) fn word_value(number: i64) -> Result<u32, LineCause>
     Ok(number.rem_euclid(4294967296) as u32)
 }
 
-/// A number from 0 to `most`, else ImmediateRange.
+/// A number from 0 to `most`; ImmediateRange for any other number.
 #[tactic(auto, unfolding(crate::specs::Operands::count_of))]
 pub(crate) fn count(most: u32, number: i64) -> Result<u32, LineCause>
     ensures count { result ≡ count_of most number }

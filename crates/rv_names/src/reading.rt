@@ -21,7 +21,7 @@ fn content(text: &[u8]) -> &[u8]
     trimmed(before(text, b'#'))
 }
 
-/// The label, where there is one; BadOperand where it is not a name.
+/// The label, if there is one; BadOperand if it is not a name.
 #[tactic(auto, unfolding(crate::specs::Line::label_of))]
 fn label(content: &[u8]) -> Result<Option<&[u8]>, LineCause>
     ensures { result_map_both (option_map (λ label. label.now)) (λ cause. cause) result ≡ label_of content.now }
@@ -36,7 +36,7 @@ fn label(content: &[u8]) -> Result<Option<&[u8]>, LineCause>
     Ok(Some(label))
 }
 
-/// What stands behind the label; the whole content where there is no label.
+/// What comes after the label; the whole content if there is no label.
 #[tactic(auto, unfolding(crate::specs::Line::body_of))]
 fn body(content: &[u8]) -> &[u8]
     ensures { result.now ≡ body_of content.now }
@@ -47,7 +47,7 @@ fn body(content: &[u8]) -> &[u8]
     trimmed(behind(content, b':'))
 }
 
-/// The place of the first blank; `None` where there is none.
+/// The place of the first blank; `None` if there is none.
 fn first_blank(body: &[u8]) -> Option<usize>
     ensures { result ≡ position is_blank body.now }
 {
@@ -64,7 +64,7 @@ fn first_word(body: &[u8]) -> &[u8]
     }
 }
 
-/// What stands behind the first blank; nothing where there is none.
+/// What comes after the first blank; nothing if there is none.
 fn behind_word(body: &[u8]) -> &[u8]
     ensures { result.now ≡ after_first is_blank body.now }
 {
@@ -74,8 +74,8 @@ fn behind_word(body: &[u8]) -> &[u8]
     }
 }
 
-/// The keyword of a statement; `None` where the statement is empty, UnknownMnemonic where its first word is
-/// neither a mnemonic nor a directive.
+/// The keyword of a statement; `None` if the statement is empty, UnknownMnemonic if its first word is neither a
+/// mnemonic nor a directive.
 #[tactic(auto, unfolding(crate::specs::Line::command_of))]
 fn command(body: &[u8]) -> Result<Option<Keyword>, LineCause>
     ensures { result ≡ command_of body.now }
@@ -87,7 +87,7 @@ fn command(body: &[u8]) -> Result<Option<Keyword>, LineCause>
     Ok(Some(keyword))
 }
 
-/// The statement of a keyword, or the empty statement where there is no keyword.
+/// The statement of a keyword, or the empty statement if there is no keyword.
 fn said(section: Section, body: &[u8], command: Option<Keyword>) -> Result<Line<&[u8]>, LineCause>
     ensures { shown_line result ≡ said_by section body.now command }
 {
@@ -97,10 +97,10 @@ fn said(section: Section, body: &[u8], command: Option<Keyword>) -> Result<Line<
     }
 }
 
-/// What a line of source says. `text` is the line without its line feed, and `section` is the section that
-/// is in force. Names are borrowed from `text`. Refused with the least cause that holds of the line by
-/// itself: UnknownMnemonic where the first word is neither a mnemonic nor a directive, else BadOperand,
-/// else ImmediateRange.
+/// What a line of source says. `text` is the line without its line feed, and `section` is the section that is in
+/// force. Names are borrowed from `text`. Refused with the least cause that holds of the line by itself:
+/// UnknownMnemonic if the first word is neither a mnemonic nor a directive, otherwise BadOperand, otherwise
+/// ImmediateRange.
 #[tactic(auto, unfolding(crate::specs::Line::line_of))]
 pub fn read_line(section: Section, text: &[u8]) -> Result<Line<&[u8]>, LineCause>
     ensures { shown_line result ≡ line_of section text.now }

@@ -22,7 +22,7 @@ const ABI_NAMES: [&str; 32] = [
     "t5", "t6",
 ];
 
-/// The place of a text in a table of names; `None` where the table does not have it.
+/// The place of a text in a table of names; `None` if the table does not have it.
 fn place_in(names: &[&str; 32], text: &[u8]) -> Option<usize>
     ensures place { result ≡ position (λ name. bytes_eq name.now text.now) names.now }
     ensures within { IfSome result (λ place. place < 32) }
@@ -30,7 +30,7 @@ fn place_in(names: &[&str; 32], text: &[u8]) -> Option<usize>
     names.iter().position(|name| name.as_bytes() == text)
 }
 
-/// The number of the register that a text names; `None` where it names none.
+/// The number of the register that a text names; `None` if it names none.
 fn register_number(text: &[u8]) -> Option<usize>
     ensures number { result ≡ register_number text.now }
     ensures within { IfSome result (λ number. number < 32) }

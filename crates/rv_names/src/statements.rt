@@ -67,7 +67,7 @@ fn auipc(rest: &[u8]) -> Result<Line<&[u8]>, LineCause>
     Ok(Line::saying(Statement::Plain(Instr::Auipc { rd, immediate })))
 }
 
-/// JAL to a target; ImmediateRange where a number is odd or out of range.
+/// JAL to a target; ImmediateRange if a number is odd or out of range.
 fn jump_to(rd: Reg, target: Target<&[u8]>) -> Result<Line<&[u8]>, LineCause>
     ensures { shown_line result ≡ jump_to rd (target_map (λ label. label.now) target.entry) }
 {
@@ -102,7 +102,7 @@ fn jalr(rest: &[u8]) -> Result<Line<&[u8]>, LineCause>
     Ok(Line::saying(Statement::Plain(Instr::Jalr { rd, base, offset })))
 }
 
-/// A branch to a target; ImmediateRange where a number is odd or out of range.
+/// A branch to a target; ImmediateRange if a number is odd or out of range.
 fn branch_to(
     condition: Condition,
     left: Reg,
@@ -228,7 +228,7 @@ fn compute(operation: Operation, rest: &[u8]) -> Result<Line<&[u8]>, LineCause>
     })))
 }
 
-/// A statement without operands; BadOperand where there are any.
+/// A statement without operands; BadOperand if there are any.
 fn alone(statement: Statement, rest: &[u8]) -> Result<Line<&[u8]>, LineCause>
     ensures { shown_line result ≡ alone statement rest.now }
 {
@@ -261,7 +261,7 @@ fn j(rest: &[u8]) -> Result<Line<&[u8]>, LineCause>
     jump_to(zero(), target)
 }
 
-/// LUI and ADDI that load a number or the address of a label; ImmediateRange where a number is out of range.
+/// LUI and ADDI that load a number or the address of a label; ImmediateRange if a number is out of range.
 fn load_target(rd: Reg, target: Target<&[u8]>) -> Result<Line<&[u8]>, LineCause>
     ensures { shown_line result ≡ load_target rd (target_map (λ label. label.now) target.entry) }
 {
@@ -284,7 +284,7 @@ fn li(rest: &[u8]) -> Result<Line<&[u8]>, LineCause>
     load_target(rd, target_operand(target)?)
 }
 
-/// The one operand of a directive, a number; else BadOperand.
+/// The one operand of a directive, a number; BadOperand if it is not one number.
 fn only_number(rest: &[u8]) -> Result<i64, LineCause>
     ensures { result ≡ only_number rest.now }
 {
@@ -384,7 +384,7 @@ fn keyword_statement(keyword: Keyword, rest: &[u8]) -> Result<Line<&[u8]>, LineC
     }
 }
 
-/// Whether a keyword may stand in a section.
+/// Whether a keyword is allowed in a section.
 #[tactic(auto, unfolding(crate::specs::Statements::may_stand_in))]
 fn may_stand_in(section: Section, keyword: Keyword) -> bool
     ensures { result ≡ may_stand_in section keyword }
@@ -406,7 +406,7 @@ fn is_data(section: Section) -> bool
     }
 }
 
-/// The statement of a keyword with the operands `rest`; BadOperand where it may not stand in the section.
+/// The statement of a keyword with the operands `rest`; BadOperand if the section does not allow it.
 #[tactic(auto, unfolding(crate::specs::Statements::statement_of))]
 pub(crate) fn statement(
     section: Section,

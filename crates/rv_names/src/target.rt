@@ -1,4 +1,4 @@
-//! Where a branch or jump goes, and what `li` loads.
+//! The target of a branch or jump, and what `li` loads.
 
 /// A number, or the name of a label.
 pub enum Target<N> {

@@ -152,8 +152,8 @@ fn fence_text(alloc: Global, word: u32) -> Result<String, AllocError>
     word_directive(alloc, word)
 }
 
-/// The text of an instruction: registers by their x names, distances in bytes. A fence whose word is not
-/// 0x0ff0000f is printed as `.word 0x` and eight hex digits. Refused where memory ran out.
+/// The text of an instruction: registers by their x names, distances in bytes. A fence whose word is not 0x0ff0000f
+/// is printed as `.word 0x` and eight hex digits. Refused if memory ran out.
 #[tactic(auto, unfolding(crate::specs::Text::instruction_text))]
 pub fn instruction_text(alloc: Global, instr: &Instr) -> Result<String, AllocError>
     ensures { IfOk result (λ t. string_bytes t ≡ instruction_text instr.now) }
@@ -223,8 +223,8 @@ pub fn instruction_text(alloc: Global, instr: &Instr) -> Result<String, AllocErr
     }
 }
 
-/// The text of a word: the text of its instruction, or `.word 0x` and eight hex digits where the word is
-/// illegal. Refused where memory ran out.
+/// The text of a word: the text of its instruction, or `.word 0x` and eight hex digits if the word is illegal.
+/// Refused if memory ran out.
 #[tactic(auto, unfolding(crate::specs::Text::disassembly))]
 pub fn disassembly(alloc: Global, word: u32) -> Result<String, AllocError>
     ensures { IfOk result (λ t. string_bytes t ≡ disassembly word) }

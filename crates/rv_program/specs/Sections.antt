@@ -11,7 +11,7 @@ pub record IsSized (p : Sections) : Type 0 where
   pub text : 4 * length p.text ≤ 65536
   pub data_bytes : length p.data_bytes ≤ 61440
 
--- the program of some words and bytes, or None where a section is too large
+-- the program of some words and bytes, or None if a section is too large
 abbrev pub sections_of : List ℕ → List ℕ → Option Sections
 sections_of text data_bytes =
     if (nat_lt 65536 (4 * length text) || nat_lt 61440 (length data_bytes)) then None else Some (record { text = text; data_bytes = data_bytes })

@@ -33,7 +33,7 @@ impl Program {
     ghost use Rattle.std.specs.Prelude.{◌≡◌};
     ghost use Rattle.rv_program.specs.Sections.{IsSized, sections_of};
 
-    /// The program of these text words and data bytes. None where the text has more than `TEXT_LIMIT`
+    /// The program of these text words and data bytes. None if the text has more than `TEXT_LIMIT`
     /// bytes or the data more than `DATA_LIMIT`.
     pub fn new(text: Vec<u32>, data_bytes: Vec<u8>) -> Option<Program>
         ensures { result ≡ sections_of text.items data_bytes.items }

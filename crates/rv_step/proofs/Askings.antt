@@ -1,4 +1,4 @@
--- What a run asks for is the key of the next answer in whatever bears a receipt out.
+-- A run asks for the key of the next answer in any replies that bear a receipt out.
 use Rattle.std.proofs.Common.{◌≡◌, ℕ, Bool, true, false, if◌then◌else◌, List, [], ◌∷◌, ◌++◌, Option, Some, None, refl, sym, ap, ◌∙◌}
 use Rattle.std.specs.Str.{bytes_eq}
 use Rattle.std.proofs.lemmas.Slice.Eq.{bytes_eq-Decides}
@@ -32,7 +32,7 @@ module _ (call : Invocation) (all : List Reply) (m : ℕ) (r : Receipt) (bears :
   not_waiting : (s : Machine) (left : List Reply) → moment_with call all m ≡ (Going s, left) → IsLast from_replies (Going s, left) → ⊥
   not_waiting s left e last = let none : None ≡ Some r = sym (ap (receipt_with call.gas) (last_with call all m (Going s, left) e last)) ∙ bears in cc
 
-  -- and none of them over
+  -- and they leave none of them over
   none_left : (end : End) (out : List ℕ) (s : Machine) (left : List Reply) → moment_with call all m ≡ (Over end out s, left) → left ≡ []
   none_left end out s left e = (bears_over call.gas (Over end out s) left r (sym (ap (receipt_with call.gas) (last_with call all m (Over end out s, left) e refl)) ∙ bears)).1
 
@@ -42,7 +42,7 @@ nothing_after [] (reply ∷ rest) e = cc
 nothing_after (first ∷ replies) rest e = cc
 
 module _ (call : Invocation) (all : List Reply) (m : ℕ) (r : Receipt) (bears : borne_out call all ≡ Some r) where
-  -- an asking is answered by the first of the replies that are left
+  -- the first of the replies that are left answers what the call asks for
   first_answers : (s : Machine) (key : List ℕ) (reply : Reply) (left : List Reply) (b : Bool) → bytes_eq reply.0 key ≡ b → step s ≡ Asks key → moment_with call all m ≡ (Going s, reply ∷ left) → Some key ≡ Some reply.0
   first_answers s key reply left true same e stands = ap Some (sym ((bytes_eq-Decides reply.0 key).0 same))
   first_answers s key reply left false same e stands =
@@ -68,14 +68,14 @@ module _ (call : Invocation) (all : List Reply) (m : ℕ) (r : Receipt) (bears :
   progress_asks (Going s) left rest last stands = step_asks s left rest (step s) refl last stands
   progress_asks (Over end out s) left rest last stands = nothing_after left rest (none_left call all m r bears end out s (left ++ rest) stands)
 
--- where some replies and others after them bear a receipt out, the call asks for the key of the first of the others
+-- if some replies and others after them bear a receipt out, the call asks for the key of the first of the others
 pub chain_asks : (call : Invocation) (replies rest : List Reply) (r : Receipt) → borne_out call (replies ++ rest) ≡ Some r → asked_by call replies ≡ next_key rest
 chain_asks call replies rest r bears =
     let at : Progress × List Reply = moment_with call replies (enough_steps call) in
     let comes = with_more replies rest (Going (start call)) (enough_steps call) in
     progress_asks call (replies ++ rest) comes.0 r bears at.0 at.1 rest (last_after_gas from_replies call.gas (Going (start call), replies) (start_gas call)) comes.1
 
--- a run that asked for a key asks for it still
+-- a run that asked for a key still asks for it
 pub asked_asks : (call : Invocation) (s : Machine) (answers : List StorageAnswer) (key : List ℕ) → IsBeginning (record { call = call; machine = s; answers = answers; stage = Asked key }) → Some key ≡ asked_by call (replies_of answers)
 asked_asks call s answers key so_far =
     sym (ap key_asked (last_with call (replies_of answers) so_far.moment.0 (Going s, []) so_far.moment.1 (advance_waits from_replies s [] key so_far.stands.1 refl)) ∙ ap key_of so_far.stands.1)

@@ -52,7 +52,7 @@ module _ (call : Invocation) (s : Machine) (answers : List StorageAnswer) (stage
   next : (progress : Progress) → step s ≡ Leads progress → moment_with call (replies_of answers) (suc so_far.moment.0) ≡ (progress, [])
   next progress e = one_more from_replies so_far.moment.0 (Going (start call), replies_of answers) ∙ ap (advance from_replies) going ∙ advance_leads from_replies s [] progress e
 
-  -- a step that goes on
+  -- a step after which the call continues
   pub steps_on : (t : Machine) → step s ≡ Leads (Going t) → IsBeginning (record { call = call; machine = t; answers = answers; stage = stage })
   steps_on t e =
       let less : t.gas < s.gas = less_gas s.gas t (step_falls s (Going t) e) in
@@ -88,7 +88,7 @@ module _ (call : Invocation) (s : Machine) (answers : List StorageAnswer) (key :
             ∙ advance_told from_replies s (reply_of given ∷ []) key content [] so_far.stands.1 (reply_told key content []),
       )
 
-  -- an answer with which the call goes on
+  -- an answer after which the call continues
   pub answers_on : (t : Machine) → answered s (delivered s key content) ≡ Going t → IsBeginning (record { call = call; machine = t; answers = answers ++ record { key = key; value = content; origin = origin } ∷ []; stage = Running })
   answers_on t e =
       let less : t.gas < s.gas = less_gas s.gas t (subst (IsFalling s.gas) e (answered_falls s (delivered s key content))) in
@@ -106,20 +106,20 @@ module _ (call : Invocation) (s : Machine) (answers : List StorageAnswer) (key :
 pub is_borne : (call : Invocation) (s : Machine) (answers : List StorageAnswer) (end : End) (out : List ℕ) → IsBeginning (record { call = call; machine = s; answers = answers; stage = Ended end out }) → borne_out call (replies_of answers) ≡ Some (receipt_of call.gas end out s)
 is_borne call s answers end out so_far = over_bears call (replies_of answers) so_far.moment.0 (Over end out s) so_far.moment.1 refl
 
--- a step that leads on does not ask
+-- a step that leads to a state does not ask
 pub leads_not_asks : (progress : Progress) (key : List ℕ) → Leads progress ≡ Asks key → ⊥
 leads_not_asks progress key e = cc
 
 pub led : {p q : Progress} → Leads p ≡ Leads q → p ≡ q
 led e = cc
 
--- whatever an answer comes to
+-- an answer keeps it, whatever the result
 pub answer_keeps : (call : Invocation) (s t : Machine) (answers : List StorageAnswer) (key : List ℕ) (content : Option (List ℕ)) (origin : Origin) (came : Stage) → IsBeginning (record { call = call; machine = s; answers = answers; stage = Asked key }) → MeetsResult (Ok came) (Leads (answered s (delivered s key content))) s t → IsBeginning (record { call = call; machine = t; answers = answers ++ record { key = key; value = content; origin = origin } ∷ []; stage = came })
 answer_keeps call s t answers key content origin Running so_far did = answers_on call s answers key content origin so_far t (led did)
 answer_keeps call s t answers key content origin (Asked other) so_far did = absurd (leads_not_asks (answered s (delivered s key content)) other did.0)
 answer_keeps call s t answers key content origin (Ended end out) so_far did = answers_to_end call s answers key content origin so_far end out t (led did)
 
--- a step that goes on leaves fewer steps to come
+-- a step after which the call continues leaves fewer steps to come
 pub next_leaves_fewer : (s t : Machine) (stage : Stage) → is_running stage ≡ true → step s ≡ Leads (Going t) → left_for t.gas stage < left_for s.gas stage
 next_leaves_fewer s t Running h e = let less : t.gas < s.gas = less_gas s.gas t (step_falls s (Going t) e) in omega arith
 next_leaves_fewer s t (Asked key) h e = cc
@@ -130,11 +130,11 @@ came_falls s t content Running did = let less : t.gas < s.gas = less_gas s.gas t
 came_falls s t content (Asked other) did = absurd (leads_not_asks (answered s content) other did.0)
 came_falls s t content (Ended end out) did = omega arith
 
--- the storage call at which a machine stands is its step
+-- the storage call at the pc of a machine is its step
 pub call_is_step : (s m t : Machine) (came : Stage) → MeetsInstruction (Ok outcome.StorageCall) (instruction_at s) (step s) s m → MeetsResult (Ok came) (ecall_result m (ecall_charge m.regs m.rules)) m t → MeetsResult (Ok came) (step s) s t
 call_is_step s m t came found did = rw found.1 (subst (λ (x : Machine). MeetsResult (Ok came) (ecall_result x (ecall_charge x.regs x.rules)) x t) found.2 did)
 
--- whatever a step comes to
+-- a step keeps it, whatever the result
 pub step_keeps : (call : Invocation) (s t : Machine) (answers : List StorageAnswer) (stage : Stage) (came : Stage) → IsBeginning (record { call = call; machine = s; answers = answers; stage = stage }) → is_running stage ≡ true → MeetsResult (Ok came) (step s) s t → IsBeginning (record { call = call; machine = t; answers = answers; stage = came })
 step_keeps call s t answers Running Running so_far running did = steps_on call s answers Running so_far running t did
 step_keeps call s t answers Running (Asked key) so_far running did = rw did.1 (steps_to_ask call s answers Running so_far running key did.0)

@@ -11,7 +11,7 @@ use Rattle.rv_step.proofs.Falls.{IsFalling, answered_falls, end_gas, less_gas, s
 use Rattle.rv_step.proofs.Moments.{one_more}
 use Rattle.rv_step.proofs.Receipts.{start_gas}
 
--- ---- no step gives gas back
+-- ---- no step returns gas
 
 falls_within : (gas : ℕ) (progress : Progress) → IsFalling gas progress → gas_left progress ≤ gas
 falls_within gas (Going t) falls = let less = less_gas gas t falls in omega (arith, less)

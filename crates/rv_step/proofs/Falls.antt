@@ -30,7 +30,7 @@ use Rattle.rv_step.specs.declared.machine.Machine.{Machine}
 use Rattle.rv_step.specs.Charged.{gas_left}
 use Rattle.rv_step.specs.Step.{Progress, Going, Over, StepResult, Leads, Asks, TakesGas, charged_call_result, out_of_gas, instruction_result, answered, ecall_result, charged, compute_result, delivery_result, fetch_result, next_instruction, is_ecall, memory_result, decode_result, read_result, storage_call_result, step, load_result, trapped, value_result, write_result}
 
--- a step leaves less gas where the call goes on, and no more where it ends
+-- a step leaves less gas if the call continues, and no more if it ends
 unfoldable pub IsFalling : ℕ → Progress → Type 0
 IsFalling gas (Going t) = t.gas < gas
 IsFalling gas (Over end out t) = t.gas ≤ gas
@@ -224,7 +224,7 @@ pub answered_falls : (s : Machine) (content : Option (List ℕ)) → IsFalling s
 unfolding answered
 answered_falls s content = charged_falls 200 s (λ t. delivery_result t content) (lit≤ tt) (λ t. delivered_within t content)
 
--- the gas after a step that goes on, and at an end
+-- the gas falls if the call continues, and does not rise if it ends
 pub less_gas : (gas : ℕ) (t : Machine) → IsFalling gas (Going t) → t.gas < gas
 unfolding IsFalling
 less_gas gas t h = h
@@ -233,7 +233,7 @@ pub end_gas : (gas : ℕ) (end : End) (out : List ℕ) (t : Machine) → IsFalli
 unfolding IsFalling
 end_gas gas end out t h = h
 
--- what is left after a charge that is there
+-- no more gas is left than after the charge
 left_within : (gas : ℕ) (progress : Progress) → IsWithin gas progress → gas_left progress ≤ gas
 unfolding IsWithin
 left_within gas (Going t) h = h

@@ -18,7 +18,7 @@ module _ {A : Type 0} (source : Source A) where
   no_more at = refl
 
   module _ (s : Machine) (left : A) where
-    -- a step that leads on
+    -- a step that leads to a state
     pub advance_leads : (progress : Progress) → step s ≡ Leads progress → advance source (Going s, left) ≡ (progress, left)
     advance_leads progress e = ap (λ (o : StepResult). after_result source s o left) e
 
@@ -62,7 +62,7 @@ module _ {A : Type 0} (source : Source A) where
   abbrev pub IsLast : Progress × A → Type 0
   IsLast at = advance source at ≡ at
 
-  -- then it stays so
+  -- from then on it stays the same
   pub stays : (n : ℕ) (at : Progress × A) → IsLast at → moment_from source n at ≡ at
   unfolding moment_from
   stays zero at last = refl
@@ -82,7 +82,7 @@ module _ {A : Type 0} (source : Source A) where
   pub one_last : (m n : ℕ) (at : Progress × A) → IsLast (moment_from source m at) → IsLast (moment_from source n at) → moment_from source m at ≡ moment_from source n at
   one_last m n at first second = sym (stays n (moment_from source m at) first) ∙ sym (either_first m n at) ∙ stays m (moment_from source n at) second
 
-  -- ---- it comes with the gas
+  -- ---- the gas bounds when it comes
 
   -- nothing changes any more, or n steps have taken gas
   abbrev pub IsNear : ℕ → ℕ → Progress × A → Type 0

@@ -73,7 +73,7 @@ plain_result (Fence rd source immediate) s h = refl
 plain_result Ecall s h = absurd (cc)
 plain_result Ebreak s h = absurd (cc)
 
--- the pc after an instruction, where it has one
+-- the pc after an instruction, or 0 if it has none
 abbrev pc_after : Option (List ℕ × ℕ) → ℕ
 pc_after (Some (registers, pc)) = pc
 pc_after None = 0
@@ -125,7 +125,7 @@ plain_goes i s registers next plain enough e =
 
 -- ---- loads and stores
 
--- what is answered is what was read
+-- what was answered is what was read
 answer_ok : (r : Result ℕ AccessFault) (number : ℕ) → Ok number ≡ as_answer r → r ≡ Ok number
 answer_ok (Ok n) number e = cc
 answer_ok (Err cause) number e = absurd (cc)
@@ -163,7 +163,7 @@ unfolding step
 page_step s first code word is even from below e =
     rw (code_word s.memory first code s.pc is even from below, e) refl
 
--- and it stands at the instruction of that word
+-- and the machine's instruction is that of the word
 pub page_instruction : (s : Machine) (first : ℕ) (code : List ℕ) (word : ℕ) → IsCode s.memory first code → s.pc % 4 ≡ 0 → first ≤ s.pc → s.pc < first + 4096 → word ≡ word_in code (s.pc - first) → instruction_at s ≡ decoded word
 page_instruction s first code word is even from below e =
     rw (code_word s.memory first code s.pc is even from below, e) refl

@@ -39,7 +39,7 @@ use Rattle.rv_step.specs.Run.{IsBeginning, RunView, progress_of}
 use Rattle.rv_step.specs.Step.{Progress, Going, StepResult, Leads, Asks, address_of, answered, charged, charged_call_result, compute_result, decode_result, delivered, delivery_result, ecall_result, fetch_result, instruction_result, is_ecall, load_result, memory_result, next_instruction, out_of_gas, read_result, step, storage_call_result, trapped, value_result, write_result}
 use Rattle.rv_step.proofs.Moments.{kept}
 
--- where a call stands has the rights and the pages of code of a memory
+-- a call in this state has the rights and the pages of code of a memory
 abbrev KeepsCode : Space → Progress → Type 0
 KeepsCode memory progress = Keeps memory (machine_of progress).memory
 
@@ -85,7 +85,7 @@ acts (Compute operation rd left right) s = computes s (effect_of (Compute operat
 acts (Fence rd source m) s = computes s (effect_of (Fence rd source m) s.regs s.pc)
 acts Ecall s = computes s (effect_of Ecall s.regs s.pc)
 
--- the charge leaves memory
+-- the charge does not change memory
 charges : (cost : ℕ) (s : Machine) (act : Machine → Progress) → ((t : Machine) → KeepsCode t.memory (act t)) → KeepsCode s.memory (charged cost s act)
 charges cost s act keeps =
     let t : Machine = record s { gas = s.gas - cost } in
@@ -163,7 +163,7 @@ module _ (program : BasePages) where
   abbrev StandsOver : Progress → Type 0
   StandsOver progress = HasCode (machine_of progress).memory program
 
-  -- steps that go on leave it
+  -- steps after which the call continues leave the code in memory
   pub reached_code : (n : ℕ) (s t : Machine) → Reaches n s t → HasCode s.memory program → HasCode t.memory program
   unfolding Reaches
   reached_code zero s t reached has = rw reached has

@@ -37,7 +37,7 @@ reply_taken reply left key content rest e = by_test (bytes_eq reply.0 key) refl
     by_test true same = let both = pair_is (reply.1, left) (content, rest) (sym (ap (λ (b : Bool). if b then Some (reply.1, left) else None) same) ∙ e) in (same, both.0, both.1)
     by_test false other = absurd (none_some (content, rest) (sym (ap (λ (b : Bool). if b then Some (reply.1, left) else None) other) ∙ e))
 
--- it is taken whatever follows
+-- the reply is taken whatever follows it
 told_before : (more left : List Reply) (key : List ℕ) (content : Content) (rest : List Reply) → from_replies left key ≡ Some (content, rest) → from_replies (left ++ more) key ≡ Some (content, rest ++ more)
 told_before more [] key content rest e = cc
 told_before more (reply ∷ left) key content rest e =
@@ -46,7 +46,7 @@ told_before more (reply ∷ left) key content rest e =
     ∙ ap (λ (c : Content). Some (c, left ++ more)) taken.1
     ∙ ap (λ (l : List Reply). Some (content, l ++ more)) taken.2
 
--- with further replies behind them, the same steps are made
+-- with further replies after these, the call makes the same steps
 module _ (replies more : List Reply) (first : Progress) where
   abbrev Comes : Progress × List Reply → Type 0
   Comes at = (m : ℕ) × (moment_from from_replies m (first, replies ++ more) ≡ (at.0, at.1 ++ more))
@@ -78,7 +78,7 @@ last_over : (progress : Progress) (store : Storage) → IsLast from_storage (pro
 last_over (Going s) store last = absurd (never_last store s (step s) refl last)
 last_over (Over end out s) store last = refl
 
--- so a chain over a storage comes to its end
+-- so a chain over a storage reaches its end
 pub over_from : (store : Storage) (limit : ℕ) (progress : Progress) → (machine_of progress).gas ≤ limit → is_over (moment_from from_storage (suc limit) (progress, store)).0 ≡ true
 over_from store limit progress h =
     let at = moment_from from_storage (suc limit) (progress, store) in last_over at.0 at.1 (last_after_gas from_storage limit (progress, store) h)
@@ -118,7 +118,7 @@ one_more_from : (store : Storage) (replies : List Reply) (reply : Reply) → Are
 one_more_from store [] reply from e = (e, tt)
 one_more_from store (first ∷ replies) reply from e = (from.0, one_more_from store replies reply from.1 e)
 
--- some replies of the storage lead where it does, all of them used
+-- some replies of the storage lead to the same state as the storage, all of them used
 pub record IsLedTo (store : Storage) (first : Progress) (at : Progress × Storage) : Type 0 where
   pub same : at.1 ≡ store
   pub replies : List Reply
@@ -156,12 +156,12 @@ module _ (store : Storage) (first : Progress) where
 
 -- ---- the receipt
 
--- where a call is over, nothing changes any more
+-- if a call is over, nothing changes any more
 pub over_last : (progress : Progress) (left : List Reply) → is_over progress ≡ true → IsLast from_replies (progress, left)
 over_last (Going s) left over = cc
 over_last (Over end out s) left over = refl
 
--- a moment at which nothing changes any more is the one that tells the receipt
+-- a moment at which nothing changes any more is the one that gives the receipt
 pub last_with : (call : Invocation) (replies : List Reply) (n : ℕ) (at : Progress × List Reply) → moment_with call replies n ≡ at → IsLast from_replies at → moment_with call replies (enough_steps call) ≡ at
 last_with call replies n at e last =
     last_is from_replies call.gas n (Going (start call), replies) (start_gas call) (rw e last) ∙ e
@@ -170,12 +170,12 @@ receipt_with_all : (limit : ℕ) (progress : Progress) → is_over progress ≡ 
 receipt_with_all limit (Going s) over = cc
 receipt_with_all limit (Over end out s) over = refl
 
--- a call that is over with its replies used tells the receipt
+-- a call that is over with its replies used gives the receipt
 pub over_bears : (call : Invocation) (replies : List Reply) (n : ℕ) (progress : Progress) → moment_with call replies n ≡ (progress, []) → is_over progress ≡ true → borne_out call replies ≡ Some (receipt_at call.gas progress)
 over_bears call replies n progress e over =
     ap (receipt_with call.gas) (last_with call replies n (progress, []) e (over_last progress [] over)) ∙ receipt_with_all call.gas progress over
 
--- where there is a receipt the call is over and its replies are used
+-- if there is a receipt, the call is over and its replies are used
 pub bears_over : (limit : ℕ) (progress : Progress) (left : List Reply) (r : Receipt) → receipt_with limit (progress, left) ≡ Some r → (is_over progress ≡ true) × (left ≡ []) × (r ≡ receipt_at limit progress)
 bears_over limit (Going s) left r e = cc
 bears_over limit (Over end out s) [] r e = (refl, refl, cc)
@@ -185,7 +185,7 @@ over_last_storage : (progress : Progress) (store : Storage) → is_over progress
 over_last_storage (Going s) store over = cc
 over_last_storage (Over end out s) store over = refl
 
--- a call that is over over a storage has its receipt
+-- a call that has ended over a storage has its receipt
 pub over_ends : (call : Invocation) (store : Storage) (n : ℕ) (at : Progress × Storage) → moment_from from_storage n (Going (start call), store) ≡ at → is_over at.0 ≡ true → receipt_at call.gas at.0 ≡ ends call store
 unfolding ends
 over_ends call store n at e over =
@@ -211,11 +211,11 @@ one_receipt_lem call store = record { some_answers = some_bear call store; no_ot
 
 -- ---- moments over a storage
 
--- the storage stays
+-- the storage does not change
 pub keeps_storage : (store : Storage) (first : Progress) (n : ℕ) → moment_from from_storage n (first, store) ≡ ((moment_from from_storage n (first, store)).0, store)
 keeps_storage store first n = ap (λ (x : Storage). ((moment_from from_storage n (first, store)).0, x)) (led_to store first n).same
 
--- a call that goes on has made no more steps than it had gas
+-- a call that is not over has made no more steps than it had gas
 going_near : (limit n : ℕ) (at : Progress × Storage) → IsNear from_storage limit n at → is_over at.0 ≡ false → n ≤ limit
 going_near limit n at (inl last) going = let over = last_over at.0 at.1 last in cc
 going_near limit n at (inr near) going = omega (arith, near)

@@ -6,7 +6,7 @@ use Rattle.rv_step.specs.declared.stage.Stage.{Stage}
 use Rattle.rv_step.specs.declared.stage.Stage.TheVariants.{Running, Asked, Ended}
 use Rattle.rv_step.specs.Step.{Progress, Going, Over, StepResult, Leads, Asks, step}
 use Rattle.rv_step.specs.Moment.{Reply, advance, from_replies, moment_from}
-use Rattle.rv_step.specs.Run.{RunView, after_one, after_result, after_steps, is_running, standing_at}
+use Rattle.rv_step.specs.Run.{RunView, after_one, after_steps, is_running, run_after_result, standing_at}
 use Rattle.rv_step.proofs.Moments.{advance_leads, advance_waits, kept}
 
 -- ---- one step more
@@ -19,19 +19,19 @@ told_none (reply ∷ left) key content rest none e = cc
 leaves_none : (n : ℕ) (progress : Progress) → (moment_from from_replies n (progress, [])).1 ≡ []
 leaves_none n progress = kept from_replies (λ at. at.1 ≡ []) (λ s left next none e. none) (λ s left key content rest none e told. told_none left key content rest none told) n (progress, []) refl
 
--- a run makes the steps of its chain, and asks where the chain waits
+-- a run makes the steps of its chain, and asks when the chain waits
 result_made : (r : RunView) (s : Machine) (o : StepResult) → step s ≡ o → after_one (standing_at (advance from_replies (Going s, [])).0 r) ≡ after_one (after_one (standing_at (Going s) r))
 result_made r s (Leads progress) e =
     ap (λ (at : Progress × List Reply). after_one (standing_at at.0 r)) (advance_leads from_replies s [] progress e)
-    ∙ sym (ap (λ (o : StepResult). after_one (after_result o (record r { machine = s; stage = Running }))) e ∙ stood r progress)
+    ∙ sym (ap (λ (o : StepResult). after_one (run_after_result o (record r { machine = s; stage = Running }))) e ∙ stood r progress)
   where
     stood : (r : RunView) (progress : Progress) → after_one (standing_at progress (record r { machine = s; stage = Running })) ≡ after_one (standing_at progress r)
     stood r (Going t) = refl
     stood r (Over end out t) = refl
 result_made r s (Asks key) e =
     ap (λ (at : Progress × List Reply). after_one (standing_at at.0 r)) (advance_waits from_replies s [] key e refl)
-    ∙ ap (λ (o : StepResult). after_result o (record r { machine = s; stage = Running })) e
-    ∙ sym (ap (λ (o : StepResult). after_one (after_result o (record r { machine = s; stage = Running }))) e)
+    ∙ ap (λ (o : StepResult). run_after_result o (record r { machine = s; stage = Running })) e
+    ∙ sym (ap (λ (o : StepResult). after_one (run_after_result o (record r { machine = s; stage = Running }))) e)
 
 progress_made : (r : RunView) (progress : Progress) (left : List Reply) → left ≡ [] → after_one (standing_at (advance from_replies (progress, left)).0 r) ≡ after_one (after_one (standing_at progress r))
 progress_made r (Going s) left e = rw e (result_made r s (step s) refl)
@@ -42,9 +42,9 @@ running_stands r Running e running = ap (λ (x : Stage). record r { stage = x })
 running_stands r (Asked key) e running = cc
 running_stands r (Ended end out) e running = cc
 
--- a run that can make no step stays
+-- a run that can make no step does not change
 still_one : (r : RunView) → is_running r.stage ≡ false → after_one r ≡ r
-still_one r still = ap (λ (b : Bool). if b then after_result (step r.machine) r else r) still
+still_one r still = ap (λ (b : Bool). if b then run_after_result (step r.machine) r else r) still
 
 stays_still : (n : ℕ) (r : RunView) → is_running r.stage ≡ false → after_steps n r ≡ r
 stays_still zero r still = refl
@@ -71,18 +71,18 @@ pub no_steps : (r : RunView) → (n : ℕ) × (r ≡ after_steps n r)
 no_steps r = (zero, refl)
 
 -- a run that can make a step makes it
-step_made : (r : RunView) → is_running r.stage ≡ true → after_result (step r.machine) r ≡ after_one r
+step_made : (r : RunView) → is_running r.stage ≡ true → run_after_result (step r.machine) r ≡ after_one r
 step_made r e = rw e refl
 
--- a step of a run that some steps led to is one more
-pub one_more_step : (r s t : RunView) → (n : ℕ) × (s ≡ after_steps n r) → is_running s.stage ≡ true → t ≡ after_result (step s.machine) s → (n : ℕ) × (t ≡ after_steps n r)
+-- if some steps led to a run, a step of it is one more
+pub one_more_step : (r s t : RunView) → (n : ℕ) × (s ≡ after_steps n r) → is_running s.stage ≡ true → t ≡ run_after_result (step s.machine) s → (n : ℕ) × (t ≡ after_steps n r)
 one_more_step r s t made running e = (suc made.0, e ∙ step_made s running ∙ ap after_one made.1 ∙ sym (more made.0 r))
 
 joined : (m n : ℕ) (r : RunView) → (k : ℕ) × (after_steps m (after_steps n r) ≡ after_steps k r)
 joined zero n r = (n, refl)
 joined (suc m) n r = let before = joined m n r in (suc before.0, more m (after_steps n r) ∙ ap after_one before.1 ∙ sym (more before.0 r))
 
--- steps of a run that some steps led to are steps of the first one
+-- if some steps led to a run, steps of it are steps of the first run
 pub more_steps : (r s t : RunView) → (n : ℕ) × (s ≡ after_steps n r) → (m : ℕ) × (t ≡ after_steps m s) → (n : ℕ) × (t ≡ after_steps n r)
 more_steps r s t made more =
     let both = joined more.0 made.0 r in

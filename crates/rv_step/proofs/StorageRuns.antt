@@ -51,7 +51,7 @@ module _ (call : Invocation) (store : Storage) where
       let stands : moment_from from_storage comes.0 (Going (start call), store) ≡ (Going s, store) = keeps_storage store (Going (start call)) comes.0 ∙ ap (λ (p : Progress). (p, store)) comes.1 in
       (suc comes.0, ap (λ (at : Progress × Storage). at.0) (one_more from_storage comes.0 (Going (start call), store) ∙ ap (advance from_storage) stands ∙ e))
 
-  -- steps that go on
+  -- steps after which the call continues
   reached_over : (n : ℕ) (s t : Machine) → Comes (Going s) → Reaches n s t → Comes (Going t)
   unfolding Reaches
   reached_over zero s t comes reached = rw reached comes
@@ -83,7 +83,7 @@ module _ (call : Invocation) (store : Storage) where
     answer_over t (Asked other) did = absurd (leads_not_asks (answered s (delivered s key content)) other did.0)
     answer_over t (Ended end out) did = let on = told (Over end out t) (led did) in record { stands = gas_at (Over end out t) on; moment = on }
 
-  -- at the end it has the receipt
+  -- at its end the call has the receipt
   pub ended_over : (s : Machine) (end : End) (out : List ℕ) → IsBeginningOver call store s (Ended end out) → receipt_of call.gas end out s ≡ ends call store
   ended_over s end out over =
       over_ends call store over.moment.0 (Over end out s, store) (keeps_storage store (Going (start call)) over.moment.0 ∙ ap (λ (p : Progress). (p, store)) over.moment.1) refl
@@ -93,7 +93,7 @@ pub stops_over : (result : Result (Unit {0}) AllocError) (store : Storage) (s t 
 stops_over (Ok done) store s t stage came running did = λ call over. stop_over call store s t came did (subst (IsBeginningOver call store s) running over)
 stops_over (Err e) store s t stage came running did = tt
 
--- and so does what the storage has at the key
+-- and so does the answer with the content that the storage has at the key
 pub asked_over : (result : Result (Unit {0}) AllocError) (store : Storage) (s t : Machine) (stage came : Stage) (key : List ℕ) (content : Content) → stage ≡ Asked key → content ≡ map.get store key → MeetsStage result came (Leads (answered s (delivered s key content))) s t → OnOk result ((call : Invocation) → IsBeginningOver call store s stage → IsBeginningOver call store t came)
 asked_over (Ok done) store s t stage came key content asked same did = λ call over. answer_over call store s key content same (subst (IsBeginningOver call store s) asked over) t came did
 asked_over (Err e) store s t stage came key content asked same did = tt

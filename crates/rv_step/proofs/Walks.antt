@@ -1,9 +1,9 @@
--- Steps that go on, up to a pc.
+-- Steps after which the call continues, up to a pc.
 use Rattle.std.proofs.Common.{◌≡◌, ℕ, zero, suc, ◌+◌, ◌-◌, ◌<◌, ◌≤◌, Bool, true, false, Option, refl, sym, ap, subst, ◌∙◌, inl, inr, arith, add-one, eq-or-lt_of_le}
 use Rattle.std.proofs.lemmas.Bool.{cases_order}
 use Rattle.rv_step.specs.declared.machine.Machine.{Machine}
 use Rattle.rv_step.specs.Meets.{Reaches}
-use Rattle.rv_step.specs.Run.{RunView, after_one, after_result, after_steps, is_running}
+use Rattle.rv_step.specs.Run.{RunView, after_one, after_steps, is_running, run_after_result}
 use Rattle.rv_step.specs.Step.{Leads, Going, step}
 use Rattle.rv_step.specs.Until.{GoesUntil, is_at, stops_at}
 use Rattle.rv_step.specs.Walks.{Walks}
@@ -20,7 +20,7 @@ pub one_walked : (stop : Option ℕ) (n : ℕ) (s m t : Machine) → Walks stop 
 unfolding Walks
 one_walked stop n s m t before on made = rw add-one (m, before, on, made)
 
--- they are steps that go on
+-- the call continues after each of them
 pub walk_reaches : (stop : Option ℕ) (n : ℕ) (s t : Machine) → Walks stop n s t → Reaches n s t
 unfolding Walks Reaches
 walk_reaches stop zero s t walked = walked
@@ -48,7 +48,7 @@ walk_between stop (suc n) r t running walked k below =
 
 -- ---- steps of a run up to a pc
 
--- steps behind steps
+-- steps after steps
 pub steps_sum : (m n : ℕ) (r : RunView) → after_steps m (after_steps n r) ≡ after_steps (n + m) r
 steps_sum zero n r = let e : n ≡ n + 0 = omega arith in ap (λ (k : ℕ). after_steps k r) e
 steps_sum (suc m) n r =
@@ -60,11 +60,11 @@ pub runs_on : (stop : Option ℕ) (r : RunView) (b : Bool) → is_running r.stag
 runs_on stop r true running on = refl
 runs_on stop r false running on = absurd (let e : true ≡ false = rw running at on in cc)
 
-pub one_step : (r : RunView) → is_running r.stage ≡ true → after_result (step r.machine) r ≡ after_steps 1 r
-one_step r running = let e : after_one r ≡ after_result (step r.machine) r = rw running refl in sym (more 0 r ∙ e)
+pub one_step : (r : RunView) → is_running r.stage ≡ true → run_after_result (step r.machine) r ≡ after_steps 1 r
+one_step r running = let e : after_one r ≡ run_after_result (step r.machine) r = rw running refl in sym (more 0 r ∙ e)
 
 -- one step
-pub one_goes : (stop : Option ℕ) (most : ℕ) (old new : RunView) → 0 < most → is_running old.stage ≡ true → new ≡ after_result (step old.machine) old → GoesUntil stop most 1 old new
+pub one_goes : (stop : Option ℕ) (most : ℕ) (old new : RunView) → 0 < most → is_running old.stage ≡ true → new ≡ run_after_result (step old.machine) old → GoesUntil stop most 1 old new
 one_goes stop most old new some running made = record {
   steps = made ∙ one_step old running;
   some = omega arith;
@@ -72,7 +72,7 @@ one_goes stop most old new some running made = record {
   between = λ n after before. absurd (omega arith);
 }
 
--- steps behind steps that did not lead to a stop
+-- steps after steps that did not lead to a stop
 pub goes_more : (stop : Option ℕ) (most m n : ℕ) (old mid new : RunView) → GoesUntil stop most m old mid → stops_at stop mid ≡ false → GoesUntil stop (most - m) n mid new → GoesUntil stop most (m + n) old new
 goes_more stop most m n old mid new first on next = record {
   steps = next.steps ∙ ap (after_steps n) first.steps ∙ steps_sum n m old;

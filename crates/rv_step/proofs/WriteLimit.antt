@@ -44,7 +44,7 @@ unfoldable StepLeavesFew : StepResult → Type 0
 StepLeavesFew (Leads progress) = LeavesFew progress
 StepLeavesFew (Asks key) = Unit {0}
 
--- one write more that has room
+-- one more write that has room
 one_more : (b : Bool) (n : ℕ) → (b || nat_lt n 256) ≡ true → n ≤ 256 → cond b n (n + 1) ≤ 256
 one_more true n h k = k
 one_more false n h k = grind (arith, nat_tests)
@@ -145,7 +145,7 @@ pub answered_few : (s : Machine) (content : Option (List ℕ)) → HasFew s → 
 unfolding answered
 answered_few s content h = charged_few 200 s (λ t. delivery_result t content) h (λ t k. delivered_few t content k)
 
--- a receipt has at most its machine's writes
+-- the writes of a receipt are at most 256 keys if its machine's are
 pub kept_few : (end : End) (own : WriteMap) → len own ≤ 256 → len (kept_writes end own) ≤ 256
 kept_few Returned own h = h
 kept_few end own h = subst (λ n. n ≤ 256) (sym (len-empty key_cmp ContentChange)) (lit≤ tt)
@@ -164,7 +164,7 @@ start_few : (call : Invocation) → LeavesFew (Going (start call))
 unfolding LeavesFew start
 start_few call = subst (λ n. n ≤ 256) (sym (len-empty key_cmp ContentChange)) (lit≤ tt)
 
--- so has each moment
+-- each moment has writes of at most 256 keys
 pub moments_few : {A : Type 0} (source : Source A) (call : Invocation) (first : A) (n : ℕ) → LeavesFew (moment_from source n (Going (start call), first)).0
 moments_few source call first n = kept source (λ at. LeavesFew at.0)
     (λ s left progress few e. step_few s progress (few_going s few) e)

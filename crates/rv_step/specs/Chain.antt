@@ -1,4 +1,4 @@
--- The run of one call: where its chain of steps ends.
+-- The run of one call: how its chain of steps ends.
 use Rattle.std.specs.Prelude.{◌≡◌, ℕ, suc, ◌-◌, List, [], ◌∷◌, Option, Some, None}
 use Rattle.std.specs.FinMap as map
 use Rattle.rv_ledger.specs.Key.{Storage, WriteMap}
@@ -15,24 +15,24 @@ abbrev pub kept_writes : End → WriteMap → WriteMap
 kept_writes Returned own = own
 kept_writes _ own = map.empty
 
--- the receipt of a call with a gas limit that ended so
+-- the receipt of a call with this gas limit and this end
 abbrev pub receipt_of : ℕ → End → List ℕ → Machine → Receipt
 receipt_of limit end out s = record { end = end; gas = limit - s.gas; pc = s.pc; out = out; regs = s.regs; writes = kept_writes end s.own }
 
--- each step after which a call goes on takes gas, so one step more than the gas is enough
+-- each step after which a call continues takes gas, so one step more than the gas is enough
 abbrev pub enough_steps : Invocation → ℕ
 enough_steps call = suc call.gas
 
--- the receipt of a call that is over, where no reply is left
+-- the receipt of a call that is over, if no reply is left
 abbrev pub receipt_with : ℕ → Progress × List Reply → Option Receipt
 receipt_with limit (Over end out s, []) = Some (receipt_of limit end out s)
 receipt_with limit _ = None
 
--- replies bear a receipt out if this is Some of it: the call ends with it, having used them in order and all of them
+-- replies bear a receipt out if this is Some of it: the call uses all of them in order and ends with that receipt
 abbrev pub borne_out : Invocation → List Reply → Option Receipt
 borne_out call replies = receipt_with call.gas (moment_with call replies (enough_steps call))
 
--- the receipt of a call where it stands; one that goes on would have been stopped there
+-- the receipt of a call at this moment; one that is not over gets the receipt of a call that runs out of gas there
 abbrev pub receipt_at : ℕ → Progress → Receipt
 receipt_at limit (Over end out s) = receipt_of limit end out s
 receipt_at limit (Going s) = receipt_of limit OutOfGas [] s

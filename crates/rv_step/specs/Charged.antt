@@ -4,7 +4,7 @@ use Rattle.rv_ledger.specs.Call.{Invocation}
 use Rattle.rv_step.specs.Step.{Progress}
 use Rattle.rv_step.specs.Moment.{Reply, machine_of, moment_with}
 
--- the gas that is left where a call stands
+-- the gas that a call has left at a moment
 abbrev pub gas_left : Progress → ℕ
 gas_left progress = (machine_of progress).gas
 

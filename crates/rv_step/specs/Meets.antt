@@ -18,8 +18,8 @@ use Rattle.rv_step.specs.declared.stage.Stage.TheVariants.{Running, Asked, Ended
 use Rattle.rv_step.specs.Growth.{leaves_more, instruction_at, may_grow}
 use Rattle.rv_step.specs.Step.{Progress, Going, Over, StepResult, Leads, Asks, ecall_result, step}
 
--- a method did what was wanted. A READ that asks the storage changes nothing. Running out of memory happens only where the
--- call would go on or end with an output of more than 16 bytes, and changes nothing
+-- a method did what was wanted. A READ that asks the storage changes nothing. Running out of memory happens only if the call
+-- would continue or end with an output of more than 16 bytes, and changes nothing
 abbrev pub MeetsResult : Result Stage AllocError → StepResult → Machine → Machine → Type 0
 MeetsResult (Ok Running) want old new = want ≡ Leads (Going new)
 MeetsResult (Ok (Asked key)) want old new = (want ≡ Asks key) × (new ≡ old)
@@ -31,20 +31,20 @@ abbrev pub MeetsStage : Result (Unit {0}) AllocError → Stage → StepResult �
 MeetsStage (Ok done) stage want old new = MeetsResult (Ok stage) want old new
 MeetsStage (Err refused) stage want old new = (stage ≡ Running) × IsTrue (leaves_more want) × (new ≡ old)
 
--- the same for a method that only finds an ECALL, and then has not changed the machine; `instr` is the instruction, if
--- there is one
+-- the same for a method that only finds an ECALL, and then has not changed the machine. `instr` is the instruction, if there is
+-- one
 abbrev pub MeetsInstruction : Result InstructionOutcome AllocError → Option Instr → StepResult → Machine → Machine → Type 0
 MeetsInstruction (Ok outcome.Next) instr want old new = want ≡ Leads (Going new)
 MeetsInstruction (Ok outcome.StorageCall) instr want old new = (instr ≡ Some Ecall) × (want ≡ ecall_result old (ecall_charge old.regs old.rules)) × (new ≡ old)
 MeetsInstruction (Ok (outcome.End end)) instr want old new = want ≡ Leads (Over end [] new)
 MeetsInstruction (Err refused) instr want old new = IsTrue (may_grow instr) × IsTrue (leaves_more want) × (new ≡ old)
 
--- the machine goes on
+-- the machine continues
 abbrev pub is_next : InstructionOutcome → Bool
 is_next outcome.Next = true
 is_next _ = false
 
--- `t` comes after this number of steps from `s`, each of which goes on
+-- `t` comes after this number of steps from `s`, and the call continues after each of them
 unfoldable pub Reaches : ℕ → Machine → Machine → Type 0
 Reaches zero s t = t ≡ s
 Reaches (suc n) s t = (m : Machine) × Reaches n s m × (step m ≡ Leads (Going t))
@@ -57,8 +57,8 @@ pub record MeetsInstructions (result : Result InstructionOutcome AllocError) (ol
   pub reached : Reaches count old last
   pub did : MeetsInstruction result (instruction_at last) (step last) last new
 
--- the same for a method that makes steps up to and including the first after which the call does not go on, or up to and
--- including a storage call: `count` steps came before the last one, which was made at the machine `last`
+-- the same for a method that makes steps. The last one is the first after which the call does not continue, or a storage call.
+-- `count` steps came before the last one, which was made at the machine `last`
 pub record MeetsSteps (result : Result (Unit {0}) AllocError) (stage : Stage) (old new : Machine) : Type 0 where
   pub count : ℕ
   pub last : Machine
@@ -66,18 +66,17 @@ pub record MeetsSteps (result : Result (Unit {0}) AllocError) (stage : Stage) (o
   pub did : MeetsStage result stage (step last) last new
   pub grows : OnErr result (IsTrue (may_grow (instruction_at last)))
 
--- the same for a method that executes an instruction other than an ECALL: None where the machine goes on, or how the
--- call ends
+-- the same for a method that executes an instruction other than an ECALL: None if the machine continues, or how the call ends
 abbrev pub MeetsEffect : Result (Option End) AllocError → Instr → Progress → Machine → Machine → Type 0
 MeetsEffect (Ok None) instr want old new = want ≡ Going new
 MeetsEffect (Ok (Some end)) instr want old new = want ≡ Over end [] new
 MeetsEffect (Err refused) instr want old new = IsTrue (may_grow (Some instr)) × IsTrue (leaves_more (Leads want)) × (new ≡ old)
 
--- the output of a RETURN or a REVERT, or None where a byte of it may not be read
+-- the output of a RETURN or a REVERT, or None if a byte of it may not be read
 abbrev pub output_of : Machine → Option (List ℕ)
 output_of s = if is_readable s.memory (a0 s.regs) (a1 s.regs) then Some (bytes_at s.memory (a0 s.regs) (a1 s.regs)) else None
 
--- a method found that output. Running out of memory happens only where it has more than 16 bytes
+-- a method found that output. Running out of memory happens only if the output has more than 16 bytes
 abbrev pub MeetsOutput : Result (Option (List ℕ)) AllocError → Machine → Type 0
 MeetsOutput (Ok out) s = out ≡ output_of s
 MeetsOutput (Err refused) s = IsTrue (is_readable s.memory (a0 s.regs) (a1 s.regs)) × (16 < length (bytes_at s.memory (a0 s.regs) (a1 s.regs)))
@@ -87,7 +86,7 @@ abbrev pub is_asked : Stage → Bool
 is_asked (Asked key) = true
 is_asked _ = false
 
--- what a refused change of memory means: a trap, or an error where memory ran out
+-- what a refused change of memory means: a trap, or an error if memory ran out
 abbrev pub refusal_of : Fault → Result End AllocError
 refusal_of fault.Misaligned = Ok (Trapped trap.Misaligned)
 refusal_of fault.MemoryFault = Ok (Trapped trap.MemoryFault)

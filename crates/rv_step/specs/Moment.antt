@@ -1,4 +1,4 @@
--- Where a call stands after a number of steps.
+-- The state of a call after a number of steps.
 use Rattle.std.specs.Prelude.{ℕ, zero, suc, Bool, true, false, if◌then◌else◌, List, [], ◌∷◌, length, bytes_eq, Option, Some, None}
 use Rattle.std.specs.FinMap as map
 use Rattle.rv_isa.specs.Registers.{zeros, written}
@@ -29,15 +29,15 @@ start call = record {
 abbrev pub Reply : Type 0
 Reply = List ℕ × Option (List ℕ)
 
--- where answers come from: of a key its content, and where the next answer comes from; or None, and then the call waits
+-- a source of answers: for a key it gives the key's content and the source of the next answer; or None, and then the call waits
 abbrev pub Source : Type 0 → Type 0
 Source A = A → List ℕ → Option (Content × A)
 
--- a storage answers each key
+-- a storage answers every key
 abbrev pub from_storage : Source Storage
 from_storage store key = Some (map.get store key, store)
 
--- replies answer in order, each its own key only
+-- replies answer in order, each only its own key
 abbrev pub from_replies : Source (List Reply)
 from_replies [] key = None
 from_replies (reply ∷ replies) key = if bytes_eq reply.0 key then Some (reply.1, replies) else None
@@ -61,15 +61,15 @@ unfoldable pub moment_from : {A : Type 0} → Source A → ℕ → Progress × A
 moment_from source zero at = at
 moment_from source (suc n) at = advance source (moment_from source n at)
 
--- where a call stands after n steps from its start, with these replies, and those of them that are left
+-- the state of a call after n steps from its start with these replies, and the replies that are left
 abbrev pub moment_with : Invocation → List Reply → ℕ → Progress × List Reply
 moment_with call replies n = moment_from from_replies n (Going (start call), replies)
 
--- where it stands after n steps over a storage
+-- its state after n steps over a storage
 abbrev pub moment_over : Invocation → Storage → ℕ → Progress
 moment_over call store n = (moment_from from_storage n (Going (start call), store)).0
 
--- the machine where a call stands
+-- the machine of a call in this state
 abbrev pub machine_of : Progress → Machine
 machine_of (Going s) = s
 machine_of (Over end out s) = s

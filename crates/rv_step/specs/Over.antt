@@ -8,7 +8,7 @@ use Rattle.rv_step.specs.declared.stage.Stage.TheVariants.{Ended}
 use Rattle.rv_step.specs.Moment.{moment_over}
 use Rattle.rv_step.specs.Run.{IsStage, progress_of}
 
--- the machine and the stage stand at a moment of the call over the storage
+-- the machine and the stage are those of a moment of the call over the storage
 pub record IsBeginningOver (call : Invocation) (store : Storage) (s : Machine) (stage : Stage) : Type 0 where
   pub stands : IsStage call.gas s stage
   pub moment : (n : ℕ) × (moment_over call store n ≡ progress_of s stage)

@@ -10,11 +10,11 @@ use Rattle.rv_step.specs.declared.page_loop.PageEnd.TheVariants.{Left, Ecall, St
 use Rattle.rv_step.specs.Growth.{instruction_at}
 use Rattle.rv_step.specs.Step.{Leads, Going, decode_result}
 
--- a machine that has its pc and its gas in a position, in the page from `first` on
+-- a machine with the pc and the gas of a position, in the page from `first` on
 abbrev pub machine_at : Machine → ℕ → Position → Machine
 machine_at s first position = record s { pc = (first + position.offset) % 2 ^ 32; gas = position.gas }
 
--- an instruction leads on from s to t, and changes no page of code and no alignment of the pc
+-- an instruction leads from s to t and the call continues; it changes no page of code and no alignment of the pc
 pub record GoesOn (instr : Option Instr) (s t : Machine) : Type 0 where
   pub made : decode_result s instr ≡ Leads (Going t)
   pub stays : (first : ℕ) (code : List ℕ) → IsCode s.memory first code → IsCode t.memory first code
@@ -25,7 +25,7 @@ abbrev pub MeetsTry : Bool → Option Instr → Machine → Machine → Type 0
 MeetsTry true instr s t = GoesOn instr s t
 MeetsTry false instr s t = t ≡ s
 
--- how the loop over a page ends, from s at t: it leaves the page after a step, which takes gas, or t stands at an ECALL
+-- how the loop over a page ends, from s at t: it leaves the page after a step, which takes gas, or t is at an ECALL
 abbrev pub MeetsPageEnd : PageEnd → Machine → Machine → Type 0
 MeetsPageEnd Left s t = t.gas < s.gas
 MeetsPageEnd Ecall s t = instruction_at t ≡ Some instruction.Ecall

@@ -14,7 +14,7 @@ use Rattle.rv_step.specs.Step.{Progress, Going, Over, StepResult, Leads, Asks, s
 use Rattle.rv_step.specs.Moment.{from_replies, moment_from, moment_with, start}
 use Rattle.rv_step.specs.Chain.{receipt_of}
 
--- what callers see of a run: its call, where it stands, and the answers that it was given
+-- what callers see of a run: its call, its machine and stage, and the answers that it got
 pub record RunView : Type 0 where
   pub call : Invocation
   pub machine : Machine
@@ -24,15 +24,15 @@ pub record RunView : Type 0 where
 abbrev pub run_at_start : Invocation → RunView
 run_at_start call = record { call = call; machine = start call; answers = []; stage = Running }
 
--- a run that stands there
+-- a run with this state of its call
 abbrev pub standing_at : Progress → RunView → RunView
 standing_at (Going t) r = record r { machine = t; stage = Running }
 standing_at (Over end out t) r = record r { machine = t; stage = Ended end out }
 
 -- a run after a step with this result
-abbrev pub after_result : StepResult → RunView → RunView
-after_result (Leads progress) r = standing_at progress r
-after_result (Asks key) r = record r { stage = Asked key }
+abbrev pub run_after_result : StepResult → RunView → RunView
+run_after_result (Leads progress) r = standing_at progress r
+run_after_result (Asks key) r = record r { stage = Asked key }
 
 abbrev pub is_running : Stage → Bool
 is_running Running = true
@@ -40,7 +40,7 @@ is_running _ = false
 
 -- a run after a step, if it can make one
 abbrev pub after_one : RunView → RunView
-after_one r = if is_running r.stage then after_result (step r.machine) r else r
+after_one r = if is_running r.stage then run_after_result (step r.machine) r else r
 
 -- a run after a number of steps without an answer, if it can make one; the last of them may ask
 abbrev pub after_steps : ℕ → RunView → RunView
@@ -71,12 +71,12 @@ abbrev pub IsStage : ℕ → Machine → Stage → Type 0
 IsStage limit s (Asked key) = (s.gas ≤ limit) × (step s ≡ Asks key)
 IsStage limit s _ = s.gas ≤ limit
 
--- where a call stands, by its machine and the stage of its run
+-- the state of a call, by its machine and the stage of its run
 abbrev pub progress_of : Machine → Stage → Progress
 progress_of s (Ended end out) = Over end out s
 progress_of s _ = Going s
 
--- the run stands at a moment of its call with its answers, all of which were used
+-- the run is at a moment of its call with its answers, all of which were used
 pub record IsBeginning (r : RunView) : Type 0 where
   pub stands : IsStage r.call.gas r.machine r.stage
   pub moment : (n : ℕ) × (moment_with r.call (replies_of r.answers) n ≡ (progress_of r.machine r.stage, []))

@@ -28,13 +28,13 @@ use Rattle.ecalls.specs.declared.request_kind.StorageRequest.{StorageRequest}
 use Rattle.ecalls.specs.declared.request_kind.StorageRequest.TheVariants as request
 use Rattle.rv_step.specs.declared.machine.Machine.{Machine}
 
--- where a call stands: it goes on from a machine, or it is over, with an output, and its last step left this machine
+-- the state of a call: it continues from a machine, or it is over, with an output, and its last step left this machine
 pub data Progress : Type 0 where
   Going : Machine → Progress
   Over : End → List ℕ → Machine → Progress
 
--- what a step comes to: it leads to where the call stands then; or it asks the storage for a key, and the machine stands
--- before the READ, which is not charged yet
+-- the result of a step: it leads to the next state of the call, or it asks the storage for a key. In the second case the
+-- machine is before the READ, which is not charged yet
 pub data StepResult : Type 0 where
   Leads : Progress → StepResult
   Asks : List ℕ → StepResult
@@ -49,7 +49,7 @@ trap_of Misaligned = trap.Misaligned
 trap_of MemoryFault = trap.MemoryFault
 trap_of FetchFault = trap.FetchFault
 
--- where less gas is left than the charge, all of it is spent and nothing is done
+-- if less gas is left than the charge, all of it is spent and nothing is done
 abbrev pub out_of_gas : Machine → Progress
 out_of_gas s = Over OutOfGas [] (record s { gas = 0 })
 
@@ -57,7 +57,7 @@ out_of_gas s = Over OutOfGas [] (record s { gas = 0 })
 abbrev pub charged : ℕ → Machine → (Machine → Progress) → Progress
 charged cost s act = if nat_le cost s.gas then act (record s { gas = s.gas - cost }) else out_of_gas s
 
--- the machine goes on to the next instruction
+-- the machine continues with the next instruction
 abbrev pub next_instruction : Machine → Progress
 next_instruction s = Going (record s { pc = wrapped (pos s.pc +ℤ pos 4) })
 
@@ -91,23 +91,23 @@ instruction_result instr s = compute_result s (effect_of instr s.regs s.pc)
 abbrev pub value_result : Machine → List ℕ → Progress
 value_result s value = memory_result s (written s.regs 10 (length value)) (copied s.memory (a1 s.regs) value)
 
--- a0 says how a READ went: 2^32 - 1 for absence, 2^32 - 2 for a value longer than the buffer, else the length, and only
--- then the late charge is taken and the value is copied
+-- a0 says how a READ went: 2^32 - 1 for absence, 2^32 - 2 for a value longer than the buffer, otherwise the length. Only in the
+-- last case the late charge is taken and the value is copied
 unfoldable pub delivery_result : Machine → Option (List ℕ) → Progress
 delivery_result s None = next_instruction (record s { regs = written s.regs 10 0xffff_ffff })
 delivery_result s (Some value) =
     if nat_lt (a2 s.regs) (length value) then next_instruction (record s { regs = written s.regs 10 0xffff_fffe })
     else charged (late_charge s.rules (length value)) s (λ t. value_result t value)
 
--- a READ of a key that the call has written or removed is answered from its own writes; of a key that it has only added to
--- the storage is asked
+-- a READ of a key that the call has written or removed is answered from its own writes. For any other key the storage is asked,
+-- also if the call has only added to it
 abbrev pub read_result : Machine → List ℕ → Option ContentChange → StepResult
 read_result s key (Some (change.Value value)) = Leads (delivery_result s (Some value))
 read_result s key (Some change.Gone) = Leads (delivery_result s None)
 read_result s key (Some (change.Sum amount)) = Asks key
 read_result s key None = Asks key
 
--- what a READ that asked is delivered: the storage's answer, with the call's own sum added where it has added to the key
+-- what a READ that asked gets: the storage's answer, with the call's own sum added if it has added to the key
 abbrev pub with_own_sum : Option ContentChange → Content → Content
 with_own_sum (Some (change.Sum amount)) content = Some (add content amount)
 with_own_sum own content = content
@@ -115,15 +115,15 @@ with_own_sum own content = content
 abbrev pub delivered : Machine → List ℕ → Content → Content
 delivered s key content = with_own_sum (map.get s.own key) content
 
--- a call's own change of a key after it adds an amount: on an own value or removal there is a value of eight bytes; without
--- one the key has a sum
+-- a call's own change of a key after it adds an amount: a value of eight bytes if the call has written or removed the key,
+-- otherwise a sum
 abbrev pub change_after_add : Option ContentChange → ℕ → ContentChange
 change_after_add None amount = change.Sum amount
 change_after_add (Some (change.Sum own)) amount = change.Sum (wrapping_sum own amount)
 change_after_add (Some (change.Value value)) amount = change.Value (add (Some value) amount)
 change_after_add (Some change.Gone) amount = change.Value (add None amount)
 
--- a change of a key; TooManyWrites where the call has written 256 other keys
+-- a change of a key; TooManyWrites if the call has written 256 other keys
 unfoldable pub write_result : Machine → Write → Progress
 write_result s write = if has_room s.own write.key then next_instruction (record s { own = map.insert s.own write.key write.change }) else trapped trap.TooManyWrites s
 
@@ -155,15 +155,14 @@ abbrev pub fetch_result : Machine → Result ℕ AccessFault → StepResult
 fetch_result s (Ok word) = decode_result s (decoded word)
 fetch_result s (Err cause) = Leads (trapped (trap_of cause) s)
 
--- one step
 unfoldable pub step : Machine → StepResult
 step s = fetch_result s (loaded 4 access.Execute s.memory s.pc)
 
--- the step that asked the storage, with what it is delivered: a value, or None for absence
+-- the step that asked the storage, with the content that it gets: a value, or None for absence
 unfoldable pub answered : Machine → Option (List ℕ) → Progress
 answered s content = charged (charge_of call.Read s.regs) s (λ t. delivery_result t content)
 
--- the gas falls where the call goes on, and does not rise where it ends
+-- the gas falls if the call continues, and does not rise if it ends
 abbrev pub TakesGas : Machine → Progress → Type 0
 TakesGas s (Going t) = t.gas < s.gas
 TakesGas s (Over end out t) = t.gas ≤ s.gas

@@ -7,7 +7,7 @@ abbrev pub is_at : Option ℕ → ℕ → Bool
 is_at (Some stop) pc = pc == stop
 is_at None pc = false
 
--- a run stops where it can make no step, or its pc is the one to stop at
+-- a run stops if it can make no step, or if its pc is the one to stop at
 abbrev pub stops_at : Option ℕ → RunView → Bool
 stops_at stop r = not (is_running r.stage) || is_at stop r.machine.pc
 

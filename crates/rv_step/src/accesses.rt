@@ -8,8 +8,8 @@ ghost use Rattle.rv_mem.specs.declared.access.Access.TheVariants as access;
 use rv_isa::{LoadKind, StoreKind};
 use rv_mem::{Fault, Memory};
 
-/// The number that a load reads, before it is extended to 32 bits. Refused as Misaligned where the
-/// address is not a multiple of the width, and else as MemoryFault where a byte may not be read.
+/// The number that a load reads, before it is extended to 32 bits. Refused as Misaligned if the address is not a multiple of
+/// the width, otherwise as MemoryFault if a byte may not be read.
 #[inline(always)]
 pub fn number_at(memory: &Memory, kind: LoadKind, address: u32) -> Result<u32, Fault>
     ensures value { result ≡ as_answer (loaded (width_of kind) access.Read memory.now address) }
@@ -22,8 +22,8 @@ pub fn number_at(memory: &Memory, kind: LoadKind, address: u32) -> Result<u32, F
     }
 }
 
-/// Stores the low bytes of a number. Refused as Misaligned, as MemoryFault where a byte may not be
-/// written, or as Memory where memory ran out; a refusal changes nothing.
+/// Stores the low bytes of a number. Refused as Misaligned, as MemoryFault if a byte may not be written, or as Memory if memory
+/// ran out. A refusal changes nothing.
 #[inline(always)]
 pub fn store_number(
     memory: &mut Memory,

@@ -3,13 +3,13 @@
 use read_set::Origin;
 use rv_ledger::{Key, StoredValue};
 
-/// An answer that a run was given.
+/// An answer that a run got.
 #[derive(Debug, Drop)]
 pub struct StorageAnswer {
     /// The key that it asked for.
     pub key: Key,
-    /// The key's value, or None where it is absent.
+    /// The key's value, or None if it is absent.
     pub value: Option<StoredValue>,
-    /// Where the answer came from.
+    /// The source of the answer.
     pub origin: Origin,
 }

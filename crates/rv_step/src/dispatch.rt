@@ -1,8 +1,8 @@
-//! The steps of words in a page of code: each word leads to a branch that names its instruction (known_words.rt), so that
-//! the compiler knows it there. The branches are comparisons. An ordering test stands between two tests of equality, since
-//! the compiler makes a table of tests of equality alone, and a jump through a table may cost more than three branches. The
-//! most frequent instruction of an opcode is tested first. `Loop` says which loop over a page makes the steps: so each loop has
-//! its own copy of these functions, which the compiler builds into it, as it does only where a function has one caller.
+//! The steps of words in a page of code. Each word leads to a branch that names its instruction (known_words.rt), so that the
+//! compiler knows the instruction there. The branches are comparisons. An ordering test comes between two tests of equality.
+//! For tests of equality alone the compiler makes a table, and a jump through a table may cost more than three branches. The
+//! most frequent instruction of an opcode is tested first. `Loop` says which loop over a page makes the steps. So each loop has
+//! its own copy of these functions, and the compiler inlines it: it does that only if a function has one caller.
 
 ghost use Rattle.std.specs.Prelude.{◌≡◌, ◌≤◌, ◌<◌, ◌+◌, ◌*◌, ◌%◌, ◌^◌};
 ghost use Rattle.rv_isa.specs.Decoded.{decoded};
@@ -19,8 +19,8 @@ use crate::page_loop::Position;
 use rv_isa::{Condition, ImmediateOperation, LoadKind, Operation, Shift, StoreKind, opcode};
 
 impl Machine {
-    /// Makes the step of a word, if it goes on to another instruction. False where it does not, and where the word is one
-    /// that this leaves out: FENCE, ECALL, EBREAK, an illegal word. Then nothing changes.
+    /// Makes the step of a word, if it leads to another instruction. Returns false if it does not, and if the word is one that
+    /// this function leaves out: FENCE, ECALL, EBREAK, an illegal word. Then nothing changes.
     #[inline(always)]
     pub(crate) fn step_word<Loop>(&mut self, word: u32, first: u32, position: &mut Position) -> bool
         ensures { MeetsTry result (decoded word) (machine_at self.old first position.old) (machine_at self.new first position.new) }

@@ -8,7 +8,7 @@ ghost use Rattle.rv_step.specs.Replies.{replies_of};
 use crate::answer::StorageAnswer;
 use rv_ledger::{Call, Receipt};
 
-/// A run that has ended. Its receipt is proved to be the one that its call comes to with these answers.
+/// A run that has ended. Its receipt is proved to be the one that its call reaches with these answers.
 #[derive(Drop)]
 pub struct EndedRun {
     /// The call.

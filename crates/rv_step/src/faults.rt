@@ -9,7 +9,7 @@ use rv_ledger::{End, Trap};
 use rv_mem::Fault;
 use std::alloc::AllocError;
 
-/// The trap that the refusal of an access causes. `refusal` hands Memory on, and does not ask for its trap.
+/// The trap that the refusal of an access causes. `refusal` returns Memory as an error, and does not ask for its trap.
 pub(crate) fn trap_of(fault: Fault) -> Trap
     ensures { (cause : AccessFault) → fault ≡ as_fault cause → result ≡ trap_of cause }
 {
@@ -20,8 +20,8 @@ pub(crate) fn trap_of(fault: Fault) -> Trap
     }
 }
 
-/// What a refused change of memory means for a call: it ends with a trap. Running out of memory is not a
-/// trap, and is handed on as an error.
+/// What a refused change of memory means for a call: it ends with a trap. Running out of memory is not a trap, and is returned
+/// as an error.
 pub(crate) fn refusal(fault: Fault) -> Result<End, AllocError>
     ensures { result ≡ refusal_of fault }
 {

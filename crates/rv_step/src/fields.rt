@@ -1,4 +1,4 @@
-//! The fields of a word that tell its instruction, in their places, and the numbers that they have there.
+//! The fields of a word that determine its instruction, in their places, and the numbers that they have there.
 
 ghost use Rattle.std.specs.Prelude.{◌≡◌, ◌+◌, ◌*◌, ◌%◌, ◌^◌};
 ghost use Rattle.rv_isa.specs.Decoding.{slots_of};

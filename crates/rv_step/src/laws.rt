@@ -14,7 +14,7 @@ ghost use Rattle.rv_step.specs.Moment.{Reply, is_over, moment_over};
 ghost use Rattle.rv_step.specs.Step.{Progress, Leads, TakesGas, answered, charged, ecall_result, instruction_result, is_ecall, step};
 ghost use Rattle.rv_step.specs.declared.machine.Machine.{Machine};
 
-/// Over each storage a call comes to its end, after at most one step more than it has gas.
+/// Over each storage a call ends after at most one step more than it has gas.
 pub fn call_ends()
     ensures { (call : Invocation) (store : Storage) → is_over (moment_over call store (enough_steps call)) ≡ true }
 {}
@@ -24,8 +24,8 @@ pub fn one_receipt()
     ensures { (call : Invocation) (store : Storage) → HasOneReceipt call store }
 {}
 
-/// However many steps a call makes and whatever it is answered, at most as many of them take gas as its gas limit
-/// says. Each one that is charged takes gas: an instruction, a storage call, and the answer to a READ that asked.
+/// However many steps a call makes and whatever answers it gets, the steps that take gas are at most as many as its gas limit.
+/// Each one that is charged takes gas: an instruction, a storage call, and the answer to a READ that asked.
 pub fn charged_steps_within_gas()
     ensures within { (call : Invocation) (replies : List Reply) (n : ℕ) → charged_steps call replies n ≤ call.gas }
     ensures instruction { (s : Machine) (instr : Instr) → is_ecall instr ≡ false → cost_of instr ≤ s.gas
@@ -36,8 +36,8 @@ pub fn charged_steps_within_gas()
         → gas_left (answered s content) < s.gas }
 {}
 
-/// Each step and each answer after which the call goes on takes gas, and no end gives any back. Each
-/// instruction has a charge above 0, and so has each storage call.
+/// Each step and each answer after which the call continues takes gas, and no end returns any. Each instruction has a charge
+/// above 0, and so has each storage call.
 pub fn each_step_takes_gas()
     ensures step { (s : Machine) (progress : Progress) → step s ≡ Leads progress → TakesGas s progress }
     ensures answer { (s : Machine) (content : Option (List ℕ)) → TakesGas s (answered s content) }

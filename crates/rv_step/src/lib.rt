@@ -1,5 +1,4 @@
-//! The run of one call: an in-order RV32IM machine with storage calls. It stops where it needs an
-//! answer from the storage.
+//! The run of one call: an in-order RV32IM machine with storage calls. It stops when it needs an answer from the storage.
 #![tactic(auto)]
 
 mod accesses;

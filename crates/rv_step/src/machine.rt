@@ -24,7 +24,8 @@ use rv_ledger::{Call, End, Rules, Writes};
 use rv_mem::Memory;
 use std::alloc::{AllocError, Global};
 
-/// The machine of one call between two instructions. What each instruction needs stands first: its code is shorter then.
+/// The machine of one call between two instructions. The fields that each instruction needs come first: its code is shorter
+/// then.
 #[derive(Drop)]
 pub struct Machine {
     /// The address of the next instruction.
@@ -47,7 +48,7 @@ impl Machine {
     ghost use Rattle.rv_step.specs.Growth.{instruction_at};
     ghost use Rattle.rv_step.specs.Meets.{MeetsEffect, MeetsInstruction, MeetsInstructions, is_next};
 
-    /// The machine of a call before its first instruction; refused where memory ran out.
+    /// The machine of a call before its first instruction; refused if memory ran out.
     #[tactic(auto, unfolding(crate::specs::Moment::start))]
     pub(crate) fn start(alloc: Global, call: &Call) -> Result<Machine, AllocError>
         ensures { IfOk result (λ s. s ≡ start call.now) }
@@ -62,8 +63,8 @@ impl Machine {
         })
     }
 
-    /// Makes it the machine of another call before its first instruction, in its own place. Refused where memory ran out;
-    /// then it is to be dropped or begun again.
+    /// Makes it the machine of another call before its first instruction, in its own place. Refused if memory ran out; then it
+    /// must be dropped or begun again.
     #[tactic(auto, unfolding(crate::specs::Moment::start))]
     pub(crate) fn begin(&mut self, call: &Call) -> Result<(), AllocError>
         ensures { OnOk result (self.new ≡ start call.now) }
@@ -77,9 +78,9 @@ impl Machine {
         Ok(())
     }
 
-    /// Executes instructions up to and including the first one after which the machine does not go on. An
-    /// ECALL is only found: the machine stops before it. Refused where memory ran out; then the machine
-    /// stands before the instruction that needed memory. `program` has the pages of the machine's program.
+    /// Executes instructions up to and including the first one after which the machine does not continue. An ECALL is only
+    /// found: the machine stops before it. Refused if memory ran out; then the machine is before the instruction that needed
+    /// memory. `program` has the pages of the machine's program.
     pub(crate) fn execute_until_stop(
         &mut self,
         program: &BasePages,
@@ -100,8 +101,8 @@ impl Machine {
         }
     }
 
-    /// Makes one step: fetch, decode, charge, act. An ECALL is only found, and nothing changes. Refused
-    /// where memory ran out, and then nothing changes.
+    /// Makes one step: fetch, decode, charge, act. An ECALL is only found, and nothing changes. Refused if memory ran out, and
+    /// then nothing changes.
     #[tactic(auto, unfolding(crate::specs::Step::step))]
     pub(crate) fn execute_instruction(&mut self) -> Result<InstructionOutcome, AllocError>
         ensures { MeetsInstruction result (instruction_at self.old) (step self.old) self.old self.new }
@@ -112,7 +113,7 @@ impl Machine {
         }
     }
 
-    /// Ends the call out of gas: all that is left is spent.
+    /// Ends the call out of gas: all the gas that is left is spent.
     pub(crate) fn run_out(&mut self) -> End
         ensures end { result ≡ OutOfGas }
         ensures spent { self.new ≡ record self.old { gas = 0 } }
@@ -121,8 +122,8 @@ impl Machine {
         End::OutOfGas
     }
 
-    /// Charges an instruction and executes it. The call ends out of gas where less is left than the charge.
-    /// None stands for an illegal word, which traps and costs nothing. An ECALL is only found.
+    /// Charges an instruction and executes it. The call ends out of gas if less is left than the charge. None stands for an
+    /// illegal word, which traps and costs nothing. An ECALL is only found.
     #[inline(always)]
     fn execute_decoded(&mut self, instr: Option<Instr>) -> Result<InstructionOutcome, AllocError>
         ensures { MeetsInstruction result instr (decode_result self.old instr) self.old self.new }
@@ -147,8 +148,8 @@ impl Machine {
         }
     }
 
-    /// Executes an instruction that has been charged and is not an ECALL. None where the machine goes on,
-    /// or how the call ends.
+    /// Executes an instruction that has been charged and is not an ECALL. Returns None if the machine continues, or how the
+    /// call ends.
     #[tactic(auto, unfolding(crate::specs::Step::instruction_result))]
     #[inline(always)]
     fn execute_charged(&mut self, instr: &Instr) -> Result<Option<End>, AllocError>
@@ -173,8 +174,8 @@ impl Machine {
         }
     }
 
-    /// Executes an instruction that changes only registers and the pc; traps Misaligned where it jumps or
-    /// branches to an address that is not aligned.
+    /// Executes an instruction that changes only registers and the pc; traps Misaligned if it jumps or branches to an address
+    /// that is not aligned.
     #[inline(always)]
     fn compute(&mut self, instr: &Instr) -> Option<End>
         requires { IsTrue (is_plain instr.now) }
@@ -205,7 +206,7 @@ impl Machine {
         }
     }
 
-    /// Executes a store; a fault of memory traps. Refused where memory ran out, and then nothing changes.
+    /// Executes a store; a fault of memory traps. Refused if memory ran out, and then nothing changes.
     #[inline(always)]
     fn store(
         &mut self,
@@ -227,7 +228,7 @@ impl Machine {
         }
     }
 
-    /// Goes on to the next instruction.
+    /// Moves the pc to the next instruction.
     #[inline(always)]
     pub(crate) fn advance_pc(&mut self)
         ensures { next_instruction self.old ≡ Going self.new }

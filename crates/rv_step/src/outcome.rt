@@ -1,4 +1,4 @@
-//! What one instruction comes to.
+//! The outcome of one instruction.
 
 ghost use Rattle.std.specs.Prelude.{◌≡◌};
 ghost use Rattle.rv_step.specs.Step.{is_ecall};
@@ -6,13 +6,13 @@ ghost use Rattle.rv_step.specs.Step.{is_ecall};
 use rv_isa::Instr;
 use rv_ledger::End;
 
-/// What one instruction comes to. An ECALL is only found, and its work is left to be done. The type is
-/// small, since every instruction returns one.
+/// The outcome of one instruction. An ECALL is only found; its work is not done yet. The type is small, since every instruction
+/// returns one.
 #[derive(Clone, Copy, Debug, PartialEq, Eq)]
 pub enum InstructionOutcome {
-    /// The machine goes on.
+    /// The machine continues.
     Next,
-    /// The machine stands at an ECALL.
+    /// The machine is at an ECALL.
     StorageCall,
     /// The call ends, without an output.
     End(End),

@@ -15,8 +15,8 @@ use elf32::BasePages;
 use rv_ledger::{Call, Contents, LentValue, Receipt};
 use std::alloc::{AllocError, Global};
 
-/// The receipt of a call that is run over a storage. It takes no room for the storage's answers. The call's machine
-/// begins in the place of an earlier call's, and leaves it to the next. Refused where memory ran out.
+/// The receipt of a call that is run over a storage. It takes no room for the storage's answers. The call's machine begins in
+/// the place of an earlier call's, and leaves it to the next. Refused if memory ran out.
 pub fn receipt_over<S: Contents>(
     alloc: Global,
     spare: &mut SpareMachine,
@@ -41,9 +41,8 @@ pub fn receipt_over<S: Contents>(
     }
 }
 
-/// Goes on with a call that has not ended: gives it what the storage has at the key that it asks for, or else
-/// makes steps up to the next ECALL or the end. Refused where memory ran out. `program` has the pages of the call's
-/// program.
+/// Continues a call that has not ended. If the call asks for a key, it gets what the storage has there; otherwise it makes
+/// steps up to the next ECALL or the end. Refused if memory ran out. `program` has the pages of the call's program.
 fn go_on_over<S: Contents>(
     machine: &mut Machine,
     program: &BasePages,

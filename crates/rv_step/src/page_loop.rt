@@ -1,5 +1,5 @@
-//! The loop over the instructions of one page of code. It keeps the pc and the gas in locals, and makes the steps that
-//! are frequent. What is rare leaves it: an ECALL, a trap, the end of the gas, memory that ran out.
+//! The loop over the instructions of one page of code. It keeps the pc and the gas in locals, and makes the steps that are
+//! frequent. Rare cases leave the loop: an ECALL, a trap, the end of the gas, memory that ran out.
 
 ghost use Rattle.std.specs.Prelude.{◌≡◌, ◌≤◌, ◌<◌, ◌+◌, ◌-◌, ◌*◌, ◌%◌, ◌^◌, ℕ, IsTrue, Some};
 ghost use Rattle.rv_alu.specs.Effects.{is_plain};
@@ -25,11 +25,11 @@ use std::alloc::AllocError;
 /// The number of bytes of a page.
 pub(crate) const PAGE: u64 = PAGE_SIZE as u64;
 
-/// Where a machine stands in a page of code, and the gas that it has left there.
+/// The position of a machine in a page of code, and the gas that it has left there.
 #[derive(Clone, Copy)]
 pub struct Position {
-    /// The distance of the pc from the first address of the page, modulo 2^32. It has 64 bits since the compiler
-    /// widens it else at each fetch.
+    /// The distance of the pc from the first address of the page, modulo 2^32. It has 64 bits, since otherwise the compiler
+    /// widens it at each fetch.
     pub offset: u64,
     /// The gas that is left.
     pub gas: u32,
@@ -38,18 +38,18 @@ pub struct Position {
 /// How the loop over a page ends.
 #[derive(Clone, Copy)]
 pub enum PageEnd {
-    /// The machine has made a step, and stands in another page.
+    /// The machine has made a step, and is in another page.
     Left,
-    /// It stands at an ECALL.
+    /// The machine is at an ECALL.
     Ecall,
-    /// It stands at an instruction that is not made here.
+    /// The machine is at an instruction that this loop does not execute.
     Stopped,
 }
 
-/// The loop up to the end of a page, to say for which loop a step is.
+/// The type of the loop up to the end of a page, by which a step says for which loop it is.
 pub(crate) struct ToEnd;
 
-/// The loop up to a pc or a number of steps (page_walk.rt), to say the same.
+/// The type of the loop up to a pc or a number of steps (page_walk.rt), for the same use.
 pub(crate) struct ToStop;
 
 impl Position {
@@ -63,8 +63,8 @@ impl Position {
 }
 
 impl Machine {
-    /// Makes the step of an instruction that changes only registers and the pc. False where its target is misaligned
-    /// or less gas is left than it costs; then nothing changes.
+    /// Makes the step of an instruction that changes only registers and the pc. Returns false if its target is misaligned or
+    /// less gas is left than it costs; then nothing changes.
     #[inline(always)]
     pub(crate) fn try_plain(&mut self, instr: &Instr, first: u32, position: &mut Position) -> bool
         requires { IsTrue (is_plain instr.now) }
@@ -84,7 +84,7 @@ impl Machine {
         }
     }
 
-    /// Makes the step of a load. False where memory refuses it or less gas is left than it costs; then nothing changes.
+    /// Makes the step of a load. Returns false if memory refuses it or less gas is left than it costs; then nothing changes.
     #[inline(always)]
     pub(crate) fn try_load(
         &mut self,
@@ -117,7 +117,7 @@ impl Machine {
         }
     }
 
-    /// Makes the step of a store. False where memory refuses it or runs out, or less gas is left than it costs; then
+    /// Makes the step of a store. Returns false if memory refuses it or runs out, or less gas is left than it costs; then
     /// nothing changes.
     #[inline(always)]
     pub(crate) fn try_store(
@@ -154,8 +154,8 @@ impl Machine {
 }
 
 impl Machine {
-    /// Makes steps in the page of the pc, a page of code, up to the first that leaves the page or is not made here. It is a
-    /// function of its own, since its loop runs faster without the calls of the machine's other loop.
+    /// Makes steps in the page of the pc, a page of code, up to the first that leaves the page or that this loop does not make.
+    /// It is a function of its own, since its loop runs faster without the calls of the machine's other loop.
     #[inline(never)]
     fn execute_in_page(&mut self, code: &Page, first: u32) -> PageEnd
         requires code { IsCode self.old.memory first code.now }
@@ -183,7 +183,7 @@ impl Machine {
         PageEnd::Left
     }
 
-    /// Puts the machine where a position is in the page of this first address.
+    /// Sets the pc and the gas of the machine from a position in the page of this first address.
     #[inline(always)]
     pub(crate) fn stand_at(&mut self, first: u32, position: Position)
         ensures { self.new ≡ machine_at self.old first position }
@@ -192,8 +192,8 @@ impl Machine {
         self.gas = Meter::new(position.gas);
     }
 
-    /// Makes steps in the pages of code of the program, from page to page, up to the first that is not made there. It says
-    /// whether the machine stands at an ECALL then.
+    /// Makes steps in the pages of code of the program, from page to page, up to the first that is not made there. Returns true
+    /// only if the machine is at an ECALL then.
     fn execute_in_code(&mut self, program: &BasePages) -> bool
         requires { HasCode self.old.memory program.now }
         ensures reached { (n : ℕ) × Reaches n self.old self.new }
@@ -213,8 +213,8 @@ impl Machine {
         false
     }
 
-    /// Makes steps in the pages of code of the program, and then one more if the machine does not stand at an ECALL. Refused
-    /// where memory ran out; then the machine stands before the instruction that needed memory.
+    /// Makes steps in the pages of code of the program, and then one more unless they stopped at an ECALL. Refused if memory
+    /// ran out; then the machine is before the instruction that needed memory.
     pub(crate) fn execute_next(
         &mut self,
         program: &BasePages,

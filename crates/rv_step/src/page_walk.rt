@@ -1,5 +1,5 @@
-//! The loop over the instructions of one page of code for a run that stops at a pc or after a number of steps. It stands
-//! beside the loop of page_loop.rt, which makes neither test.
+//! The loop over the instructions of one page of code for a run that stops at a pc or after a number of steps. The loop of
+//! page_loop.rt makes neither test, so the two are separate.
 
 ghost use Rattle.std.specs.Prelude.{◌≡◌, ◌<◌, ◌≤◌, ◌+◌, ◌%◌, ◌^◌, ◌==◌, ℕ};
 ghost use Rattle.rv_mem.specs.Code.{HasCode, IsCode, page_of};
@@ -12,8 +12,8 @@ use elf32::{BasePages, Page};
 use rv_mem::{code_page, word_in};
 
 impl Machine {
-    /// Makes steps in the page of the pc, if it is a page of code: at most `most`, up to the first moment at which the pc is
-    /// `stop`, lies in another page, or is that of an instruction that is not made here. Returns how many.
+    /// Makes steps in the page of the pc, if it is a page of code: at most `most`. It stops at the first moment at which the pc
+    /// is `stop`, lies in another page, or is that of an instruction that is not made here. Returns the number of steps.
     pub(crate) fn walk(&mut self, program: &BasePages, stop: Option<u32>, most: u64) -> u64
         requires { HasCode self.old.memory program.now }
         ensures within { result ≤ most }
@@ -57,7 +57,8 @@ impl Machine {
     }
 }
 
-/// The distance of a pc from the first address of a page; one that lies in no page if there is none.
+/// The distance of the pc `stop` from the first address of a page. If there is no such pc, it is a distance that lies in no
+/// page.
 fn stop_offset(stop: Option<u32>, first: u32) -> u64
     ensures { (offset : ℕ) → offset < 4096 → is_at stop ((first + offset) % 2 ^ 32) ≡ (offset == result) }
 {

@@ -1,4 +1,4 @@
-//! A run of one call, which stops where it needs an answer from the storage.
+//! A run of one call, which stops when it needs an answer from the storage.
 
 ghost use Rattle.std.specs.Prelude.{◌≡◌, ◌<◌, ◌≤◌, IfOk, OnOk, vec_capacity, vec_len};
 ghost use Rattle.rv_ledger.specs.Lent.{lent_content};
@@ -48,7 +48,7 @@ impl Model for Run {
     ghost invariant = { λ r. IsBeginning (record { call = r.call; machine = r.machine.value; answers = r.answers.items; stage = r.stage }) };
 }
 
-/// Why a run stands still.
+/// Why a run has stopped.
 #[derive(Clone, Copy, Debug, PartialEq, Eq)]
 pub enum Pause {
     /// It asks the storage for this key.
@@ -66,9 +66,9 @@ impl Run {
     ghost use Rattle.rv_step.specs.Asked.{asked_by, asked_of};
     ghost use Rattle.rv_step.specs.Replies.{replies_of};
     ghost use Rattle.rv_step.specs.Until.{GoesUntil, stops_at};
-    ghost use Rattle.rv_step.specs.Run.{IsEnded, IsPause, IsReceiptOf, after_answer, after_result, after_steps, asked_key, is_running, run_at_start, steps_left};
+    ghost use Rattle.rv_step.specs.Run.{IsEnded, IsPause, IsReceiptOf, after_answer, after_steps, asked_key, is_running, run_after_result, run_at_start, steps_left};
 
-    /// A run of a call before its first instruction; refused where memory ran out.
+    /// A run of a call before its first instruction; refused if memory ran out.
     pub fn start(alloc: Global, call: &Call) -> Result<Run, AllocError>
         ensures { IfOk result (λ r. r ≡ run_at_start call.now) }
     {
@@ -107,18 +107,18 @@ impl Run {
         &self.machine
     }
 
-    /// Whether it can go on, asks the storage, or has ended.
+    /// Whether it can make a step, asks the storage, or has ended.
     pub fn stage(&self) -> &Stage
         ensures { result.now ≡ self.now.stage }
     {
         &self.stage
     }
 
-    /// Makes one step of a run that is running. Refused where memory ran out, and then nothing changes.
-    /// Only a store or a storage call can be refused, after which the call goes on or has an output of more than 16 bytes.
+    /// Makes one step of a run that is running. Refused if memory ran out, and then nothing changes. Only a store or a storage
+    /// call can be refused, and only if the call continues after it or has an output of more than 16 bytes.
     pub fn step_one(&mut self) -> Result<(), AllocError>
         requires { IsTrue (is_running self.old.stage) }
-        ensures ok { OnOk result (self.new ≡ after_result (step self.old.machine) self.old) }
+        ensures ok { OnOk result (self.new ≡ run_after_result (step self.old.machine) self.old) }
         ensures fewer { OnOk result (steps_left self.new < steps_left self.old) }
         ensures err { OnErr result (self.new ≡ self.old) }
         ensures grows { OnErr result (TakesMemory self.old.machine) }
@@ -133,9 +133,8 @@ impl Run {
         Ok(())
     }
 
-    /// Makes steps until the run asks the storage or has ended. A run that asks or has ended stays as it
-    /// is. Refused where memory ran out: then the run stands before the instruction that needed memory, a
-    /// store or a storage call, and may go on.
+    /// Makes steps until the run asks the storage or has ended. A run that asks or has ended stays as it is. Refused if memory
+    /// ran out: then the run is before the instruction that needed memory, a store or a storage call, and may continue.
     pub fn go(&mut self) -> Result<Pause, AllocError>
         ensures call { self.new.call ≡ self.old.call }
         ensures answers { self.new.answers ≡ self.old.answers }
@@ -167,9 +166,9 @@ impl Run {
         run_until_stop(&mut self.machine, self.call.image().base(), &mut self.stage)
     }
 
-    /// Makes steps of a run that is running: one at least, `most` at most, and none behind the first moment at which the run
-    /// asks, has ended, or has the pc `stop`. Returns how many. It stops sooner only before an instruction that needs memory
-    /// which ran out. Refused where memory ran out before the first step, and then nothing changes.
+    /// Makes steps of a run that is running: one at least, and `most` at most. It makes none after the first moment at which
+    /// the run asks, has ended, or has the pc `stop`. Returns the number of steps. It stops sooner only before an instruction
+    /// that needs memory which ran out. Refused if memory ran out before the first step, and then nothing changes.
     pub fn go_until(&mut self, stop: Option<u32>, most: u64) -> Result<u64, AllocError>
         requires running { IsTrue (is_running self.old.stage) }
         requires some { 0 < most }
@@ -196,7 +195,7 @@ impl Run {
         !self.is_running() || is_at(stop, self.machine.pc)
     }
 
-    /// The same as `go_until` for a run that does not stop where it stands.
+    /// Makes steps as `go_until` does, for a run that can make a step and whose pc is not `stop`.
     fn go_on(&mut self, stop: Option<u32>, most: u64) -> Result<u64, AllocError>
         requires going { stops_at stop self.old ≡ false }
         requires some { 0 < most }
@@ -212,8 +211,8 @@ impl Run {
         Ok(1)
     }
 
-    /// Makes steps in a page of code, at most `most`, up to the first moment at which the pc is `stop`, lies in another page,
-    /// or is that of an instruction that is not made there. Returns how many.
+    /// Makes steps in a page of code, at most `most`. It stops at the first moment at which the pc is `stop`, lies in another
+    /// page, or is that of an instruction that is not made there. Returns the number of steps.
     fn walk(&mut self, stop: Option<u32>, most: u64) -> u64
         requires { IsTrue (is_running self.old.stage) }
         ensures within { result ≤ most }
@@ -223,7 +222,7 @@ impl Run {
         self.machine.walk(self.call.image().base(), stop, most)
     }
 
-    /// Why the run stands still. It must not be running.
+    /// Why the run has stopped. It must not be running.
     fn pause(&self) -> Pause
         requires { is_running self.now.stage ≡ false }
         ensures pause { IsPause result self.now.stage }
@@ -236,8 +235,8 @@ impl Run {
         }
     }
 
-    /// Gives the storage's answer to the key that the run asks for: its value, or None for absence,
-    /// and where the answer came from. Refused where memory ran out, and then nothing changes.
+    /// Gives the run the storage's answer to the key that it asks for: the key's value, or None for absence, and the source of
+    /// the answer. Refused if memory ran out, and then nothing changes.
     pub fn answer(&mut self, content: Option<&Value>, origin: Origin) -> Result<(), AllocError>
         requires { IsSome (asked_key self.old.stage) }
         ensures ok { OnOk result (IfSome (asked_key self.old.stage) (λ key. self.new ≡ after_answer key (option_copied content.entry) origin self.old)) }
@@ -346,7 +345,7 @@ impl Run {
     }
 }
 
-/// Keeps a value, or None for None; refused where memory ran out.
+/// Keeps a value, or None for None; refused if memory ran out.
 fn stored(alloc: Global, content: Option<LentValue>) -> Result<Option<StoredValue>, AllocError>
     ensures { IfOk result (λ value. value ≡ lent_content content.entry) }
 {
@@ -356,7 +355,7 @@ fn stored(alloc: Global, content: Option<LentValue>) -> Result<Option<StoredValu
     }
 }
 
-/// Makes room for one more answer, and for the first ones at once; refused where memory ran out.
+/// Makes room for one more answer, or for the first answers together if there is none yet; refused if memory ran out.
 fn make_room(answers: &mut Vec<StorageAnswer>) -> Result<(), AllocError>
     ensures items { answers.new.items ≡ answers.old.items }
     ensures room { OnOk result (vec_len answers.new < vec_capacity answers.new) }
@@ -367,9 +366,9 @@ fn make_room(answers: &mut Vec<StorageAnswer>) -> Result<(), AllocError>
     answers.reserve(1)
 }
 
-/// Makes steps of a machine that is running, up to and including the first ECALL, or up to the end of the
-/// call. Refused where memory ran out; then the machine stands before the instruction that needed memory.
-/// `program` has the pages of the machine's program.
+/// Makes steps of a machine that is running, up to and including the first ECALL, or up to the end of the call. Refused if
+/// memory ran out; then the machine is before the instruction that needed memory. `program` has the pages of the machine's
+/// program.
 pub(crate) fn run_until_stop(
     machine: &mut Machine,
     program: &BasePages,
@@ -387,8 +386,8 @@ pub(crate) fn run_until_stop(
     Ok(())
 }
 
-/// The receipt of a call with this gas limit that ended so; only a call that returned keeps its writes. They are taken from
-/// the machine, which nobody needs any more.
+/// The receipt of a call with this gas limit that ended this way; only a call that returned keeps its writes. They are taken
+/// from the machine, which nobody needs any more.
 #[inline(always)]
 pub(crate) fn receipt(limit: u32, end: End, out: StoredOutput, machine: &mut Machine) -> Receipt
     requires { machine.old.gas ≤ limit }

@@ -20,8 +20,7 @@ impl SpareMachine {
         SpareMachine { machine: None }
     }
 
-    /// The machine of a call before its first instruction, in the place of the machine that is here; refused where memory
-    /// ran out.
+    /// The machine of a call before its first instruction, in the place of the machine that is here; refused if memory ran out.
     pub(crate) fn start(&mut self, alloc: Global, call: &Call) -> Result<Box<Machine>, AllocError>
         ensures { IfOk result (λ m. m.value ≡ start call.now) }
     {

@@ -1,5 +1,5 @@
-//! The storage calls of a machine. Each writes how far the run is into a stage that stands elsewhere, since
-//! a stage may hold an output and is dear to move.
+//! The storage calls of a machine. Each writes how far the run is into a stage that the caller passes, since a stage may hold
+//! an output and is expensive to move.
 
 ghost use Rattle.std.specs.Prelude.{◌≡◌, ◌≤◌, if◌then◌else◌, [], length};
 ghost use Rattle.std.specs.Option.{option_copied};
@@ -35,8 +35,8 @@ const ABSENT: u32 = 0xffff_ffff;
 const TOO_LONG: u32 = 0xffff_fffe;
 
 impl Machine {
-    /// Charges the storage call at which the machine stands and does it. A READ that asks the storage is
-    /// charged only when its answer comes. Refused where memory ran out, and then nothing changes.
+    /// Charges the storage call at the pc and does it. A READ that asks the storage is charged only when its answer comes.
+    /// Refused if memory ran out, and then nothing changes.
     #[inline(never)]
     #[tactic(auto, unfolding(ecalls::specs::StorageCalls::request_of))]
     pub(crate) fn execute_ecall(&mut self, stage: &mut Stage) -> Result<(), AllocError>
@@ -67,10 +67,9 @@ impl Machine {
         }
     }
 
-    /// Gives the storage's answer to the READ of a key at which the machine stands: the value, or None for
-    /// absence. Where the call has added to the key, its sum is added to the answer. Charges the READ, and
-    /// then the bytes that it copies; the call ends out of gas where less is left. Refused where memory ran
-    /// out, and then nothing changes.
+    /// Gives the storage's answer to the READ of this key at the pc: the value, or None for absence. If the call has added to
+    /// the key, its sum is added to the answer. Charges the READ, and then the bytes that it copies; the call ends out of gas
+    /// if less is left. Refused if memory ran out, and then nothing changes.
     pub(crate) fn answer(
         &mut self,
         key: &Key,
@@ -87,7 +86,7 @@ impl Machine {
         self.answer_with(Some(sum.lend()), stage)
     }
 
-    /// Gives what the READ at which the machine stands is delivered. Charges and refuses as `answer` does.
+    /// Delivers this content to the READ at the pc. Charges and refuses as `answer` does.
     #[tactic(auto, unfolding(crate::specs::Step::answered))]
     fn answer_with(
         &mut self,
@@ -111,7 +110,7 @@ impl Machine {
         }
     }
 
-    /// Gives the gas back where the storage was asked: such a READ is charged when its answer comes.
+    /// Returns the gas if the storage was asked: such a READ is charged when its answer comes.
     fn refund_if_asked(&mut self, gas: Meter, stage: &Stage)
         ensures { self.new ≡ (if is_asked stage.now then record self.old { gas = gas } else self.old) }
     {
@@ -156,7 +155,7 @@ impl Machine {
         self.read_key(&key, stage)
     }
 
-    /// Reads a key: from the call's own writes, or else by asking the storage. A key that the call has only
+    /// Reads a key: from the call's own writes if it is there, otherwise by asking the storage. A key that the call has only
     /// added to is asked for.
     fn read_key(&mut self, key: &Key, stage: &mut Stage) -> Result<(), AllocError>
         requires { stage.old ≡ Running }
@@ -223,7 +222,7 @@ impl Machine {
         self.put(key, change.as_ref(), stage)
     }
 
-    /// Changes a key; traps TooManyWrites where the call has written 256 other keys.
+    /// Changes a key; traps TooManyWrites if the call has written 256 other keys.
     #[tactic(auto, unfolding(crate::specs::Step::write_result))]
     fn put(&mut self, key: Key, change: Change<&Value>, stage: &mut Stage) -> Result<(), AllocError>
         requires { stage.old ≡ Running }
@@ -272,8 +271,8 @@ impl Machine {
         Ok(())
     }
 
-    /// The output of a RETURN or a REVERT, or None where a byte of it may not be read. Refused where memory ran out; at
-    /// most 16 bytes take none.
+    /// The output of a RETURN or a REVERT, or None if a byte of it may not be read. Refused if memory ran out; an output of at
+    /// most 16 bytes takes no memory.
     fn output(&self) -> Result<Option<StoredOutput>, AllocError>
         requires { a1 self.now.regs ≤ 256 }
         ensures { MeetsOutput result self.now }
@@ -284,7 +283,7 @@ impl Machine {
         self.long_output()
     }
 
-    /// The same, out of line: a frame with room for the longest output is dear to clear.
+    /// The same, out of line: a frame with room for the longest output is expensive to clear.
     #[inline(never)]
     fn long_output(&self) -> Result<Option<StoredOutput>, AllocError>
         requires { a1 self.now.regs ≤ 256 }
@@ -327,8 +326,8 @@ impl Machine {
         self.deliver_charged(value, stage)
     }
 
-    /// Charges the bytes of a value and copies it. The call ends out of gas, and nothing is copied, where
-    /// less gas is left. Refused where memory ran out, and then nothing changes.
+    /// Charges the bytes of a value and copies it. If less gas is left, the call ends out of gas and nothing is copied. Refused
+    /// if memory ran out, and then nothing changes.
     fn deliver_charged(&mut self, value: LentValue, stage: &mut Stage) -> Result<(), AllocError>
         requires { stage.old ≡ Running }
         ensures { let bytes = value.entry.bytes.now in MeetsStage result stage.new (Leads (charged (late_charge self.old.rules (length bytes)) self.old (λ t. value_result t bytes))) self.old self.new }
@@ -348,7 +347,7 @@ impl Machine {
         }
     }
 
-    /// Copies a value into the buffer of a READ. Refused where memory ran out, and then nothing changes.
+    /// Copies a value into the buffer of a READ. Refused if memory ran out, and then nothing changes.
     fn copy_value(&mut self, value: LentValue, stage: &mut Stage) -> Result<(), AllocError>
         requires { stage.old ≡ Running }
         ensures { MeetsStage result stage.new (Leads (value_result self.old value.entry.bytes.now)) self.old self.new }
@@ -361,7 +360,7 @@ impl Machine {
         Ok(())
     }
 
-    /// Sets a0 at the end of a READ, and goes on to the next instruction.
+    /// Sets a0 at the end of a READ, and moves the pc to the next instruction.
     fn end_read(&mut self, number: u32)
         ensures { next_instruction (record self.old { regs = written self.old.regs 10 number }) ≡ Going self.new }
     {
@@ -370,8 +369,8 @@ impl Machine {
     }
 }
 
-/// A call's own change of a key after it adds an amount: on an own value or removal a value of eight bytes,
-/// and without one a sum.
+/// A call's own change of a key after it adds an amount: a value of eight bytes if the call has written or removed the key,
+/// otherwise a sum.
 fn change_after_add(own: Option<&Change<StoredValue>>, amount: u64) -> Change<Value>
     ensures { result ≡ change_after_add (option_copied own.entry) amount }
 {

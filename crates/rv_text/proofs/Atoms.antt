@@ -1,4 +1,4 @@
--- Registers and numbers are read back from their texts, and have no byte that parts operands.
+-- Registers and numbers are read back from their texts, and have no byte that separates operands.
 use Rattle.std.proofs.Common.{◌≡◌, ℕ, zero, suc, ◌+◌, ◌*◌, ◌/◌, ◌%◌, ◌^◌, ◌<◌, ◌≤◌, ◌==◌, nat_eq, nat_le, Bool, true, false, not, ◌&&◌, ◌||◌, cond, List, [], ◌∷◌, ◌++◌, length, get_or, Option, Some, None, ℤ, pos, negsuc, neg_ℤ, arith, refl, ap, ◌∙◌, lit<, lit≤, codes}
 use Rattle.std.proofs.lemmas.Bool.{and_parts}
 use Rattle.std.proofs.lemmas.Bool.Decides.{nat_tests}
@@ -22,7 +22,7 @@ use Rattle.rv_isa.proofs.Same.{same_register}
 use Rattle.rv_text.proofs.Cuts.{neither, none_of_stronger}
 use Rattle.rv_text.proofs.Lines.{is_mark}
 
--- a byte that parts lines, the parts of a line, its operands or the parts of an operand
+-- a byte that separates lines, the parts of a line, its operands or the parts of an operand
 abbrev pub is_parting : ℕ → Bool
 is_parting b = is_mark b || (b == 44 || (b == 40 || b == 41))
 
@@ -103,7 +103,7 @@ digits_pass : (radix : ℕ) (ds : List ℕ) → AllDigits radix ds → list_all 
 digits_pass radix [] h = refl
 digits_pass radix (c ∷ cs) h = let e : is_digit c radix ≡ true = grind (arith, nat_tests, h.0) in rw e (digits_pass radix cs h.1)
 
--- a digit parts nothing
+-- a digit separates nothing
 digit_parts_nothing : (radix c : ℕ) → radix ≤ 16 → digit_value c < radix → is_parting c ≡ false
 digit_parts_nothing radix c high h = grind (arith, nat_tests)
 
@@ -123,7 +123,8 @@ and_no : (a : Bool) → a && false ≡ false
 and_no true = refl
 and_no false = refl
 
--- what begins with a digit does not begin with `-` nor, where the next is one too, with `0x`
+-- a text that begins with a digit does not begin with `-`; if its second byte is a digit too, it does not begin with
+-- `0x`
 plain_number : (ds : List ℕ) → IsNumeral 10 ds → number_of ds ≡ option_map pos (numeral_of 10 10 ds)
 unfolding number_of
 plain_number [] h = absurd (omega (arith, h.0))

@@ -10,7 +10,7 @@ pub neither : (a b : Bool) → a || b ≡ false → (a ≡ false) × (b ≡ fals
 neither true b h = cc
 neither false b h = (refl, h)
 
--- where no byte passes a test, none passes a stronger one
+-- if no byte passes a test, none passes a stronger one
 pub none_of_stronger : (p q : ℕ → Bool) → ((b : ℕ) → p b ≡ false → q b ≡ false) → (text : List ℕ) → list_any p text ≡ false → list_any q text ≡ false
 none_of_stronger p q weaker [] h = refl
 none_of_stronger p q weaker (b ∷ text) h =
@@ -38,18 +38,18 @@ place_at : (p : ℕ → Bool) (xs : List ℕ) (y : ℕ) (ys : List ℕ) → list
 place_at p [] y ys h e = rw e refl
 place_at p (x ∷ xs) y ys h e = let f = neither (p x) _ h in rw f.0 (omega (arith, place_at p xs y ys f.1 e))
 
--- nothing passes: all of it stands before
+-- no byte passes: the whole text is before the cut
 pub before_whole : (p : ℕ → Bool) (xs : List ℕ) → list_any p xs ≡ false → before_first p xs ≡ xs
 before_whole p xs h = ap (λ n. take n xs) (place_whole p xs h) ∙ take-length xs
 
--- the first byte that passes
+-- the first byte that passes ends the part before the cut
 pub before_at : (p : ℕ → Bool) (xs : List ℕ) (y : ℕ) (ys : List ℕ) → list_any p xs ≡ false → p y ≡ true → before_first p (xs ++ y ∷ ys) ≡ xs
 before_at p xs y ys h e = ap (λ n. take n (xs ++ y ∷ ys)) (place_at p xs y ys h e) ∙ take-append_seam xs (y ∷ ys)
 
 pub after_at : (p : ℕ → Bool) (xs : List ℕ) (y : ℕ) (ys : List ℕ) → list_any p xs ≡ false → p y ≡ true → after_first p (xs ++ y ∷ ys) ≡ ys
 after_at p xs y ys h e = ap (λ n. drop (n + 1) (xs ++ y ∷ ys)) (place_at p xs y ys h e) ∙ drop-append-add xs (y ∷ ys) 1
 
--- nothing passes: nothing stands behind
+-- no byte passes: nothing is after the cut
 pub after_none : (p : ℕ → Bool) (xs : List ℕ) → list_any p xs ≡ false → after_first p xs ≡ []
 after_none p xs h = ap (λ n. drop (n + 1) xs) (place_whole p xs h) ∙ rw add-one (past xs)
   where

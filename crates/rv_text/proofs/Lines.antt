@@ -1,4 +1,4 @@
--- What a line says that has a mnemonic and, behind one blank, its operands.
+-- What a line says that has a mnemonic, one blank and its operands.
 use Rattle.std.proofs.Common.{◌≡◌, ℕ, suc, ◌<◌, ◌==◌, Bool, false, ◌||◌, List, [], ◌∷◌, ◌++◌, length, Some, None, Ok, arith, append_assoc, refl, ap, sym}
 use Rattle.std.proofs.lemmas.Bool.Decides.{nat_tests}
 use Rattle.std.specs.List.{list_any, before_first, after_first}
@@ -10,7 +10,7 @@ use Rattle.rv_names.specs.Statements.{statement_of}
 use Rattle.rv_names.specs.Line.{content_of, label_of, body_of, command_of, has_label, line_of}
 use Rattle.rv_text.proofs.Cuts.{neither, none_of_stronger, none_of_both, some_passes, before_whole, before_at, after_at, after_none, trimmed_whole, trimmed_atom}
 
--- a byte that parts lines, or the parts of a line
+-- a byte that separates lines, or the parts of a line
 abbrev pub is_mark : ℕ → Bool
 is_mark b = is_blank b || (b == 35 || (b == 58 || b == 10))
 

@@ -17,7 +17,7 @@ use Rattle.rv_names.specs.declared.lines.Statement.TheVariants.{Plain, WordValue
 use Rattle.rv_program.specs.Sections.{Sections}
 use Rattle.rv_text.specs.declared.fault.AsmCause.{AsmCause}
 use Rattle.rv_text.specs.declared.fault.AsmError.{AsmError}
-use Rattle.rv_text.specs.Assembly.{Item, Labels, SourceLayout, empty_layout, on_line, place_in, with_label, with_text, with_statement, with_line, layout_from, words_of_item, words_of, program_from, assembled}
+use Rattle.rv_text.specs.Assembly.{Item, Labels, SourceLayout, empty_layout, on_line, next_place, with_label, with_text, with_statement, with_source_line, layout_from, words_of_item, item_words, program_from, assembled}
 use Rattle.rv_text.specs.Back.{IsWord, IsLineOf, IsReadBack, IsAssembledBack, listing}
 use Rattle.rv_text.proofs.Cuts.{neither}
 use Rattle.rv_text.proofs.Instructions.{disassembly_is_one_line}
@@ -48,23 +48,23 @@ through n word (Ok front) (Ok words) = ap (λ (ws : List ℕ). Ok ws) (sym (appe
 through n word (Ok front) (Err fault) = refl
 through n word (Err cause) b = refl
 
-one_more : (labels : Labels) (items : List Item) (item : Item) (word : ℕ) → words_of_item labels item ≡ Ok (word ∷ []) → words_of labels (items ++ item ∷ []) ≡ pushed word (words_of labels items)
-unfolding words_of
+one_more : (labels : Labels) (items : List Item) (item : Item) (word : ℕ) → words_of_item labels item ≡ Ok (word ∷ []) → item_words labels (items ++ item ∷ []) ≡ pushed word (item_words labels items)
+unfolding item_words
 one_more labels [] item word e = rw e refl
 one_more labels (x ∷ items) item word e =
     ap (λ r. on_line x.line (words_of_item labels x) (λ words. result_map_both (λ more. words ++ more) (λ fault. fault) r)) (one_more labels items item word e)
-    ∙ through x.line word (words_of_item labels x) (words_of labels items)
+    ∙ through x.line word (words_of_item labels x) (item_words labels items)
 
 -- ---- what the lines lay down
 
--- behind lines of words and no other
+-- the layout after lines of words and no other lines
 abbrev state : List Item → ℕ → SourceLayout
 state items size = record { section = Text; items = items; text_size = size; data_bytes = []; labels = [] }
 
 abbrev only_words : List ℕ → Result Sections AsmError
 only_words words = Ok (record { text = words; data_bytes = [] })
 
--- what the lines from n on give behind these statements
+-- what the lines from n on give after these statements
 abbrev rest_gives : ℕ → List (List ℕ) → List Item → ℕ → Result Sections AsmError
 rest_gives n texts items size = program_from (layout_from n texts (state items size))
 
@@ -72,8 +72,8 @@ fits : (size : ℕ) → size + 4 ≤ 65536 → nat_lt 65536 (size + 4) ≡ false
 fits size h = grind (arith, nat_tests)
 
 module _ (n size word : ℕ) (items : List Item) (front : List ℕ) (texts : List (List ℕ)) (wanted : Result Sections AsmError)
-    (before : words_of [] items ≡ Ok front) (room : size + 4 ≤ 65536)
-    (then : (item : Item) → words_of [] (items ++ item ∷ []) ≡ Ok (front ++ word ∷ []) → rest_gives (n + 1) texts (items ++ item ∷ []) (size + 4) ≡ wanted) where
+    (before : item_words [] items ≡ Ok front) (room : size + 4 ≤ 65536)
+    (then : (item : Item) → item_words [] (items ++ item ∷ []) ≡ Ok (front ++ word ∷ []) → rest_gives (n + 1) texts (items ++ item ∷ []) (size + 4) ≡ wanted) where
   laid_item : (item : Item) → words_of_item [] item ≡ Ok (word ∷ []) → rest_gives (n + 1) texts (items ++ item ∷ []) (size + 4) ≡ wanted
   laid_item item e = then item (one_more [] items item word e ∙ ap (pushed word) before)
 
@@ -81,21 +81,21 @@ module _ (n size word : ℕ) (items : List Item) (front : List ℕ) (texts : Lis
       → program_from (on_line n (with_statement n (record { label = label; statement = statement; target = target }) statement (state items size)) (λ l. layout_from (n + 1) texts l)) ≡ wanted
   unfolding with_text words_of_item
   stated label target (Plain instr) e =
-      rw (fits size room) (laid_item (record { line = n; address = place_in Text (state items size); statement = Plain instr; target = target }) (ap (λ w. Ok (w ∷ [])) e))
+      rw (fits size room) (laid_item (record { line = n; address = next_place Text (state items size); statement = Plain instr; target = target }) (ap (λ w. Ok (w ∷ [])) e))
   stated label target (WordValue value) e =
-      rw (fits size room) (laid_item (record { line = n; address = place_in Text (state items size); statement = WordValue value; target = target }) (ap (λ w. Ok (w ∷ [])) e))
+      rw (fits size room) (laid_item (record { line = n; address = next_place Text (state items size); statement = WordValue value; target = target }) (ap (λ w. Ok (w ∷ [])) e))
   stated label target _ h = absurd h
 
   line_read : (text : List ℕ) (r : Result (Line (List ℕ)) LineCause) → line_of Text text ≡ r → IsLineOf word r → rest_gives n (text ∷ texts) items size ≡ wanted
-  unfolding layout_from with_line with_label
+  unfolding layout_from with_source_line with_label
   line_read text (Ok line) e h = rw (e, h.0) (stated None line.target line.statement h.1)
   line_read text (Err cause) e h = absurd h
 
 empty_line : (n : ℕ) (items : List Item) (size : ℕ) → rest_gives n ([] ∷ []) items size ≡ program_from (Ok (state items size))
-unfolding layout_from with_line with_label line_of content_of label_of body_of command_of trimmed
+unfolding layout_from with_source_line with_label line_of content_of label_of body_of command_of trimmed
 empty_line n items size = refl
 
-lines_read : (n size : ℕ) (items : List Item) (front words : List ℕ) → words_of [] items ≡ Ok front → All IsReadBack words → size + 4 * length words ≤ 65536
+lines_read : (n size : ℕ) (items : List Item) (front words : List ℕ) → item_words [] items ≡ Ok front → All IsReadBack words → size + 4 * length words ≤ 65536
     → rest_gives n (map disassembly words ++ [] ∷ []) items size ≡ only_words (front ++ words)
 lines_read n size items front [] before h room =
     empty_line n items size
@@ -107,8 +107,8 @@ lines_read n size items front (word ∷ words) before h room =
     ∙ ap only_words (append_assoc front (word ∷ []) words))
     (disassembly word) (line_of Text (disassembly word)) refl (All-head IsReadBack word words h)
 
-no_words : words_of [] [] ≡ Ok []
-unfolding words_of
+no_words : item_words [] [] ≡ Ok []
+unfolding item_words
 no_words = refl
 
 -- words that fit in text, each of which is read back

@@ -8,11 +8,11 @@ use Rattle.std.specs.Map.{lookup}
 use Rattle.indexmap.specs.IndexMap.{IndexMap, get, insert_entry}
 use Rattle.indexmap.proofs.CallerLemmas.{insert_entry-new}
 use Rattle.rv_text.specs.declared.fault.AsmCause.TheVariants.{DuplicateLabel}
-use Rattle.rv_text.specs.Assembly.{SourceLayout, place_in, place_of, with_label}
+use Rattle.rv_text.specs.Assembly.{SourceLayout, label_place, next_place, with_label}
 use Rattle.rv_text.specs.Shown.{shown_labels}
 
 -- the entry of a label is found by its name
-pub place_shown : (entries : List (Bor (List ℕ) × ℕ)) (name : List ℕ) → place_of (shown_labels entries) name ≡ lookup (λ key. bytes_eq name key.now) entries
+pub place_shown : (entries : List (Bor (List ℕ) × ℕ)) (name : List ℕ) → label_place (shown_labels entries) name ≡ lookup (λ key. bytes_eq name key.now) entries
 place_shown [] name = refl
 place_shown (entry ∷ entries) name =
     elim (bytes_eq name entry.0.now) as (λ b. option_map (λ label. label.1) (cond b (Some (entry.0.now, entry.1)) (find (λ label. bytes_eq name label.0) (shown_labels entries))) ≡ cond b (Some entry.1) (lookup (λ key. bytes_eq name key.now) entries)) [
@@ -20,20 +20,20 @@ place_shown (entry ∷ entries) name =
       | false ↦ place_shown entries name
     ]
 
--- names are told apart by their bytes
+-- two names are the same exactly if their bytes are equal
 abbrev pub same_name : Bor (List ℕ) → Bor (List ℕ) → Bool
 same_name a b = bytes_eq a.now b.now
 
-defined_label : (name : List ℕ) (l : SourceLayout) (b : Bool) → is_some (place_of l.labels name) ≡ b → with_label (Some name) l ≡ (if b then Err DuplicateLabel else Ok (record l { labels = l.labels ++ (name, place_in l.section l) ∷ [] }))
+defined_label : (name : List ℕ) (l : SourceLayout) (b : Bool) → is_some (label_place l.labels name) ≡ b → with_label (Some name) l ≡ (if b then Err DuplicateLabel else Ok (record l { labels = l.labels ++ (name, next_place l.section l) ∷ [] }))
 unfolding with_label
-defined_label name l b e = ap (λ c. if c then Err DuplicateLabel else Ok (record l { labels = l.labels ++ (name, place_in l.section l) ∷ [] })) e
+defined_label name l b e = ap (λ c. if c then Err DuplicateLabel else Ok (record l { labels = l.labels ++ (name, next_place l.section l) ∷ [] })) e
 
 -- a label that is there, and one that is new
 
-pub again : (name : List ℕ) (l : SourceLayout) → is_some (place_of l.labels name) ≡ true → with_label (Some name) l ≡ Err DuplicateLabel
+pub again : (name : List ℕ) (l : SourceLayout) → is_some (label_place l.labels name) ≡ true → with_label (Some name) l ≡ Err DuplicateLabel
 again name l e = defined_label name l true e
 
-pub anew : (name : List ℕ) (l : SourceLayout) → is_some (place_of l.labels name) ≡ false → with_label (Some name) l ≡ Ok (record l { labels = l.labels ++ (name, place_in l.section l) ∷ [] })
+pub anew : (name : List ℕ) (l : SourceLayout) → is_some (label_place l.labels name) ≡ false → with_label (Some name) l ≡ Ok (record l { labels = l.labels ++ (name, next_place l.section l) ∷ [] })
 anew name l e = defined_label name l false e
 
 -- a new label goes last

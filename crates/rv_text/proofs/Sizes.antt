@@ -12,16 +12,16 @@ use Rattle.rv_program.specs.Sections.{sections_of}
 use Rattle.rv_text.specs.declared.fault.AsmCause.{AsmCause}
 use Rattle.rv_text.specs.declared.fault.AsmCause.TheVariants.{LabelRange}
 use Rattle.rv_text.specs.declared.fault.AsmError.{AsmError}
-use Rattle.rv_text.specs.Assembly.{◌>>=◌, Item, Labels, on_line, target_place, text_bytes_of, words_at, words_of_item, words_of}
+use Rattle.rv_text.specs.Assembly.{◌>>=◌, Item, Labels, on_line, target_place, text_bytes_of, words_at, words_of_item, item_words}
 use Rattle.rv_text.specs.Fits.{bytes_of_items}
 use Rattle.rv_text.specs.Shown.{shown_item}
 use Rattle.rv_text.specs.declared.item.Item as code
 
--- so many bytes of words at most
+-- the words take at most this many bytes
 abbrev TakesAtMost : {E : Type 0} → ℕ → Result (List ℕ) E → Type 0
 TakesAtMost count r = IfOk r (λ words. 4 * length words ≤ count)
 
--- a step that goes on with a value, behind each of which come no more words than that
+-- if each step after a value takes at most this many bytes, the two steps together take at most as many
 onward : {A : Type 0} (count : ℕ) (r : Result A AsmCause) (f : A → Result (List ℕ) AsmCause) → ((x : A) → TakesAtMost count (f x)) → TakesAtMost count (r >>= f)
 onward count (Ok x) f h = h x
 onward count (Err cause) f h = tt
@@ -42,8 +42,8 @@ joined_bytes n count more (Ok words) (Err fault) a b = tt
 joined_bytes n count more (Err cause) s a b = tt
 
 -- the words of some statements are no more than their bytes
-words_bytes : (labels : Labels) (items : List Item) → TakesAtMost (bytes_of_items items) (words_of labels items)
-unfolding words_of words_of_item
+words_bytes : (labels : Labels) (items : List Item) → TakesAtMost (bytes_of_items items) (item_words labels items)
+unfolding item_words words_of_item
 words_bytes labels [] = lit≤ tt
 words_bytes labels (item ∷ items) =
     joined_bytes item.line (text_bytes_of item.statement) (bytes_of_items items) _ _ (statement_bytes labels item.address item.target item.statement) (words_bytes labels items)
@@ -63,6 +63,6 @@ within text bytes a b =
     rw e (some_or_none _)
 
 -- the sections have their sizes
-pub sized : (labels : Labels) (items : List Item) (text bytes : List ℕ) (size : ℕ) → words_of labels items ≡ Ok text → size ≡ bytes_of_items items → size ≤ 65536 → length bytes ≤ 61440 → sections_of text bytes ≢ None
+pub sized : (labels : Labels) (items : List Item) (text bytes : List ℕ) (size : ℕ) → item_words labels items ≡ Ok text → size ≡ bytes_of_items items → size ≤ 65536 → length bytes ≤ 61440 → sections_of text bytes ≢ None
 sized labels items text bytes size e is a b =
     within text bytes (omega (arith, IfOk-at_ok (λ words. 4 * length words ≤ bytes_of_items items) e (words_bytes labels items))) b

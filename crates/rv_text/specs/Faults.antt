@@ -5,7 +5,6 @@ use Rattle.rv_text.specs.declared.fault.AsmError.{AsmError}
 use Rattle.rv_text.specs.declared.fault.AsmCause.{AsmCause}
 use Rattle.rv_text.specs.declared.fault.AsmCause.TheVariants.{UnknownMnemonic, BadOperand, ImmediateRange, UnknownLabel, DuplicateLabel, LabelRange, TooLarge, Memory}
 
--- the number of a refusal
 abbrev pub number_of : AsmCause → ℕ
 number_of UnknownMnemonic = 1
 number_of BadOperand = 2
@@ -16,7 +15,6 @@ number_of LabelRange = 6
 number_of TooLarge = 7
 number_of Memory = 8
 
--- its name
 abbrev pub name_of : AsmCause → List ℕ
 name_of UnknownMnemonic = codes "UnknownMnemonic"
 name_of BadOperand = codes "BadOperand"

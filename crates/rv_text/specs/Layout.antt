@@ -4,8 +4,8 @@ use Rattle.rv_text.specs.Assembly.{SourceLayout}
 use Rattle.rv_text.specs.Shown.{shown_item, shown_labels}
 use Rattle.rv_text.specs.declared.layout.Layout as code
 
-abbrev pub layout_of : code.Layout → SourceLayout
-layout_of layout = record {
+abbrev pub source_layout_of : code.Layout → SourceLayout
+source_layout_of layout = record {
   section = layout.section;
   items = map shown_item layout.items.items;
   text_size = layout.text_size;

@@ -16,9 +16,8 @@ pub fn assembled_again(word: u32)
     text_is_read_back(word);
 }
 
-/// A law: the texts of some words, each on a line of its own, as a source give the program with just these
-/// words and no data, where the words fit in the text section. The call walks over the words and changes
-/// nothing.
+/// A law: the texts of some words, each on a line of its own, give as a source the program with just these words and
+/// no data. It holds if the words fit in the text section. The call walks over the words and changes nothing.
 pub fn words_assembled_again(words: &[u32])
     ensures { 4 * length words.now ≤ 65536 → IsAssembledBack words.now }
 {

@@ -2,9 +2,9 @@
 
 ghost use Rattle.std.specs.Prelude.{◌≡◌, ◌≢◌, ◌==◌, map, IfOk};
 ghost use Rattle.std.specs.List.{slice_split};
-ghost use Rattle.rv_text.specs.Assembly.{Gives, empty_layout, layout_from, assembled_program, assembled};
-ghost use Rattle.rv_text.specs.Answer.{Reads};
-ghost use Rattle.rv_text.specs.Layout.{layout_of};
+ghost use Rattle.rv_text.specs.Assembly.{GivesSections, empty_layout, layout_from, assembled_program, assembled};
+ghost use Rattle.rv_text.specs.Answer.{ReadsLines};
+ghost use Rattle.rv_text.specs.Layout.{source_layout_of};
 
 use crate::fault::{AsmCause, AsmError};
 use crate::layout::Layout;
@@ -21,7 +21,7 @@ fn lines(alloc: Global, source: &[u8]) -> Result<Vec<&[u8]>, AllocError>
 
 /// What the lines lay down, or the first fault of a line, of the causes 1, 2, 3, 5 and 7.
 fn lay_out<'a>(alloc: Global, lines: &[&'a [u8]]) -> Result<Layout<'a>, AsmError>
-    ensures { Reads layout_of result (layout_from 1 (map (λ line. line.now) lines.now) empty_layout) }
+    ensures { ReadsLines source_layout_of result (layout_from 1 (map (λ line. line.now) lines.now) empty_layout) }
 {
     let mut layout = Layout::new(alloc);
     for (index, text) in lines.iter().enumerate() {
@@ -38,7 +38,7 @@ fn lay_out<'a>(alloc: Global, lines: &[&'a [u8]]) -> Result<Layout<'a>, AsmError
 
 /// The program of what was laid down, or the first fault of a label, of the causes 4 and 6.
 fn program(alloc: Global, layout: Layout<'_>) -> Result<Program, AsmError>
-    ensures { Reads (λ program. program) result (assembled_program (layout_of layout.entry)) }
+    ensures { ReadsLines (λ program. program) result (assembled_program (source_layout_of layout.entry)) }
 {
     let text = words_of(alloc, &layout.labels, layout.items.as_slice())?;
     match Program::new(text, layout.data_bytes) {
@@ -47,11 +47,11 @@ fn program(alloc: Global, layout: Layout<'_>) -> Result<Program, AsmError>
     }
 }
 
-/// The program that a source stands for, or its first fault, with its line. Of the causes 1, 2, 3, 5 and 7
-/// the one on the least line is answered, and on that line the one with the least number. Where none of
-/// these holds, 4 and 6 are answered in the same way. `Memory` may be answered for any source, and has line 1.
+/// The program that a source stands for, or its first fault, with its line. Of the causes 1, 2, 3, 5 and 7 the fault
+/// is the one on the least line, and on that line the one with the least number. If no line has such a fault, the
+/// fault is found among 4 and 6 in the same way. `Memory` may be returned for any source, and has line 1.
 pub fn assemble(alloc: Global, source: &str) -> Result<Program, AsmError>
-    ensures { Gives result (assembled source.now) }
+    ensures { GivesSections result (assembled source.now) }
 {
     match program_or_fault(alloc, source) {
         Ok(program) => Ok(program),
@@ -59,7 +59,7 @@ pub fn assemble(alloc: Global, source: &str) -> Result<Program, AsmError>
     }
 }
 
-/// A fault as it is answered: `Memory` has line 1.
+/// A fault as it is returned: `Memory` has line 1.
 fn as_answered(fault: AsmError) -> AsmError
     ensures memory { fault.cause ≡ AsmCause.Memory → result ≡ record { line = 1; cause = AsmCause.Memory } }
     ensures other { fault.cause ≢ AsmCause.Memory → result ≡ fault }
@@ -76,7 +76,7 @@ fn as_answered(fault: AsmError) -> AsmError
 /// The program that a source stands for, or its first fault, as in `assemble`; `Memory` may have any line.
 #[tactic(auto, unfolding(crate::specs::Assembly::assembled))]
 fn program_or_fault(alloc: Global, source: &str) -> Result<Program, AsmError>
-    ensures { Reads (λ program. program) result (assembled source.now) }
+    ensures { ReadsLines (λ program. program) result (assembled source.now) }
 {
     match lines(alloc, source.as_bytes()) {
         Ok(lines) => program(alloc, lay_out(alloc, lines.as_slice())?),

@@ -98,12 +98,11 @@ impl From<LineCause> for AsmCause {
     }
 }
 
-/// The first fault of a source. Of the causes 1, 2, 3, 5 and 7 it is the one on the least line, and on that
-/// line the one with the least number. Where none of these holds, it is found among 4 and 6 in the same
-/// way.
+/// The first fault of a source. Of the causes 1, 2, 3, 5 and 7 it is the one on the least line, and on that line the
+/// one with the least number. If no line has such a fault, it is found among 4 and 6 in the same way.
 #[derive(Clone, Copy, Debug, PartialEq, Eq)]
 pub struct AsmError {
-    /// The number of the line, counted from 1. Where memory ran out it is 1.
+    /// The number of the line, counted from 1. It is 1 if memory ran out.
     pub line: usize,
     /// What is wrong with it.
     pub cause: AsmCause,

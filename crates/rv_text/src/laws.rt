@@ -1,4 +1,4 @@
-//! A law of the definitions of `rv_names`: how texts of words and lines of source belong together.
+//! A law of the definitions of `rv_names`: the text of each word reads as a line of source for that word.
 
 ghost use Rattle.rv_text.specs.Back.{IsReadBack};
 

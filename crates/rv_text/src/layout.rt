@@ -34,12 +34,12 @@ impl<'a> Layout<'a> {
     ghost use Rattle.std.specs.Option.{option_map};
     ghost use Rattle.rv_names.specs.Shown.{line_map};
     ghost use Rattle.rv_text.specs.Answer.{Answers};
-    ghost use Rattle.rv_text.specs.Assembly.{empty_layout, place_in, data_bytes_of, with_label, with_text, with_data, with_statement, with_line};
-    ghost use Rattle.rv_text.specs.Layout.{layout_of};
+    ghost use Rattle.rv_text.specs.Assembly.{empty_layout, next_place, data_bytes_of, with_label, with_text, with_data, with_statement, with_source_line};
+    ghost use Rattle.rv_text.specs.Layout.{source_layout_of};
 
     /// The empty layout: no line is laid down, and text is in force.
     pub fn new(alloc: Global) -> Layout<'a>
-        ensures { layout_of result ≡ empty_layout }
+        ensures { source_layout_of result ≡ empty_layout }
     {
         Layout {
             section: Section::Text,
@@ -50,11 +50,11 @@ impl<'a> Layout<'a> {
         }
     }
 
-    /// Lays down the next line, which has this number. Refused with the least cause of `read_line`, else with
-    /// DuplicateLabel, else with TooLarge, and with Memory where memory ran out.
-    #[tactic(auto, unfolding(crate::specs::Assembly::with_line))]
+    /// Lays down the next line, which has this number. Refused with the least cause of `read_line`, otherwise with
+    /// DuplicateLabel, otherwise with TooLarge, and with Memory if memory ran out.
+    #[tactic(auto, unfolding(crate::specs::Assembly::with_source_line))]
     pub fn read(&mut self, number: usize, text: &'a [u8]) -> Result<(), AsmCause>
-        ensures { Answers (λ _. layout_of self.new) result (with_line number text.now (layout_of self.old)) }
+        ensures { Answers (λ _. source_layout_of self.new) result (with_source_line number text.now (source_layout_of self.old)) }
     {
         let line = read_line(self.section, text)?;
         self.define(line.label)?;
@@ -63,7 +63,7 @@ impl<'a> Layout<'a> {
 
     /// The place of the next byte of the section in force.
     fn place(&self) -> u32
-        ensures { result ≡ place_in self.now.section (layout_of self.now) }
+        ensures { result ≡ next_place self.now.section (source_layout_of self.now) }
     {
         match self.section {
             Section::Text => TEXT_START + self.text_size as u32,
@@ -71,10 +71,10 @@ impl<'a> Layout<'a> {
         }
     }
 
-    /// Defines a line's label, where it has one; DuplicateLabel where an earlier line defines it.
+    /// Defines a line's label, if it has one; DuplicateLabel if an earlier line defines it.
     #[tactic(auto, unfolding(crate::specs::Assembly::with_label))]
     fn define(&mut self, label: Option<&'a [u8]>) -> Result<(), AsmCause>
-        ensures { Answers (λ _. layout_of self.new) result (with_label (option_map (λ name. name.now) label.entry) (layout_of self.old)) }
+        ensures { Answers (λ _. source_layout_of self.new) result (with_label (option_map (λ name. name.now) label.entry) (source_layout_of self.old)) }
     {
         let Some(name) = label else {
             return Ok(());
@@ -88,7 +88,7 @@ impl<'a> Layout<'a> {
 
     /// Lays down a line's statement in the section in force.
     fn add_statement(&mut self, number: usize, line: Line<&'a [u8]>) -> Result<(), AsmCause>
-        ensures { Answers (λ _. layout_of self.new) result (with_statement number (line_map (λ name. name.now) line.entry) line.entry.statement (layout_of self.old)) }
+        ensures { Answers (λ _. source_layout_of self.new) result (with_statement number (line_map (λ name. name.now) line.entry) line.entry.statement (source_layout_of self.old)) }
     {
         match line.statement {
             Statement::Empty => Ok(()),
@@ -103,10 +103,10 @@ impl<'a> Layout<'a> {
         }
     }
 
-    /// Lays down a statement of text; TooLarge where it does not fit.
+    /// Lays down a statement of text; TooLarge if it does not fit.
     #[tactic(auto, unfolding(crate::specs::Assembly::with_text))]
     fn add_item(&mut self, number: usize, line: Line<&'a [u8]>) -> Result<(), AsmCause>
-        ensures { Answers (λ _. layout_of self.new) result (with_text number (line_map (λ name. name.now) line.entry) (layout_of self.old)) }
+        ensures { Answers (λ _. source_layout_of self.new) result (with_text number (line_map (λ name. name.now) line.entry) (source_layout_of self.old)) }
     {
         let count = text_bytes(line.statement);
         if TEXT_LIMIT < self.text_size + count {
@@ -124,7 +124,7 @@ impl<'a> Layout<'a> {
 
     /// Lays down a statement of data.
     fn add_data(&mut self, statement: Statement) -> Result<(), AsmCause>
-        ensures { Answers (λ _. layout_of self.new) result (with_data (data_bytes_of statement) (layout_of self.old)) }
+        ensures { Answers (λ _. source_layout_of self.new) result (with_data (data_bytes_of statement) (source_layout_of self.old)) }
     {
         match statement {
             Statement::WordValue(word) => self.add_bytes(word.to_le_bytes().as_slice()),
@@ -134,10 +134,10 @@ impl<'a> Layout<'a> {
         }
     }
 
-    /// Lays down bytes of data; TooLarge where they do not fit.
+    /// Lays down bytes of data; TooLarge if they do not fit.
     #[tactic(auto, unfolding(crate::specs::Assembly::with_data))]
     fn add_bytes(&mut self, bytes: &[u8]) -> Result<(), AsmCause>
-        ensures { Answers (λ _. layout_of self.new) result (with_data bytes.now (layout_of self.old)) }
+        ensures { Answers (λ _. source_layout_of self.new) result (with_data bytes.now (source_layout_of self.old)) }
     {
         if DATA_LIMIT < self.data_bytes.len() + bytes.len() {
             return Err(AsmCause::TooLarge);
@@ -146,10 +146,10 @@ impl<'a> Layout<'a> {
         Ok(())
     }
 
-    /// Lays down zeros of data; TooLarge where they do not fit.
+    /// Lays down zeros of data; TooLarge if they do not fit.
     #[tactic(auto, unfolding(crate::specs::Assembly::with_data))]
     fn add_zeros(&mut self, count: u32) -> Result<(), AsmCause>
-        ensures { Answers (λ _. layout_of self.new) result (with_data (replicate count 0) (layout_of self.old)) }
+        ensures { Answers (λ _. source_layout_of self.new) result (with_data (replicate count 0) (source_layout_of self.old)) }
     {
         let len = self.data_bytes.len() + count as usize;
         if DATA_LIMIT < len {

@@ -4,8 +4,8 @@ ghost use Rattle.std.specs.Prelude.{◌≡◌, ◌++◌, ◌∷◌, [], pos, ◌
 ghost use Rattle.std.specs.Option.{option_map};
 ghost use Rattle.std.specs.Result.{result_map_both};
 ghost use Rattle.rv_isa.specs.Word.{word_of};
-ghost use Rattle.rv_text.specs.Answer.{Answers, Reads};
-ghost use Rattle.rv_text.specs.Assembly.{target_place, branch_words, jump_words, words_of_item, words_of};
+ghost use Rattle.rv_text.specs.Answer.{Answers, ReadsLines};
+ghost use Rattle.rv_text.specs.Assembly.{target_place, branch_words, jump_words, words_of_item, item_words};
 ghost use Rattle.rv_text.specs.Shown.{shown_item, shown_labels, shown_words};
 
 use crate::fault::{AsmCause, AsmError};
@@ -26,7 +26,7 @@ pub enum Words {
     Two(u32, u32),
 }
 
-/// The place of a label; UnknownLabel where no line defines it.
+/// The place of a label; UnknownLabel if no line defines it.
 #[tactic(auto, using(crate::proofs::Places::place_shown))]
 fn target_place(labels: &IndexMap<&[u8], u32>, target: Option<&[u8]>) -> Result<u32, AsmCause>
     ensures { result ≡ target_place (shown_labels labels.now.entries) (option_map (λ name. name.now) target.entry) }
@@ -42,7 +42,7 @@ fn distance(place: u32, address: u32) -> i64
     i64::from(place) - i64::from(address)
 }
 
-/// The branch over this distance; LabelRange where the distance is out of range or odd.
+/// The branch over this distance; LabelRange if the distance is out of range or odd.
 fn branch(condition: Condition, left: Reg, right: Reg, distance: i64) -> Result<Words, AsmCause>
     ensures { result_map_both shown_words (λ cause. cause) result ≡ branch_words condition left right distance }
 {
@@ -55,7 +55,7 @@ fn branch(condition: Condition, left: Reg, right: Reg, distance: i64) -> Result<
     })))
 }
 
-/// JAL over this distance; LabelRange where the distance is out of range or odd.
+/// JAL over this distance; LabelRange if the distance is out of range or odd.
 fn jump(rd: Reg, distance: i64) -> Result<Words, AsmCause>
     ensures { result_map_both shown_words (λ cause. cause) result ≡ jump_words rd distance }
 {
@@ -70,7 +70,7 @@ fn pair(first: Instr, second: Instr) -> Words
     Words::Two(encode(&first), encode(&second))
 }
 
-/// The words of a statement of text; UnknownLabel or LabelRange where its label is at fault.
+/// The words of a statement of text; UnknownLabel or LabelRange if its label is at fault.
 #[tactic(auto, unfolding(crate::specs::Assembly::words_of_item))]
 fn words_at(labels: &IndexMap<&[u8], u32>, item: &Item<'_>) -> Result<Words, AsmCause>
     ensures { result_map_both shown_words (λ cause. cause) result ≡ words_of_item (shown_labels labels.now.entries) (shown_item item.now) }
@@ -99,7 +99,7 @@ fn words_at(labels: &IndexMap<&[u8], u32>, item: &Item<'_>) -> Result<Words, Asm
     }
 }
 
-/// Appends words to text; refused where memory ran out.
+/// Appends words to text; refused if memory ran out.
 fn push(text: &mut Vec<u32>, words: Words) -> Result<(), AllocError>
     ensures { OnOk result (text.new.items ≡ text.old.items ++ shown_words words) }
 {
@@ -117,7 +117,7 @@ fn push(text: &mut Vec<u32>, words: Words) -> Result<(), AllocError>
     }
 }
 
-/// Appends the words of a statement; UnknownLabel, LabelRange, or Memory where memory ran out.
+/// Appends the words of a statement; UnknownLabel, LabelRange, or Memory if memory ran out.
 fn add_words(
     text: &mut Vec<u32>,
     labels: &IndexMap<&[u8], u32>,
@@ -135,7 +135,7 @@ pub fn words_of(
     labels: &IndexMap<&[u8], u32>,
     items: &[Item<'_>],
 ) -> Result<Vec<u32>, AsmError>
-    ensures { Reads (λ text. text.items) result (words_of (shown_labels labels.now.entries) (map shown_item items.now)) }
+    ensures { ReadsLines (λ text. text.items) result (item_words (shown_labels labels.now.entries) (map shown_item items.now)) }
 {
     let mut text = Vec::new(alloc);
     for item in items {

@@ -1,7 +1,8 @@
--- What a session that was asked answers.
+-- What a session answers when it is asked.
 use Rattle.std.proofs.Common.{◌≡◌, ℕ, List, Bool, false, cond, length, nat_lt, Option, Some, None, refl, sym, ap, subst}
+use Rattle.rv_ledger.specs.Height.{greatest_height}
 use Rattle.rvstm_c.specs.Settings.{most_number}
-use Rattle.session_requests.specs.Requests.{Ask, Begin, Dump, ◌>>=◌, digest_of, greatest_height}
+use Rattle.session_requests.specs.Requests.{Ask, Begin, Dump, ◌>>=◌, digest_of}
 use Rattle.session_turns.specs.Failures.{MayTurnFail}
 use Rattle.session_turns.specs.Replies.{Done}
 use Rattle.session_turns.specs.Stages.{IsTurn}
@@ -15,7 +16,7 @@ use Rattle.rvstm_c.specs.Embedding.{IsCalled, TakesTurn}
 use Rattle.rvstm_c.specs.Given.{IsMadeWhole}
 use Rattle.rvstm_c.specs.declared.session.EmbeddedSession.{EmbeddedSession}
 
--- the text of the storage, in memory, is as good as its answer
+-- the text of the storage in memory answers a `dump` as the storage does
 whole_dump : (settings : Settings) (s : State) (buffer : EmptyBuffer) (whole : Answer) → IsMadeWhole s (answer.Storage buffer) whole → IsTurn settings s Dump whole s
 whole_dump settings s buffer (answer.Done bytes) made = (ap Done made, refl)
 whole_dump settings s buffer (answer.Failed failure) made = (subst (MayTurnFail settings s Dump) (sym made) tt, refl)
@@ -33,7 +34,7 @@ whole_turn settings s after ask answer.Last whole turned made = subst (λ (a : A
 whole_turn settings s after ask (answer.Refused refusal) whole turned made = subst (λ (a : Answer). IsTurn settings s ask a after) (sym made) turned
 whole_turn settings s after ask (answer.Failed failure) whole turned made = subst (λ (a : Answer). IsTurn settings s ask a after) (sym made) turned
 
--- a request that a line may have, by a test that it passed
+-- a request that passed the test for what a line may have
 pub asked : (b : Bool) (ask : Ask) (before : EmbeddedSession) (status : ℕ) (after : EmbeddedSession) → b ≡ false → TakesTurn ask before status after → IsCalled (cond b None (Some ask)) before status after
 asked b ask before status after passed done = subst (λ (b : Bool). IsCalled (cond b None (Some ask)) before status after) (sym passed) done
 

@@ -1,4 +1,4 @@
--- What a call on a handle comes to.
+-- What a call on a handle does.
 use Rattle.std.proofs.Common.{◌≡◌, ℕ, Option, Some, subst}
 use Rattle.rvstm_c.specs.Embedding.{OnSession}
 use Rattle.rvstm_c.specs.declared.session.EmbeddedSession.{EmbeddedSession}

@@ -30,7 +30,7 @@ Z = heap.the_row
 abbrev pub Hd : RattleType
 Hd = handle.the_row
 
--- what is in a full one
+-- a family of types that separates true from false
 abbrev Differs : Bool → Type 0
 Differs true = ⊥
 Differs false = Unit {0}
@@ -39,7 +39,7 @@ pub some_of : {X : Type 0} (v : Option X) → IsSome v → (x : X) × (v ≡ Som
 some_of (Some x) full = (x, refl)
 some_of None full = absurd (subst Differs full tt)
 
--- its machine value
+-- the machine value of a handle
 abbrev pub word : Ptr → Bool → Val
 word p t = vstruct (vcons (ptr_val p) (vcons (vbool t) vnil))
 
@@ -51,7 +51,7 @@ module _ {M : Type 1} {𝓤 : Ura M} {𝓛 : Logic 𝓤} {K : Type 0} {Γ : List
       subst (λ (bs : List Val). vs ≡ vstruct (of_list (ptr_val d.at ∷ (bs ++ []))) ∷ []) eb
       (subst (λ (ps : List Val). vs ≡ vstruct (of_list (ps ++ (vss.1.0 ++ []))) ∷ []) ep ev))))))
 
-  -- a full one: the box, and the pointer's block
+  -- a full handle: the box, and the pointer's block
   pub handle_out : K → (d : Hd.Denot) (x : R.Denot) → d.value ≡ Some x → (vs : List Val)
       → ((b o : ℕ) → d.at ≡ block_ptr b o → vs ≡ word d.at d.full ∷ [] → Seq K 𝓛 (‵ (box_owns on_heap R (block_ptr b o) x) ∷ Γ) G)
       → Seq K 𝓛 (‵ (Hd.own_val d vs) ∷ Γ) G

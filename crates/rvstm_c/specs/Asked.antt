@@ -1,13 +1,14 @@
--- What a call asks for; None where no line has such a form.
+-- What a call asks for, or None if no line has such a form.
 use Rattle.std.specs.Prelude.{ℕ, nat_le, nat_lt, ◌&&◌, List, length, Option, Some, None, if◌then◌else◌}
+use Rattle.rv_ledger.specs.Height.{greatest_height}
 use Rattle.rvstm_c.specs.Settings.{most_number}
-use Rattle.session_requests.specs.Requests.{Ask, Begin, ListEntries, ◌>>=◌, digest_of, greatest_height, hex_name_of}
+use Rattle.session_requests.specs.Requests.{Ask, Begin, ListEntries, ◌>>=◌, digest_of, hex_name_of}
 
--- a request with bytes, of which a line can say how many they are
+-- a request with bytes, if a line can give their number
 abbrev pub with_bytes : List ℕ → Ask → Option Ask
 with_bytes bytes ask = if nat_lt most_number (length bytes) then None else Some ask
 
--- a request that names a program or a key, by 64 digits
+-- a request that names a program or a key by 64 digits
 abbrev pub with_name : (List ℕ → Ask) → List ℕ → Option Ask
 with_name ask text = hex_name_of text >>= (λ name. Some (ask name))
 

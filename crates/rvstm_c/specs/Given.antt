@@ -1,4 +1,4 @@
--- What the last request of a session was answered.
+-- The answer to the last request of a session.
 use Rattle.std.specs.Prelude.{◌≡◌, ℕ, Bool, true, false, List, []}
 use Rattle.session_turns.specs.Replies.{answer_bytes}
 use Rattle.session_turns.specs.Stages.{reply_in}
@@ -16,17 +16,18 @@ abbrev pub is_in_memory : Given → Bool
 is_in_memory (Answered (answer.Storage buffer)) = false
 is_in_memory other = true
 
--- what the call answered
+-- what the call returned
 abbrev pub status_given : State → Given → ℕ
 status_given s (Answered given) = status_of (reply_in s given)
 status_given s BadLine = refused
 
--- the bytes behind the answer's line
+-- the bytes after the answer's line
 abbrev pub bytes_given : State → Given → List ℕ
 bytes_given s (Answered given) = answer_bytes (reply_in s given)
 bytes_given s BadLine = []
 
--- an answer in the place of another one: the text of a storage, in memory, or memory for that ran out; else the same
+-- an answer in the place of another one: for a storage its text in memory, or the failure that memory for it ran out; otherwise
+-- the same answer
 abbrev pub IsMadeWhole : State → Answer → Answer → Type 0
 IsMadeWhole s (answer.Storage buffer) (answer.Done bytes) = bytes.items ≡ dump_text s.rules s.store
 IsMadeWhole s (answer.Storage buffer) (answer.Failed failure) = failure ≡ want.Answer

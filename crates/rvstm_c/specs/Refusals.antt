@@ -1,4 +1,4 @@
--- The parts of a refusal or a failure, as C is handed them.
+-- The parts of a refusal or a failure, as C gets them.
 use Rattle.std.specs.Prelude.{◌≡◌, ℕ, List, ◌++◌, ◌-◌, codes, length, replicate, Option, Some, None}
 use Rattle.byte_streams.specs.Refusals.{Parts, without_line}
 use Rattle.session_turns.specs.Replies.{TurnReply, Done, Refused, Failed, frame_refusal_parts, parts_of_failure}
@@ -11,7 +11,7 @@ use Rattle.rvstm_c.specs.declared.given.Given.TheVariants.{Answered, BadLine}
 use Rattle.rvstm_c.specs.declared.refusal.RefusalParts.{RefusalParts}
 use Rattle.rvstm_c.specs.declared.session.EmbeddedSession.{EmbeddedSession}
 
--- a text, and zeros behind it up to a length
+-- a text, and zeros after it up to a length
 abbrev pub padded : ℕ → List ℕ → List ℕ
 padded room text = text ++ replicate (room - length text) 0
 
@@ -29,7 +29,7 @@ handed_out parts = record {
   name = padded 24 parts.name;
 }
 
--- zeros, where nothing was refused and nothing failed
+-- zeros, if nothing was refused and nothing failed
 abbrev pub no_parts : RefusalParts
 no_parts = record { line = 0; number = 0; area = replicate 8 0; name = replicate 24 0 }
 
@@ -39,12 +39,12 @@ parts_of_reply (Done bytes) = no_parts
 parts_of_reply (Refused refusal) = handed_out (frame_refusal_parts refusal)
 parts_of_reply (Failed failure) = handed_out (parts_of_failure failure)
 
--- the parts of what the last request was answered
+-- the parts of the answer to the last request
 abbrev pub parts_given : State → Given → RefusalParts
 parts_given s (Answered given) = parts_of_reply (reply_in s given)
 parts_given s BadLine = handed_out (without_line (codes "request") (codes "BadLine") 1)
 
--- those of the last answer of a handle's session were handed out
+-- the parts of the last answer of a handle's session were handed out
 abbrev pub ArePartsOf : Option EmbeddedSession → ℕ → RefusalParts → Type 0
 ArePartsOf None status parts = (status ≡ closed) × (parts ≡ no_parts)
 ArePartsOf (Some session) status parts = (status ≡ status_given session.state session.given) × (parts ≡ parts_given session.state session.given)

@@ -5,11 +5,11 @@ use Rattle.session_requests.specs.Requests.{◌>>=◌}
 use Rattle.session_turns.specs.declared.settings.Settings.{Settings}
 use Rattle.rvstm_c.specs.declared.settings.SettingsForC.{SettingsForC}
 
--- those where none is given
+-- the settings if none are given
 abbrev pub usual_settings : Settings
 usual_settings = record { frame_limit = 67108864; frame_gas = None; keeps_digest = false; is_brief = false }
 
--- the greatest number that ten digits say, as those of a line do
+-- the greatest number of ten digits, which is the most that a line can give
 abbrev pub most_number : ℕ
 most_number = 9999999999
 
@@ -17,7 +17,7 @@ most_number = 9999999999
 abbrev pub number_of : ℕ → Option ℕ
 number_of number = if nat_le number most_number then Some number else None
 
--- a bound of the gas; 2^64 - 1 stands for none
+-- a bound of the gas; 2^64 - 1 stands for no bound
 abbrev pub gas_of : ℕ → Option (Option ℕ)
 gas_of number = if number == 18446744073709551615 then Some None else option_map Some (number_of number)
 

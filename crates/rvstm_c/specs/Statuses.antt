@@ -1,4 +1,4 @@
--- What a call answers.
+-- What a call returns.
 use Rattle.std.specs.Prelude.{ℕ}
 use Rattle.session_turns.specs.Replies.{TurnReply, Done, Refused, Failed}
 
@@ -34,7 +34,7 @@ short_buffer = 6
 abbrev pub bad_settings : ℕ
 bad_settings = 7
 
--- what a call answers whose request is answered so
+-- what a call returns if its request has this reply
 abbrev pub status_of : TurnReply → ℕ
 status_of (Done bytes) = done
 status_of (Refused refusal) = refused

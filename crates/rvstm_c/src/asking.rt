@@ -78,7 +78,7 @@ impl EmbeddedSession {
         self.keep(alloc, answer)
     }
 
-    /// Gives back a program. Returns the status.
+    /// Frees a program. Returns the status.
     pub(crate) fn forget(&mut self, alloc: Global, name: &[u8]) -> u32
         ensures { IsCalled (with_name Forget name.now) self.old result self.new }
     {
@@ -88,7 +88,7 @@ impl EmbeddedSession {
         }
     }
 
-    /// Tells what the storage has at a key. Returns the status.
+    /// Reports what the storage has at a key. Returns the status.
     pub(crate) fn get(&mut self, alloc: Global, key: &[u8]) -> u32
         ensures { IsCalled (with_name Get key.now) self.old result self.new }
     {
@@ -98,7 +98,7 @@ impl EmbeddedSession {
         }
     }
 
-    /// Tells the first entries from a key on. Returns the status.
+    /// Lists the first entries from a key on. Returns the status.
     pub(crate) fn list(&mut self, alloc: Global, from: &[u8], count: u64) -> u32
         ensures { IsCalled (list_asked from.now count) self.old result self.new }
     {
@@ -111,28 +111,28 @@ impl EmbeddedSession {
         self.take(alloc, &Request::List(from, count))
     }
 
-    /// Tells the names of the programs. Returns the status.
+    /// Lists the names of the programs. Returns the status.
     pub(crate) fn programs(&mut self, alloc: Global) -> u32
         ensures { TakesTurn Programs self.old result self.new }
     {
         self.take(alloc, &Request::Programs)
     }
 
-    /// Tells its counts and settings. Returns the status.
+    /// Reports its counts and settings. Returns the status.
     pub(crate) fn tell_state(&mut self, alloc: Global) -> u32
         ensures { TakesTurn AskState self.old result self.new }
     {
         self.take(alloc, &Request::State)
     }
 
-    /// Tells what the last frame that counts was answered. Returns the status.
+    /// Repeats the answer to the last frame that counts. Returns the status.
     pub(crate) fn tell_last(&mut self, alloc: Global) -> u32
         ensures { TakesTurn Last self.old result self.new }
     {
         self.take(alloc, &Request::Last)
     }
 
-    /// Tells the whole storage. Returns the status.
+    /// Dumps the whole storage. Returns the status.
     pub(crate) fn dump(&mut self, alloc: Global) -> u32
         ensures { TakesTurn Dump self.old result self.new }
     {
@@ -157,7 +157,7 @@ impl EmbeddedSession {
         status_of(&self.state, &self.given)
     }
 
-    /// Refuses what no line says. Returns the status.
+    /// Refuses what no line can say. Returns the status.
     fn refuse_line(&mut self) -> u32
         ensures { IsCalled None self.old result self.new }
     {

@@ -1,13 +1,14 @@
-//! What a call is given, as the fields of a line.
+//! The arguments of a call, as the fields of a line.
 
 ghost use Rattle.std.specs.Prelude.{◌≡◌, ◌&&◌, length, nat_le, nat_lt};
+ghost use Rattle.rv_ledger.specs.Height.{greatest_height};
 ghost use Rattle.rvstm_c.specs.Settings.{most_number};
-ghost use Rattle.session_requests.specs.Requests.{digest_of, greatest_height, hex_name_of};
+ghost use Rattle.session_requests.specs.Requests.{digest_of, hex_name_of};
 
 use block_file::fields::key;
-use session_requests::GREATEST_HEIGHT;
+use rv_ledger::GREATEST_HEIGHT;
 
-/// The greatest number that ten digits say: no length or setting is greater.
+/// The greatest number of ten digits. No length is greater, and no setting but the number that stands for no bound.
 pub(crate) const MOST_NUMBER: u64 = 9_999_999_999;
 
 /// The 32 bytes that 64 lower-case hex digits give. None for any other text.
@@ -17,7 +18,7 @@ pub(crate) fn name_of(text: &[u8]) -> Option<[u8; 32]>
     Some(*key(text).ok()?.bytes())
 }
 
-/// A digest in 64 digits, or `-` where there is none. None for any other text.
+/// A digest in 64 digits, or `-` if there is none. None for any other text.
 pub(crate) fn digest_of(text: &[u8]) -> Option<Option<[u8; 32]>>
     ensures { result ≡ digest_of text.now }
 {
@@ -30,7 +31,7 @@ pub(crate) fn digest_of(text: &[u8]) -> Option<Option<[u8; 32]>>
     }
 }
 
-/// Whether bytes are more than a line can say: 9,999,999,999.
+/// Whether there are more bytes than a line can say: 9,999,999,999.
 pub(crate) fn is_long(bytes: &[u8]) -> bool
     ensures { result ≡ nat_lt most_number (length bytes.now) }
 {

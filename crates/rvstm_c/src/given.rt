@@ -1,4 +1,4 @@
-//! What the last request of a session was answered.
+//! The answer to the last request of a session.
 
 ghost use Rattle.std.specs.Prelude.{◌≡◌};
 ghost use Rattle.session_turns.specs.Replies.{answer_bytes};
@@ -10,16 +10,16 @@ use crate::session::EmbeddedSession;
 use crate::status::{DONE, FAILED, REFUSED};
 use session_turns::{Answer, KeptAnswer, State, bytes_of_kept};
 
-/// What the last request of a session was answered.
+/// The answer to the last request of a session.
 #[derive(Drop)]
 pub enum Given {
     /// A request that a line may have. Its answer is in memory.
     Answered(Answer),
-    /// None: no line has such a form. It is refused, and changed nothing.
+    /// No answer of a session: no line has such a form. The request is refused, and changed nothing.
     BadLine,
 }
 
-/// What a call answers after which this is what was answered.
+/// What the call returns whose answer this is.
 pub(crate) fn status_of(state: &State, given: &Given) -> u32
     ensures { result ≡ status_given state.now given.now }
 {
@@ -31,7 +31,7 @@ pub(crate) fn status_of(state: &State, given: &Given) -> u32
     }
 }
 
-/// The same of the answer that is kept of a frame.
+/// The same for the answer that is kept of a frame.
 fn status_of_last(last: &Option<KeptAnswer>) -> u32
     ensures { result ≡ status_of (last_reply last.now) }
 {
@@ -44,7 +44,7 @@ fn status_of_last(last: &Option<KeptAnswer>) -> u32
     }
 }
 
-/// The bytes behind the line of what was answered.
+/// The bytes after the line of the answer.
 pub(crate) fn bytes_of(session: &EmbeddedSession) -> &[u8]
     ensures { result.now ≡ bytes_given session.now.state session.now.given }
 {
@@ -56,7 +56,7 @@ pub(crate) fn bytes_of(session: &EmbeddedSession) -> &[u8]
     }
 }
 
-/// The same of the answer that is kept of a frame.
+/// The same for the answer that is kept of a frame.
 fn bytes_of_last(last: &Option<KeptAnswer>) -> &[u8]
     ensures { result.now ≡ answer_bytes (last_reply last.now) }
 {

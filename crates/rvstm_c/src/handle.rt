@@ -61,7 +61,7 @@ fn put(handle: &mut Handle, session: Loose<EmbeddedSession, Global>)
     handle.full = true;
 }
 
-/// Takes the session out of a handle; None where it has none.
+/// Takes the session out of a handle, or returns None if it has none.
 pub(crate) fn take_session(handle: &mut Handle, alloc: Global) -> Option<Box<EmbeddedSession>>
     ensures taken { option_map (λ session. session.value) result ≡ handle.old.value }
     ensures left { handle.new.value ≡ None }

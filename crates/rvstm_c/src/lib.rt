@@ -1,4 +1,4 @@
-//! Sessions of blocks, for C. `include/rvstm.h` says what a caller has to uphold.
+//! Sessions of blocks, for C. `include/rvstm.h` says what a caller must ensure.
 #![tactic(auto)]
 
 mod asking;
@@ -50,7 +50,7 @@ pub extern "C" fn rvstm_version() -> u32
 }
 
 /// Opens a session with the usual settings: frames of at most 64 MiB, gas without a bound, no digest, receipts with registers.
-/// DONE; ALREADY_OPEN where the handle has one, which stays; NO_MEMORY, and then it has none.
+/// DONE; ALREADY_OPEN if the handle has one, which stays; NO_MEMORY, and then it has none.
 #[unsafe(no_mangle)]
 pub extern "C" fn rvstm_open(alloc: Global, handle: &mut Handle) -> u32
     ensures { IsOpened (Some usual_settings) handle.old.value result handle.new.value }
@@ -64,8 +64,8 @@ pub extern "C" fn rvstm_open(alloc: Global, handle: &mut Handle) -> u32
     }
 }
 
-/// Opens a session with settings. DONE; ALREADY_OPEN where the handle has one, which stays; BAD_SETTINGS where a number is too
-/// great, or NO_MEMORY, and then it has none.
+/// Opens a session with settings. DONE; ALREADY_OPEN if the handle has one, which stays; BAD_SETTINGS if a number is too great,
+/// or NO_MEMORY, and then it has none.
 #[unsafe(no_mangle)]
 pub extern "C" fn rvstm_open_with(
     alloc: Global,
@@ -86,7 +86,7 @@ pub extern "C" fn rvstm_open_with(
     }
 }
 
-/// Opens a session where the handle has none. DONE, or NO_MEMORY.
+/// Opens a session if the handle has none. DONE, or NO_MEMORY.
 fn open_new(alloc: Global, handle: &mut Handle, settings: Settings) -> u32
     requires { handle.old.value ≡ None }
     ensures { IsOpened (Some settings) None result handle.new.value }
@@ -100,8 +100,8 @@ fn open_new(alloc: Global, handle: &mut Handle, settings: Settings) -> u32
     }
 }
 
-/// Hands in a program: the bytes of its file. The answer is its name, the SHA-256 of the file in 64 digits, and a line feed. DONE,
-/// also where it is here already; REFUSED where the file is no program or has more than 131,072 bytes; FAILED; CLOSED.
+/// Hands in a program: the bytes of its file. The answer is its name, the SHA-256 of the file in 64 digits, and a line feed.
+/// DONE, also if it is here already; REFUSED if the file is no program or has more than 131,072 bytes; FAILED; CLOSED.
 #[unsafe(no_mangle)]
 pub extern "C" fn rvstm_program(alloc: Global, handle: &mut Handle, file: &[u8]) -> u32
     ensures { OnSession (IsCalled (with_bytes file.now (Program file.now))) handle.old.value result handle.new.value }
@@ -114,8 +114,8 @@ pub extern "C" fn rvstm_program(alloc: Global, handle: &mut Handle, file: &[u8])
     status
 }
 
-/// Gives back the program of a name, 64 lower-case hex digits. DONE; REFUSED where none of that name is here, or the name is
-/// none; CLOSED.
+/// Frees the program of a name, 64 lower-case hex digits. DONE; REFUSED if no program of that name is here, or if the name has
+/// another form; CLOSED.
 #[unsafe(no_mangle)]
 pub extern "C" fn rvstm_forget(alloc: Global, handle: &mut Handle, name: &[u8]) -> u32
     ensures { OnSession (IsCalled (with_name Forget name.now)) handle.old.value result handle.new.value }
@@ -128,7 +128,7 @@ pub extern "C" fn rvstm_forget(alloc: Global, handle: &mut Handle, name: &[u8]) 
     status
 }
 
-/// Tells the names of the programs, ascending, a line each. DONE; FAILED; CLOSED.
+/// Lists the names of the programs, ascending, a line each. DONE; FAILED; CLOSED.
 #[unsafe(no_mangle)]
 pub extern "C" fn rvstm_programs(alloc: Global, handle: &mut Handle) -> u32
     ensures { OnSession (IsCalled (Some Programs)) handle.old.value result handle.new.value }
@@ -168,7 +168,7 @@ pub extern "C" fn rvstm_try(alloc: Global, handle: &mut Handle, block: &[u8]) ->
     status
 }
 
-/// Tells what the last frame that counts was answered. DONE; REFUSED where it was refused, or none was answered yet; CLOSED.
+/// Repeats the answer to the last frame that counts. DONE; REFUSED if it was refused, or if none was answered yet; CLOSED.
 #[unsafe(no_mangle)]
 pub extern "C" fn rvstm_last(alloc: Global, handle: &mut Handle) -> u32
     ensures { OnSession (IsCalled (Some Last)) handle.old.value result handle.new.value }
@@ -181,7 +181,7 @@ pub extern "C" fn rvstm_last(alloc: Global, handle: &mut Handle) -> u32
     status
 }
 
-/// Tells what the storage has at a key, 64 lower-case hex digits. DONE; REFUSED where the key is none; FAILED; CLOSED.
+/// Reports what the storage has at a key, 64 lower-case hex digits. DONE; REFUSED if the key has another form; FAILED; CLOSED.
 #[unsafe(no_mangle)]
 pub extern "C" fn rvstm_get(alloc: Global, handle: &mut Handle, key: &[u8]) -> u32
     ensures { OnSession (IsCalled (with_name Get key.now)) handle.old.value result handle.new.value }
@@ -194,8 +194,8 @@ pub extern "C" fn rvstm_get(alloc: Global, handle: &mut Handle, key: &[u8]) -> u
     status
 }
 
-/// Tells the first entries from a key on, itself included: `count` at most, 1 to 1,024. DONE; REFUSED where the key or the count
-/// is none; FAILED; CLOSED.
+/// Lists the first entries from a key on, itself included: `count` at most, 1 to 1,024. DONE; REFUSED if the key has another form
+/// or the count is out of range; FAILED; CLOSED.
 #[unsafe(no_mangle)]
 pub extern "C" fn rvstm_list(alloc: Global, handle: &mut Handle, from: &[u8], count: u64) -> u32
     ensures { OnSession (IsCalled (list_asked from.now count)) handle.old.value result handle.new.value }
@@ -208,7 +208,7 @@ pub extern "C" fn rvstm_list(alloc: Global, handle: &mut Handle, from: &[u8], co
     status
 }
 
-/// Tells the whole storage, as a block file of the session's rules. DONE; FAILED; CLOSED.
+/// Dumps the whole storage, as a block file of the session's rules. DONE; FAILED; CLOSED.
 #[unsafe(no_mangle)]
 pub extern "C" fn rvstm_dump(alloc: Global, handle: &mut Handle) -> u32
     ensures { OnSession (IsCalled (Some Dump)) handle.old.value result handle.new.value }
@@ -222,7 +222,7 @@ pub extern "C" fn rvstm_dump(alloc: Global, handle: &mut Handle) -> u32
 }
 
 /// Puts a storage, its rules, a height and a digest in the place of the session's: a block file without programs and calls, a
-/// height of at most 9,999,999,999, and a digest in 64 digits, or `-` where none is kept. DONE; REFUSED; FAILED; CLOSED.
+/// height of at most 9,999,999,999, and a digest in 64 digits, or `-` if none is kept. DONE; REFUSED; FAILED; CLOSED.
 #[unsafe(no_mangle)]
 pub extern "C" fn rvstm_begin(
     alloc: Global,
@@ -241,7 +241,7 @@ pub extern "C" fn rvstm_begin(
     status
 }
 
-/// Tells the session's counts and settings, a line each. DONE; FAILED; CLOSED.
+/// Reports the session's counts and settings, a line each. DONE; FAILED; CLOSED.
 #[unsafe(no_mangle)]
 pub extern "C" fn rvstm_state(alloc: Global, handle: &mut Handle) -> u32
     ensures { OnSession (IsCalled (Some State)) handle.old.value result handle.new.value }
@@ -254,8 +254,8 @@ pub extern "C" fn rvstm_state(alloc: Global, handle: &mut Handle) -> u32
     status
 }
 
-/// The length of the answer to the last request, in bytes behind its line; 0 where there was none, where it was refused or
-/// failed, and where the handle has no session.
+/// The length of the answer to the last request, in bytes after its line. It is 0 if there was no request, if it was refused or
+/// failed, or if the handle has no session.
 #[unsafe(no_mangle)]
 pub extern "C" fn rvstm_answer_length(alloc: Global, handle: &mut Handle) -> usize
     ensures same { handle.new.value ≡ handle.old.value }
@@ -269,7 +269,7 @@ pub extern "C" fn rvstm_answer_length(alloc: Global, handle: &mut Handle) -> usi
     length
 }
 
-/// Copies the answer to the last request, the bytes behind its line, to the beginning of a buffer. DONE; SHORT_BUFFER, and then
+/// Copies the answer to the last request, the bytes after its line, to the beginning of a buffer. DONE; SHORT_BUFFER, and then
 /// the buffer is as it was; CLOSED.
 #[unsafe(no_mangle)]
 pub extern "C" fn rvstm_answer(alloc: Global, handle: &mut Handle, buffer: &mut [u8]) -> u32
@@ -284,8 +284,8 @@ pub extern "C" fn rvstm_answer(alloc: Global, handle: &mut Handle, buffer: &mut 
     status
 }
 
-/// The parts of the refusal or failure that is the answer to the last request; zeros where it is neither. DONE, REFUSED, FAILED
-/// or CLOSED.
+/// The parts of the refusal or failure that is the answer to the last request; zeros if it is neither. DONE, REFUSED, FAILED or
+/// CLOSED.
 #[unsafe(no_mangle)]
 pub extern "C" fn rvstm_refusal(alloc: Global, handle: &mut Handle, parts: &mut RefusalParts) -> u32
     ensures same { handle.new.value ≡ handle.old.value }

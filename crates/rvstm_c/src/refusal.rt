@@ -1,4 +1,4 @@
-//! The parts of a refusal or a failure, as C is handed them.
+//! The parts of a refusal or a failure, as C gets them.
 
 ghost use Rattle.std.specs.Prelude.{◌≡◌, ◌≤◌, length};
 ghost use Rattle.byte_streams.specs.Refusals.{parts_in};
@@ -15,21 +15,21 @@ const AREA_ROOM: usize = 8;
 /// The room for a name, in bytes: no name has more than 16.
 const NAME_ROOM: usize = 24;
 
-/// The parts of a refusal or a failure; zeros where a request is done.
+/// The parts of a refusal or a failure; zeros if a request is done.
 #[repr(C)]
 #[derive(Clone, Copy)]
 pub struct RefusalParts {
-    /// The number of the block's line, from 1; 0 where there is none.
+    /// The number of the block's line, from 1; 0 if there is none.
     pub line: usize,
     /// The number within the area, from 1.
     pub number: u32,
-    /// The area, and zeros behind it.
+    /// The area, and zeros after it.
     pub area: [u8; AREA_ROOM],
-    /// The name, and zeros behind it.
+    /// The name, and zeros after it.
     pub name: [u8; NAME_ROOM],
 }
 
-/// What is handed out where a request is done.
+/// What is handed out if a request is done.
 pub(crate) const NO_PARTS: RefusalParts = RefusalParts {
     line: 0,
     number: 0,
@@ -37,7 +37,7 @@ pub(crate) const NO_PARTS: RefusalParts = RefusalParts {
     name: [0; NAME_ROOM],
 };
 
-/// The parts of what the last request was answered.
+/// The parts of the answer to the last request.
 pub(crate) fn parts_of(state: &State, given: &Given) -> RefusalParts
     ensures { result ≡ parts_given state.now given.now }
 {
@@ -50,7 +50,7 @@ pub(crate) fn parts_of(state: &State, given: &Given) -> RefusalParts
     }
 }
 
-/// The same of the answer that is kept of a frame.
+/// The same for the answer that is kept of a frame.
 fn parts_of_last(last: &Option<KeptAnswer>) -> RefusalParts
     ensures { result ≡ parts_of_reply (last_reply last.now) }
 {
@@ -75,7 +75,7 @@ fn handed_out(parts: LineParts) -> RefusalParts
     }
 }
 
-/// A text, and zeros behind it.
+/// A text, and zeros after it.
 fn padded<const ROOM: usize>(text: &str) -> [u8; ROOM]
     requires { length text.now ≤ ROOM }
     ensures { result ≡ padded ROOM text.now }

@@ -13,7 +13,7 @@ pub struct EmbeddedSession {
     pub settings: Settings,
     /// What its requests left.
     pub state: State,
-    /// What the last one was answered.
+    /// The answer to the last one.
     pub given: Given,
     ghost in_memory: { is_in_memory given ≡ true },
 }

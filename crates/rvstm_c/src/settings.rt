@@ -6,7 +6,7 @@ ghost use Rattle.rvstm_c.specs.Settings.{gas_of, number_of, settings_of};
 use crate::fields::MOST_NUMBER;
 use session_turns::Settings;
 
-/// What stands for a bound that is none.
+/// The number that stands for no bound.
 const NO_LIMIT: u64 = u64::MAX;
 
 /// What a session is opened with, as C hands it over.
@@ -15,7 +15,7 @@ const NO_LIMIT: u64 = u64::MAX;
 pub struct SettingsForC {
     /// The greatest length of a frame, in bytes: at most 9,999,999,999.
     pub frame_limit: u64,
-    /// The greatest sum of the gas limits of a frame's calls: at most 9,999,999,999, or 2^64 - 1 where it has no bound.
+    /// The greatest sum of the gas limits of a frame's calls: at most 9,999,999,999, or 2^64 - 1 if it has no bound.
     pub frame_gas: u64,
     /// Whether a digest of the answers is kept.
     pub digest: bool,
@@ -23,7 +23,7 @@ pub struct SettingsForC {
     pub brief: bool,
 }
 
-/// The settings of a session; None where a number is too great.
+/// The settings of a session, or None if a number is too great.
 pub(crate) fn settings_of(given: SettingsForC) -> Option<Settings>
     ensures { result ≡ settings_of given }
 {
@@ -37,7 +37,7 @@ pub(crate) fn settings_of(given: SettingsForC) -> Option<Settings>
     })
 }
 
-/// A number of at most 9,999,999,999; None for another one.
+/// A number of at most 9,999,999,999, or None for a greater one.
 fn number_of(number: u64) -> Option<u64>
     ensures { result ≡ number_of number }
 {
@@ -47,7 +47,7 @@ fn number_of(number: u64) -> Option<u64>
     None
 }
 
-/// A bound of the gas, which may be none; None for a number that is too great.
+/// A bound of the gas, which may be none, or None for a number that is too great.
 fn gas_of(number: u64) -> Option<Option<u64>>
     ensures { result ≡ gas_of number }
 {

@@ -1,4 +1,4 @@
-//! What a call answers.
+//! What a call returns.
 
 /// It was done.
 pub const DONE: u32 = 0;

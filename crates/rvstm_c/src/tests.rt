@@ -1,4 +1,4 @@
-//! Sessions by the calls that C makes. They stand here, since no crate can depend on a static library.
+//! Sessions by the calls that C makes. They are here, since no crate can depend on a static library.
 
 mod calling;
 mod rows;
@@ -13,7 +13,7 @@ use rows::{
 use std::alloc::Global;
 use std::process::Abort;
 
-/// Asserts that all calls on a handle are answered as they have to be.
+/// Asserts that all calls on a handle are answered as they must be.
 fn assert_answered(rt: &impl Abort, alloc: Global, handle: &mut Handle, steps: &[Step]) {
     let count = count_right(alloc, handle, steps);
     assert!(rt; count == steps.len(), "call {count}");

@@ -10,7 +10,7 @@ use rv_ledger::{Rules, Store};
 use session_turns::{Answer, EmptyBuffer, Failure, State, dump_length, write_dump};
 use std::alloc::{AllocError, Global};
 
-/// An answer with its bytes in memory: that of a storage is made a text. It fails where memory for that runs out.
+/// An answer with its bytes in memory: that of a storage becomes a text. Fails if memory for that runs out.
 pub(crate) fn made_whole(alloc: Global, state: &State, answer: Answer) -> Answer
     ensures memory { is_in_memory (Answered result) ≡ true }
     ensures same { IsMadeWhole state.now answer result }
@@ -29,7 +29,7 @@ pub(crate) fn made_whole(alloc: Global, state: &State, answer: Answer) -> Answer
     }
 }
 
-/// The text of a storage; refused where memory ran out.
+/// The text of a storage. Refused if memory ran out.
 fn text_of_storage(
     alloc: Global,
     buffer: EmptyBuffer,

@@ -12,7 +12,7 @@ use Rattle.scheduler.specs.Schedule.{Schedule, schedule_of}
 
 -- ---- the calls in turn
 
--- the element that a loop comes to, which writes f x over each element x, is the old one
+-- a loop writes f x over each element x: the element that it reaches is the old one
 pub untouched : {X : Type 0} (f : X → X) (xs ys : List X) (i : ℕ) (x : X) → i < length xs → ys ≡ map f (take i xs) ++ drop i xs → x ≡ get_or ys i x → x ≡ get_or xs i x
 untouched f xs ys i x lt h is =
     let long : length (map f (take i xs)) ≡ i = length-map (take i xs) f ∙ omega (arith, length-take i xs) in
@@ -53,12 +53,12 @@ kept_by : (b : Bool) (call : CallState) (j : ℕ) → (if b then next_incarnatio
 kept_by true call j h = cc
 kept_by false call j h = h
 
--- a call that names one names it before
+-- a call that names one afterwards named it before
 named_before : (on : ℕ) (calls : List CallState) (i j : ℕ) → (get_or (map (resume_if_parked on) calls) i fresh).parked ≡ Some j → (get_or calls i fresh).parked ≡ Some j
 named_before on calls i j h =
     kept_by (is_parked_on on (get_or calls i fresh)) (get_or calls i fresh) j (ap (λ (c : CallState). c.parked) (sym (get_or-map (resume_if_parked on) calls i fresh)) ∙ h)
 
--- the flag of a call goes down where no call names it still
+-- the flag of a call goes down if no call names it any more
 pub awaited_resumed : (on at : ℕ) (calls new : List CallState) (awaited : List Bool) (named : Bool) → at ≡ on → at < length calls → new ≡ map (resume_if_parked on) calls → IsAwaited calls awaited
     → ((i : ℕ) → (get_or new i fresh).parked ≡ Some on → named ≡ true) → IsAwaited new (set awaited at named)
 awaited_resumed on at calls new awaited named is lt e old left = record {
@@ -94,7 +94,7 @@ none_lower : (on x p : ℕ) (calls : List CallState) → ((i : ℕ) → is_parke
 none_lower on x p [] h = refl
 none_lower on x p (c ∷ calls) h = rw (h 0) (none_lower on x (p + 1) calls (λ i. h (suc i)))
 
--- where none is parked on a call, to ready those changes nothing
+-- if none is parked on a call, readying those that are changes nothing
 pub none_resumed : (on : ℕ) (calls : List CallState) (execution validation key_room : ℕ) (workers : List WorkerState) (s : Schedule) → schedule_of calls execution validation key_room workers ≡ s
     → ((i : ℕ) → is_parked_on on (get_or calls i fresh) ≡ false)
     → schedule_of calls execution validation key_room workers ≡ record s { calls = map (resume_if_parked on) s.calls; execution = least_parked_call on s.execution 0 s.calls }

@@ -1,4 +1,4 @@
--- What each step comes to, by its tests.
+-- What each step does, by its tests.
 use Rattle.std.proofs.Common.{◌≡◌, ◌+◌, nat_lt, min, suc, ℕ, Bool, true, false, List, [], length, map, Some, None, refl, sym, subst, ap, ◌∙◌, add-one}
 use Rattle.std.specs.FinMap.{len}
 use Rattle.read_set.specs.declared.Read.{Read}
@@ -8,7 +8,7 @@ use Rattle.stm_state.specs.declared.state.Recorded.{Recorded}
 use Rattle.stm_state.specs.declared.state.Task.{Task}
 use Rattle.stm_state.specs.declared.state.Task.TheVariants.{Idle, Running, Moving, Validating, Marking}
 use Rattle.stm_state.specs.State.{State, call_at, with_call, with_task, is_executed, is_ready, is_done}
-use Rattle.stm_state.specs.Steps.{after_finish_abort, after_ask, ask_execution, ask_validation, after_check_read, after_decide, has_new_key, is_executed_at, keys_of, keys_to_move, least_parked_call, next_stands, after_park, next_incarnation, read_of, after_record, recorded_run, resume_if_parked, reads_of, to_validate, count_done, resume_dependents, written_by}
+use Rattle.stm_state.specs.Steps.{after_finish_abort, after_ask, ask_execution, ask_validation, after_check_read, after_decide, has_new_key, is_executed_at, keys_of, keys_to_move, least_parked_call, next_stands, after_park, next_incarnation, read_of, after_record, recorded_run, resume_if_parked, recorded_reads, to_validate, count_done, resume_dependents, written_by}
 
 module _ (w : ℕ) (s : State) where
   -- ask
@@ -24,13 +24,13 @@ module _ (w : ℕ) (s : State) where
   pub asked_nothing : is_done s ≡ false → nat_lt s.validation s.execution ≡ false → nat_lt s.execution (length s.calls) ≡ false → s ≡ after_ask w s
   asked_nothing e f g = rw (e, f, g) refl
 
-  validated_at : is_executed (call_at s s.validation).status ≡ true → with_task w (Validating s.validation (call_at s s.validation).incarnation (length (reads_of (call_at s s.validation).last)) false) (record s { validation = s.validation + 1 }) ≡ ask_validation w s
+  validated_at : is_executed (call_at s s.validation).status ≡ true → with_task w (Validating s.validation (call_at s s.validation).incarnation (length (recorded_reads (call_at s s.validation).last)) false) (record s { validation = s.validation + 1 }) ≡ ask_validation w s
   unfolding ask_validation
   validated_at e = rw e refl
 
-  pub validated : (i : ℕ) → i ≡ s.validation → is_executed (call_at s i).status ≡ true → with_task w (Validating i (call_at s i).incarnation (length (reads_of (call_at s i).last)) false) (record s { validation = s.validation + 1 }) ≡ ask_validation w s
+  pub validated : (i : ℕ) → i ≡ s.validation → is_executed (call_at s i).status ≡ true → with_task w (Validating i (call_at s i).incarnation (length (recorded_reads (call_at s i).last)) false) (record s { validation = s.validation + 1 }) ≡ ask_validation w s
   validated i e test =
-      ap (λ (j : ℕ). with_task w (Validating j (call_at s j).incarnation (length (reads_of (call_at s j).last)) false) (record s { validation = s.validation + 1 })) e
+      ap (λ (j : ℕ). with_task w (Validating j (call_at s j).incarnation (length (recorded_reads (call_at s j).last)) false) (record s { validation = s.validation + 1 })) e
       ∙ validated_at (ap (λ (j : ℕ). is_executed (call_at s j).status) (sym e) ∙ test)
 
   run_at : is_ready (call_at s s.execution).status ≡ true → with_task w (Running s.execution [] None) (with_call s.execution (record (call_at s s.execution) { status = Executing }) (record s { execution = s.execution + 1 })) ≡ ask_execution w s

@@ -6,7 +6,7 @@ use Rattle.stm_state.specs.declared.state.Status.TheVariants.{Executed}
 use Rattle.stm_state.specs.declared.state.Task.{Task}
 use Rattle.stm_state.specs.declared.state.Task.TheVariants.{Idle, Validating}
 use Rattle.stm_state.specs.State.{State, call_at, with_call, with_task, is_executed, is_ready, is_done}
-use Rattle.stm_state.specs.Steps.{counted, one_step, ask_validation, ask_execution, after_finish_execution, reads_of, least_parked_call, resume_if_parked, to_validate, resume_dependents}
+use Rattle.stm_state.specs.Steps.{counted, one_step, ask_validation, ask_execution, after_finish_execution, recorded_reads, least_parked_call, resume_if_parked, to_validate, resume_dependents}
 use Rattle.scheduler.proofs.Cases.{woken_is}
 
 module _ (add : Counts → Counts) (w : ℕ) where
@@ -41,18 +41,18 @@ module _ (add : Counts → Counts) (w : ℕ) where
   unfolding resume_dependents
   counted_waking i s = refl
 
-  -- a state where a call is EXECUTED
+  -- a state after a call became EXECUTED
   abbrev executed_in : ℕ → State → State
   executed_in i s = with_call i (record (call_at s i) { status = Executed }) s
 
-  counted_finish : (i : ℕ) (new : Bool) (task : Task) (s : State) → task ≡ Validating i (call_at s i).incarnation (length (reads_of (call_at s i).last)) false →
+  counted_finish : (i : ℕ) (new : Bool) (task : Task) (s : State) → task ≡ Validating i (call_at s i).incarnation (length (recorded_reads (call_at s i).last)) false →
       to_validate w i new task (resume_dependents i (with_call i (record (call_at s i) { status = Executed }) (counted add w s))) ≡ counted add w (after_finish_execution w i new s)
   counted_finish i new task s e =
       ap (to_validate w i new task) (counted_waking i (executed_in i s))
       ∙ counted_again i new task (resume_dependents i (executed_in i s))
       ∙ ap (λ (t : Task). counted add w (to_validate w i new t (resume_dependents i (executed_in i s)))) e
 
--- a task that the worker had before is nothing to what it gets
+-- the task that the worker had before changes nothing about what it gets
 again_over : (w i : ℕ) (new : Bool) (task before : Task) (s : State) → to_validate w i new task (with_task w before s) ≡ to_validate w i new task s
 unfolding to_validate
 again_over w i new task before s = rw (set-set s.tasks w before Idle, set-set s.tasks w before task) refl
@@ -65,7 +65,7 @@ finish_over w i new task before s = again_over w i new task before (record s { c
 pub all_finished : (w i : ℕ) (new : Bool) (task : Task) (before ended resumed : State)
     → ended ≡ with_task w Idle (with_call i (record (call_at before i) { status = Executed }) (counted one_step w before))
     → resumed ≡ record ended { calls = map (resume_if_parked i) ended.calls; execution = least_parked_call i ended.execution 0 ended.calls }
-    → task ≡ Validating i (call_at before i).incarnation (length (reads_of (call_at before i).last)) false → to_validate w i new task resumed ≡ counted one_step w (after_finish_execution w i new before)
+    → task ≡ Validating i (call_at before i).incarnation (length (recorded_reads (call_at before i).last)) false → to_validate w i new task resumed ≡ counted one_step w (after_finish_execution w i new before)
 all_finished w i new task before ended resumed e f g =
     let last : State = with_call i (record (call_at before i) { status = Executed }) (counted one_step w before) in
     ap (to_validate w i new task) (f ∙ woken_is i ended ∙ ap (resume_dependents i) e)

@@ -8,13 +8,13 @@ use Rattle.scheduler.specs.declared.worker.TaskKind.{TaskKind}
 use Rattle.scheduler.specs.declared.worker.TaskKind.TheVariants as task_kind
 use Rattle.scheduler.specs.Workers.{task_with}
 
--- the keys that a task is yet to move or to mark
+-- the keys that a task still has to move or to mark
 abbrev keys_in : Task → List (List ℕ)
 keys_in (task.Moving call keys new) = keys
 keys_in (task.Marking call keys) = keys
 keys_in t = []
 
--- one key more was moved or marked: those behind the next one are left
+-- one more key was moved or marked: the keys after it are left
 pub moved_dropped : (kind : TaskKind) (answers : List StorageAnswer) (all : List (List ℕ)) (dropped call : ℕ) (key : List ℕ) (keys : List (List ℕ)) (new : Bool)
     → task_with kind answers (drop dropped all) ≡ task.Moving call (key ∷ keys) new → task_with kind answers (drop (dropped + 1) all) ≡ task.Moving call keys new
 moved_dropped (task_kind.Moving c n) answers all dropped call key keys new h =

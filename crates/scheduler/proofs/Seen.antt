@@ -1,4 +1,4 @@
--- What is seen of the workers where one of them is replaced.
+-- What is seen of the workers if one of them is replaced.
 use Rattle.std.proofs.Common.{◌≡◌, ◌∷◌, ◌<◌, ℕ, List, length, map, set, get_or, refl, sym, subst, ap, ◌∙◌, length-set, replicate, zero, suc}
 use Rattle.std.proofs.lemmas.List.{length-map, map-set, get_or-map, get_or-set_same, get_or-set_other}
 use Rattle.std.proofs.Math.Seq.{map-set_same}
@@ -9,10 +9,10 @@ use Rattle.stm_state.specs.declared.state.CallState.{CallState}
 use Rattle.stm_state.specs.declared.state.Task.{Task}
 use Rattle.stm_state.specs.declared.state.Task.TheVariants.{Idle}
 use Rattle.stm_state.specs.State.{fresh, with_task}
-use Rattle.scheduler.specs.Workers.{WorkerState, but_key_room, counts_of, dones_of, room_of, task_of}
+use Rattle.scheduler.specs.Workers.{WorkerState, but_key_room, counts_of, task_of, worker_dones, worker_room}
 use Rattle.scheduler.specs.Schedule.{KeepsRooms, Schedule, schedule_of, state_of}
 
--- where all workers are alike
+-- if all workers are the same
 pub seen_alike : {X : Type 0} (f : WorkerState → X) (n : ℕ) (worker : WorkerState) → map f (replicate n worker) ≡ replicate n (f worker)
 seen_alike f zero worker = refl
 seen_alike f (suc n) worker = ap (λ xs. f worker ∷ xs) (seen_alike f n worker)
@@ -34,11 +34,11 @@ module _ {X : Type 0} (f : WorkerState → X) (workers : List WorkerState) (w : 
   seen_new : (new : WorkerState) (d : X) → w < length workers → get_or (map f (set workers w new)) w d ≡ f new
   seen_new new d l = get_or-map f (set workers w new) w new d (subst (λ n. w < n) (sym (length-set workers w new)) l) ∙ ap f (get_or-set_same workers w new new l)
 
--- and where they are alike but for the room of their lists of keys
+-- and if they are the same except for the room of their lists of keys
 seen_but : {X : Type 0} (f : WorkerState → X) (workers new : List WorkerState) → map but_key_room new ≡ map but_key_room workers → map (λ w. f (but_key_room w)) new ≡ map (λ w. f (but_key_room w)) workers
 seen_but f workers new same = sym (map-map f but_key_room new) ∙ ap (map f) same ∙ map-map f but_key_room workers
 
--- all that the scheduler keeps, where a call of an index is replaced
+-- all that the scheduler keeps, if a call of an index is replaced
 pub call_changed : (calls : List CallState) (execution validation key_room : ℕ) (workers : List WorkerState) (s : Schedule) → schedule_of calls execution validation key_room workers ≡ s
     → (g : CallState → CallState) (at i : ℕ) (old : CallState) → at ≡ i → old ≡ get_or calls at fresh
     → schedule_of (set calls at (g old)) execution validation key_room workers ≡ record s { calls = set s.calls i (g (get_or s.calls i fresh)) }
@@ -47,14 +47,14 @@ call_changed calls execution validation key_room workers s was g at i old e is =
     ∙ ap (λ (t : Schedule). record t { calls = set t.calls at (g (get_or t.calls at fresh)) }) was
     ∙ ap (λ (k : ℕ). record s { calls = set s.calls k (g (get_or s.calls k fresh)) }) e
 
--- all that the scheduler keeps, where the lists of workers have more room for keys
+-- all that the scheduler keeps, if the lists of workers have more room for keys
 pub key_room_changed : (calls : List CallState) (execution validation key_room more : ℕ) (workers new : List WorkerState) (s : Schedule) → schedule_of calls execution validation key_room workers ≡ s
     → map but_key_room new ≡ map but_key_room workers → schedule_of calls execution validation more new ≡ record s { key_room = more }
 key_room_changed calls execution validation key_room more workers new s was same =
-    rw (seen_but task_of workers new same, seen_but counts_of workers new same, seen_but dones_of workers new same, seen_but room_of workers new same) refl
+    rw (seen_but task_of workers new same, seen_but counts_of workers new same, seen_but worker_dones workers new same, seen_but worker_room workers new same) refl
     ∙ ap (λ (t : Schedule). record t { key_room = more }) was
 
--- all that the scheduler keeps, where worker w was the old one and is the new one
+-- all that the scheduler keeps, if worker w was the old one and is the new one
 module _ (calls : List CallState) (execution validation key_room : ℕ) (workers : List WorkerState) (w : ℕ) (s : Schedule) (was : schedule_of calls execution validation key_room workers ≡ s) (l : w < length s.tasks)
     (old new : WorkerState) (is : old ≡ get_or workers w old) where
   pub worker_within : w < length workers
@@ -66,37 +66,36 @@ module _ (calls : List CallState) (execution validation key_room : ℕ) (workers
   -- its task changes, and its room
   pub task_changed : (g : Task → Task) (room : ℕ) → new ≡ record old { task = g old.task; room = room } → (v : Versions) (p : ℕ) → state_of v p after ≡ with_task w (g (get_or s.tasks w Idle)) (state_of v p s)
   task_changed g room e v p =
-      rw (seen_step task_of workers w g old new Idle worker_within is (ap task_of e), seen_same counts_of workers w old new is (ap counts_of e), seen_same dones_of workers w old new is (ap dones_of e)) refl
+      rw (seen_step task_of workers w g old new Idle worker_within is (ap task_of e), seen_same counts_of workers w old new is (ap counts_of e), seen_same worker_dones workers w old new is (ap worker_dones e)) refl
       ∙ ap (λ (t : Schedule). with_task w (g (get_or t.tasks w Idle)) (state_of v p t)) was
 
   -- its task and its room change
   pub answers_swapped : (g : Task → Task) (room : ℕ) → new ≡ record old { task = g old.task; room = room } → after ≡ record s { tasks = set s.tasks w (g (get_or s.tasks w Idle)); rooms = set s.rooms w room }
   answers_swapped g room e =
-      rw (seen_step task_of workers w g old new Idle worker_within is (ap task_of e), seen_same counts_of workers w old new is (ap counts_of e), seen_same dones_of workers w old new is (ap dones_of e), seen_set room_of workers w new room (ap room_of e)) refl
+      rw (seen_step task_of workers w g old new Idle worker_within is (ap task_of e), seen_same counts_of workers w old new is (ap counts_of e), seen_same worker_dones workers w old new is (ap worker_dones e), seen_set worker_room workers w new room (ap worker_room e)) refl
       ∙ ap (λ (t : Schedule). record t { tasks = set t.tasks w (g (get_or t.tasks w Idle)); rooms = set t.rooms w room }) was
 
-  -- its counts alone change
+  -- only its counts change
   pub counts_changed : (counts : Counts) → new ≡ record old { counts = counts } → after ≡ record s { counts = set s.counts w counts }
   counts_changed counts e =
-      rw (seen_same task_of workers w old new is (ap task_of e), seen_set counts_of workers w new counts (ap counts_of e), seen_same dones_of workers w old new is (ap dones_of e), seen_same room_of workers w old new is (ap room_of e)) refl
+      rw (seen_same task_of workers w old new is (ap task_of e), seen_set counts_of workers w new counts (ap counts_of e), seen_same worker_dones workers w old new is (ap worker_dones e), seen_same worker_room workers w old new is (ap worker_room e)) refl
       ∙ ap (λ (t : Schedule). record t { counts = set t.counts w counts }) was
 
-  -- it is told alone how often all is done
+  -- only the number of its askings that were answered Done changes
   pub dones_changed : (g : ℕ → ℕ) → new ≡ record old { dones = g old.dones } → after ≡ record s { dones = set s.dones w (g (get_or s.dones w 0)) }
   dones_changed g e =
-      rw (seen_same task_of workers w old new is (ap task_of e), seen_same counts_of workers w old new is (ap counts_of e), seen_step dones_of workers w g old new 0 worker_within is (ap dones_of e), seen_same room_of workers w old new is (ap room_of e)) refl
+      rw (seen_same task_of workers w old new is (ap task_of e), seen_same counts_of workers w old new is (ap counts_of e), seen_step worker_dones workers w g old new 0 worker_within is (ap worker_dones e), seen_same worker_room workers w old new is (ap worker_room e)) refl
       ∙ ap (λ (t : Schedule). record t { dones = set t.dones w (g (get_or t.dones w 0)) }) was
 
-  -- its task before
   pub task_before : get_or s.tasks w Idle ≡ old.task
   task_before = ap (λ (t : Schedule). get_or t.tasks w Idle) (sym was) ∙ seen_at task_of workers w old Idle worker_within is
 
-  -- the rooms
+  -- the other workers keep their room for answers
   pub rooms_kept : KeepsRooms w s.rooms after.rooms
-  rooms_kept u ne = ap (λ rooms. get_or rooms u 0) (map-set room_of workers w new) ∙ get_or-set_other (map room_of workers) w u new.room 0 ne ∙ ap (λ (t : Schedule). get_or t.rooms u 0) was
+  rooms_kept u ne = ap (λ rooms. get_or rooms u 0) (map-set worker_room workers w new) ∙ get_or-set_other (map worker_room workers) w u new.room 0 ne ∙ ap (λ (t : Schedule). get_or t.rooms u 0) was
 
   pub room_before : get_or s.rooms w 0 ≡ old.room
-  room_before = ap (λ (t : Schedule). get_or t.rooms w 0) (sym was) ∙ seen_at room_of workers w old 0 worker_within is
+  room_before = ap (λ (t : Schedule). get_or t.rooms w 0) (sym was) ∙ seen_at worker_room workers w old 0 worker_within is
 
   pub room_after : get_or after.rooms w 0 ≡ new.room
-  room_after = seen_new room_of workers w new 0 worker_within
+  room_after = seen_new worker_room workers w new 0 worker_within

@@ -5,7 +5,7 @@ use Rattle.mvmap.specs.Versions.{Versions}
 use Rattle.stm_state.specs.declared.state.CallState.{CallState}
 use Rattle.stm_state.specs.declared.state.Task.{Task}
 use Rattle.stm_state.specs.State.{State, no_counts}
-use Rattle.scheduler.specs.Workers.{WorkerState, counts_of, dones_of, room_of, task_of}
+use Rattle.scheduler.specs.Workers.{WorkerState, counts_of, task_of, worker_dones, worker_room}
 
 -- a state without its versions; the number of further answers that each worker's run has room for; and the number of keys
 -- that the list of each worker has room for, at least
@@ -27,12 +27,12 @@ schedule_of calls execution validation key_room workers = record {
   validation = validation;
   tasks = map task_of workers;
   counts = map counts_of workers;
-  dones = map dones_of workers;
-  rooms = map room_of workers;
+  dones = map worker_dones workers;
+  rooms = map worker_room workers;
   key_room = key_room;
 }
 
--- the state that it is with these versions and this number of placed records
+-- the state of a schedule with these versions and this number of placed records
 abbrev pub state_of : Versions → ℕ → Schedule → State
 state_of versions placed s = record {
   calls = s.calls;

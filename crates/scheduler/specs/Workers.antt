@@ -8,7 +8,7 @@ use Rattle.stm_state.specs.declared.state.Task.TheVariants as task
 use Rattle.scheduler.specs.declared.worker.TaskKind.{TaskKind}
 use Rattle.scheduler.specs.declared.worker.TaskKind.TheVariants as task_kind
 
--- the task of a worker: its kind, the answers that its run was given, and the keys that it is yet to move or to mark
+-- the task of a worker: its kind, the answers that its run was given, and the keys that it still has to move or to mark
 abbrev pub task_with : TaskKind → List StorageAnswer → List (List ℕ) → Task
 task_with task_kind.Idle answers keys = task.Idle
 task_with (task_kind.Running call blocked) answers keys = task.Running call answers blocked
@@ -31,16 +31,16 @@ task_of w = w.task
 abbrev pub counts_of : WorkerState → Counts
 counts_of w = w.counts
 
-abbrev pub dones_of : WorkerState → ℕ
-dones_of w = w.dones
+abbrev pub worker_dones : WorkerState → ℕ
+worker_dones w = w.dones
 
-abbrev pub room_of : WorkerState → ℕ
-room_of w = w.room
+abbrev pub worker_room : WorkerState → ℕ
+worker_room w = w.room
 
 abbrev pub key_room_of : WorkerState → ℕ
 key_room_of w = w.key_room
 
--- a worker but for the room of its list of keys
+-- a worker without the room of its list of keys
 abbrev pub but_key_room : WorkerState → WorkerState
 but_key_room w = record w { key_room = 0 }
 
@@ -48,8 +48,8 @@ but_key_room w = record w { key_room = 0 }
 abbrev pub idle_worker : WorkerState
 idle_worker = record { task = task.Idle; counts = no_counts; dones = 0; room = 0; key_room = 0 }
 
--- four changes of a task: a run gets one more answer, a run has other answers, a run is blocked on a call, and a validation fails; a task of another
--- kind stays as it is
+-- four changes of a task: a run gets one more answer, a run has other answers, a run is blocked on a call, and a validation
+-- fails; a task of another kind stays as it is
 abbrev pub with_answer : StorageAnswer → Task → Task
 with_answer answer task.Idle = task.Idle
 with_answer answer (task.Running call answers blocked) = task.Running call (answers ++ answer ∷ []) blocked

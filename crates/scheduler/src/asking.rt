@@ -13,10 +13,10 @@ impl Scheduler {
     ghost use Rattle.stm_state.specs.declared.state.Task.TheVariants as Task;
     ghost use Rattle.scheduler.specs.Schedule.{KeepsRooms, MayCount, state_of};
 
-    /// Answers the asking of a worker without a task (Block-STM, `next_task`). Where all is done this counts
-    /// an asking answered Done. Else the validation index goes up if it is behind the execution index, or
-    /// the execution index if a call is left. The worker gets the call there to validate or to run, or no
-    /// task where that call needs neither now. Takes no memory.
+    /// Answers the asking of a worker without a task (Block-STM, `next_task`). If all is done, this counts an asking answered
+    /// Done. Otherwise the validation index goes up if it is below the execution index; if not, the execution index goes up if a
+    /// call is left. The worker gets the call there to validate or to run, or no task if that call needs neither now. Takes no
+    /// memory.
     #[inline(always)]
     pub fn ask(&mut self, worker: usize)
         requires counts { MayCount worker self.old }

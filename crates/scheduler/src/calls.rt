@@ -2,7 +2,7 @@
 
 ghost use Rattle.std.specs.Prelude.{◌≡◌, ◌≤◌, ◌<◌, ◌+◌, ℕ, [], Some, None, IfOk, false, true, if◌then◌else◌, length, map, min, get_or, replicate, vec_items};
 ghost use Rattle.stm_state.specs.State.{fresh, is_executed, is_ready};
-ghost use Rattle.stm_state.specs.Steps.{has_new_key, is_executed_at, is_parked_on, least_parked_call, next_incarnation, resume_if_parked, reads_of, written_by, wrote};
+ghost use Rattle.stm_state.specs.Steps.{has_new_key, is_executed_at, is_parked_on, least_parked_call, next_incarnation, resume_if_parked, recorded_reads, written_by, wrote};
 ghost use Rattle.stm_state.specs.declared.state.Status.TheVariants as status;
 ghost use Rattle.scheduler.specs.declared.worker.TaskKind.TheVariants as task_kind;
 
@@ -17,7 +17,7 @@ pub const LAST_INCARNATION: u16 = 65_534;
 /// The incarnation at which no run is recorded, and from which a call is not readied again.
 pub const INCARNATION_LIMIT: u16 = 65_535;
 
-/// `count` calls as they are at the start: READY at incarnation 0. Refused where memory ran out.
+/// `count` calls as they are at the start: READY at incarnation 0. Refused if memory ran out.
 pub(crate) fn fresh_calls(alloc: Global, count: usize) -> Result<Vec<CallState>, AllocError>
     ensures { IfOk result (λ calls. calls.items ≡ replicate count fresh) }
 {
@@ -33,7 +33,7 @@ pub(crate) fn fresh_calls(alloc: Global, count: usize) -> Result<Vec<CallState>,
     Ok(calls)
 }
 
-/// A flag for each of `count` calls, which says that no call is parked on it. Refused where memory ran out.
+/// A flag for each of `count` calls, which says that no call is parked on it. Refused if memory ran out.
 pub(crate) fn none_awaited(alloc: Global, count: usize) -> Result<Vec<bool>, AllocError>
     ensures { IfOk result (λ awaited. awaited.items ≡ replicate count false) }
 {
@@ -124,7 +124,7 @@ pub(crate) fn is_executed_at(call: &CallState, incarnation: u16) -> bool
 
 /// The task to check all reads of a call's last run.
 pub(crate) fn validation_of(call: &CallState, index: u16) -> TaskKind
-    ensures { result ≡ task_kind.Validating index call.now.incarnation (length (reads_of call.now.last)) false }
+    ensures { result ≡ task_kind.Validating index call.now.incarnation (length (recorded_reads call.now.last)) false }
 {
     TaskKind::Validating {
         call: index,
@@ -134,9 +134,9 @@ pub(crate) fn validation_of(call: &CallState, index: u16) -> TaskKind
     }
 }
 
-/// The number of reads of a run; 0 where there is no run.
+/// The number of reads of a run; 0 if there is no run.
 fn reads(last: &Option<Recorded>) -> usize
-    ensures { result ≡ length (reads_of last.now) }
+    ensures { result ≡ length (recorded_reads last.now) }
 {
     match last {
         Some(run) => run.reads.reads().len(),
@@ -156,7 +156,7 @@ pub(crate) fn has_new_key(last: &Option<Recorded>, writes: &Writes) -> bool
     false
 }
 
-/// Whether a run wrote a key; false where there is no run.
+/// Whether a run wrote a key; false if there is no run.
 fn wrote(last: &Option<Recorded>, key: &Key) -> bool
     ensures { result ≡ wrote last.now key.now }
 {

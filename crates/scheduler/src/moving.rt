@@ -73,9 +73,9 @@ impl Scheduler {
         self.to_validate(worker, call, new_key, task_kind);
     }
 
-    /// Settles what is validated again after a run of a call. Where the validation index is past the call:
-    /// all calls from it on if the run wrote a new key, else the call alone, as this worker's task. Where it
-    /// is not: nothing, since the index still comes to the call.
+    /// Settles what is validated again after a run of a call. If the validation index is past the call: all calls from that call
+    /// on if the run wrote a new key, otherwise only the call, as this worker's task. If not: nothing, since the index still
+    /// reaches the call.
     #[tactic(auto, unfolding(stm_state::specs::Steps::to_validate))]
     #[inline(always)]
     fn to_validate(&mut self, worker: usize, call: u16, new_key: bool, task_kind: TaskKind)

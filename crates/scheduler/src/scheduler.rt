@@ -18,9 +18,9 @@ pub struct Scheduler {
     validation: u16,
     calls: Vec<CallState>,
     workers: Vec<Worker>,
-    /// For each call, whether another may be parked on it. Where this is false, none is.
+    /// For each call, whether another may be parked on it. If this is false, none is.
     awaited: Vec<bool>,
-    /// The number of keys that each worker's list has room for, at least. No recorded run wrote more.
+    /// Each worker's list has room for at least this number of keys. No recorded run wrote more.
     key_room: usize,
 }
 
@@ -48,18 +48,18 @@ impl Scheduler {
     ghost use Rattle.std.specs.Option.{ForSome, option_copied};
     ghost use Rattle.mvmap.specs.Versions.{Versions};
     ghost use Rattle.rv_step.specs.declared.answer.StorageAnswer.{StorageAnswer};
-    ghost use Rattle.stm_state.specs.State.{fresh, is_done, is_idle, no_counts, start, with_call, with_task};
+    ghost use Rattle.stm_state.specs.State.{fresh, is_done, is_idle, no_counts, start_state, with_call, with_task};
     ghost use Rattle.stm_state.specs.Steps.{counted, keys_of, keys_to_move, least_parked_call, one_step, after_park, next_incarnation, resume_if_parked, written_by};
     ghost use Rattle.stm_state.specs.declared.state.Status.TheVariants as Status;
     ghost use Rattle.stm_state.specs.declared.state.Task.TheVariants as Task;
     ghost use Rattle.scheduler.specs.Schedule.{KeepsRooms, MayCount, state_of};
     ghost use Rattle.scheduler.specs.Workers.{HasKeyLeft, HasKeys, HasNoKeys, IsTaskKindOf, IsRunning, NobodyMoves, with_answer, with_answers, blocked_on, failed_check, task_with};
 
-    /// The scheduler of `calls` calls, each READY at incarnation 0, and of `workers` workers without a task.
-    /// Both indices are 0. Refused where memory ran out.
+    /// The scheduler of `calls` calls, each READY at incarnation 0, and of `workers` workers without a task. Both indices are 0.
+    /// Refused if memory ran out.
     pub fn new(alloc: Global, calls: usize, workers: usize) -> Result<Scheduler, AllocError>
         requires { calls ≤ 1024 }
-        ensures { IfOk result (λ s. (v : Versions) (p : ℕ) → state_of v p s ≡ record (start calls workers) { versions = v; record_count = p }) }
+        ensures { IfOk result (λ s. (v : Versions) (p : ℕ) → state_of v p s ≡ record (start_state calls workers) { versions = v; record_count = p }) }
     {
         Ok(Scheduler {
             calls: calls::fresh_calls(alloc, calls)?,
@@ -83,8 +83,8 @@ impl Scheduler {
         self.workers[worker].swap_answers(list);
     }
 
-    /// Makes room in each worker's list for `count` keys to move or to mark. This is not a step. Refused where
-    /// memory ran out, and then nothing changes.
+    /// Makes room in each worker's list for `count` keys to move or to mark. This is not a step. Refused if memory ran out, and
+    /// then nothing changes.
     pub fn reserve_keys(&mut self, count: usize) -> Result<(), AllocError>
         ensures room { OnOk result (count ≤ self.new.key_room) }
         ensures same { self.new ≡ record self.old { key_room = self.new.key_room } }
@@ -170,7 +170,7 @@ impl Scheduler {
         self.workers[worker].answers()
     }
 
-    /// The next key that a worker is to move or to mark; None where no key is left.
+    /// The next key that a worker must move or mark; None if no key is left.
     pub fn next_key(&self, worker: usize) -> Option<&Key>
         requires within { worker < length self.now.tasks }
         requires keys { HasKeys (get_or self.now.tasks worker Task.Idle) }
@@ -240,7 +240,7 @@ impl Scheduler {
         usize::from(self.validation) == self.calls.len() && worker::all_idle(&self.workers)
     }
 
-    /// Whether the validation index is behind the execution index.
+    /// Whether the validation index is below the execution index.
     pub(crate) fn is_validation_behind(&self) -> bool
         ensures { result ≡ nat_lt self.now.validation self.now.execution }
     {
@@ -261,7 +261,7 @@ impl Scheduler {
         call < self.execution
     }
 
-    /// Moves the validation index on by one, and returns where it was.
+    /// Raises the validation index by one, and returns its value before that.
     pub(crate) fn next_validation(&mut self) -> u16
         requires { self.old.validation < self.old.execution }
         ensures index { result ≡ self.old.validation }
@@ -272,7 +272,7 @@ impl Scheduler {
         index
     }
 
-    /// Moves the execution index on by one, and returns where it was.
+    /// Raises the execution index by one, and returns its value before that.
     pub(crate) fn next_execution(&mut self) -> u16
         requires { self.old.execution < length self.old.calls }
         ensures index { result ≡ self.old.execution }
@@ -328,7 +328,7 @@ impl Scheduler {
         parked.parked = Some(on);
     }
 
-    /// Swaps the last run of a call with the one that is to be kept; the call's status stays.
+    /// Swaps the last run of a call with the one to keep; the call's status stays.
     pub(crate) fn keep(&mut self, call: u16, run: &mut Option<Recorded>)
         requires within { call < length self.old.calls }
         requires executing { (get_or self.old.calls call fresh).status ≡ Status.Executing }
@@ -365,8 +365,8 @@ impl Scheduler {
         restarted.status = Status::Executing;
     }
 
-    /// Readies all calls that are parked on the call `on`, and lowers the execution index to the least of
-    /// them. It goes through the calls only where one may be parked on `on`.
+    /// Readies all calls that are parked on the call `on`, and lowers the execution index to the least of them. It goes through
+    /// the calls only if one may be parked on `on`.
     pub(crate) fn resume_dependents(&mut self, on: u16)
         requires within { on < length self.old.calls }
         requires incarnations { (i : ℕ) → (get_or self.old.calls i fresh).status ≡ Status.Aborting → (get_or self.old.calls i fresh).incarnation ≤ LAST_INCARNATION }

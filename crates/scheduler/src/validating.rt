@@ -13,10 +13,9 @@ impl Scheduler {
     ghost use Rattle.stm_state.specs.declared.state.Task.TheVariants as Task;
     ghost use Rattle.scheduler.specs.Schedule.{KeepsRooms, MayCount, state_of};
 
-    /// Ends a worker's check of the next read of a call that it validates. `stands` says whether the read
-    /// stood, and `left` is the number of reads after it. Where the call is no longer EXECUTED at the
-    /// incarnation, the worker's task ends. Otherwise a read that did not stand fails the validation. Takes no
-    /// memory.
+    /// Ends a worker's check of the next read of a call that it validates. `stands` says whether the read stands, and `left` is
+    /// the number of reads after it. If the call is no longer EXECUTED at the incarnation, the worker's task ends. Otherwise a
+    /// read that does not stand fails the validation. Takes no memory.
     #[inline(always)]
     pub fn finish_validation(
         &mut self,
@@ -48,9 +47,9 @@ impl Scheduler {
         }
     }
 
-    /// Decides a worker's validation of a call (Block-STM, `try_validation_abort`). If a read did not stand
-    /// and the call is EXECUTED at the incarnation, the call is taken back, and the worker gets the keys that
-    /// it wrote to mark. Else the worker's task ends. Takes no memory.
+    /// Decides a worker's validation of a call (Block-STM, `try_validation_abort`). If a read did not stand and the call is
+    /// EXECUTED at the incarnation, the call is taken back, and the worker gets the keys that the call wrote, to mark them.
+    /// Otherwise the worker's task ends. Takes no memory.
     #[inline(always)]
     pub fn try_abort(&mut self, worker: usize, call: u16, incarnation: u16, failed: bool)
         requires counts { MayCount worker self.old }
@@ -66,9 +65,8 @@ impl Scheduler {
         }
     }
 
-    /// Readies a call whose keys a worker has marked, and lowers the validation index to the next call
-    /// (Block-STM, `finish_validation`). The worker runs the call where the execution index is past it. Takes
-    /// no memory.
+    /// Readies a call whose keys a worker has marked, and lowers the validation index to the next call (Block-STM,
+    /// `finish_validation`). The worker runs the call if the execution index is past it. Takes no memory.
     pub fn finish_abort(&mut self, worker: usize, call: u16)
         requires counts { MayCount worker self.old }
         requires within { call < length self.old.calls }

@@ -65,7 +65,7 @@ pub(crate) struct Worker {
     dropped: usize,
     counts: Counts,
     dones: u64,
-    /// Unused bytes, so that two workers have no line of the processor's cache together.
+    /// Unused bytes, so that no two workers share a line of the processor's cache.
     apart: [u64; 9],
 }
 
@@ -185,7 +185,7 @@ impl Worker {
         }
     }
 
-    /// Makes room in its list for `count` keys. Refused where memory ran out.
+    /// Makes room in its list for `count` keys. Refused if memory ran out.
     fn reserve_keys(&mut self, count: usize) -> Result<(), AllocError>
         ensures room { OnOk result (count ≤ self.new.key_room) }
         ensures grown { self.old.key_room ≤ self.new.key_room }
@@ -195,7 +195,7 @@ impl Worker {
         self.keys.reserve(spare)
     }
 
-    /// The next key that it is to move or to mark; None where no key is left.
+    /// The next key that it must move or mark; None if no key is left.
     pub(crate) fn next_key(&self) -> Option<&Key>
         ensures moving { (call : ℕ) (keys : List (List ℕ)) (new : Bool) → self.now.task ≡ task.Moving call keys new → option_copied result ≡ slice_get keys 0 }
         ensures marking { (call : ℕ) (keys : List (List ℕ)) → self.now.task ≡ task.Marking call keys → option_copied result ≡ slice_get keys 0 }
@@ -286,7 +286,7 @@ impl Worker {
     }
 }
 
-/// `count` workers without a task, which have done nothing yet. Refused where memory ran out.
+/// `count` workers without a task, which have done nothing yet. Refused if memory ran out.
 pub(crate) fn idle_workers(alloc: Global, count: usize) -> Result<Vec<Worker>, AllocError>
     ensures { IfOk result (λ workers. workers.items ≡ replicate count idle_worker) }
 {
@@ -309,8 +309,7 @@ pub(crate) fn all_idle(workers: &[Worker]) -> bool
     true
 }
 
-/// Makes room in each worker's list for `count` keys. Refused where memory ran out; then some lists may have
-/// more room than before.
+/// Makes room in each worker's list for `count` keys. Refused if memory ran out: then some lists may have more room than before.
 #[cold]
 #[inline(never)]
 pub(crate) fn reserve_keys(workers: &mut Vec<Worker>, count: usize) -> Result<(), AllocError>

@@ -1,10 +1,10 @@
-//! A storage with changes over it, which counts how often it is asked.
+//! A storage with changes over it, which counts its reads.
 
 use overlay::Layers;
 use rv_ledger::{Contents, Key, StoredValue};
 use std::cell::Cell;
 
-/// A storage with changes over it, and a count of how often it was asked for a key.
+/// A storage with changes over it, and a count of the reads of its keys.
 #[derive(Drop)]
 pub(crate) struct CountedLayers<'a> {
     pub(crate) layers: Layers<'a>,

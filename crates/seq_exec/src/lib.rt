@@ -12,8 +12,8 @@ use rv_ledger::{Call, Job, Outcome, Receipt, Store, apply_writes};
 use rv_step::{SpareMachine, receipt_over};
 use std::alloc::{AllocError, Global};
 
-/// Runs the calls of a job one after another on one storage, which starts as the job's. The outcome has
-/// no counts. Refused where memory ran out.
+/// Runs the calls of a job one after another on one storage, which starts as the job's. The outcome has no counts.
+/// Refused if memory ran out.
 pub fn run_in_order(alloc: Global, job: &Job) -> Result<Outcome, AllocError>
     ensures job { IfOk result (λ o. o.job ≡ job.now) }
     ensures receipts { IfOk result (λ o. o.receipts.items ≡ receipts_of job.now.block job.now.store) }
@@ -39,7 +39,7 @@ pub struct JobResult {
     pub store: Store,
 }
 
-/// Runs the calls of a job one after another on its own storage, without a copy of it. Refused where memory ran out.
+/// Runs the calls of a job one after another on its own storage, without a copy of it. Refused if memory ran out.
 pub fn into_result(alloc: Global, job: Job) -> Result<JobResult, AllocError>
     ensures receipts { IfOk result (λ r. r.receipts.items ≡ receipts_of job.block job.store) }
     ensures store { IfOk result (λ r. r.store ≡ store_after job.block job.store) }
@@ -49,8 +49,8 @@ pub fn into_result(alloc: Global, job: Job) -> Result<JobResult, AllocError>
     Ok(JobResult { receipts, store })
 }
 
-/// Runs calls in order, each on the storage that the ones before it left. Refused where memory ran out,
-/// and then the storage may have some of their writes.
+/// Runs calls in order, each on the storage that the ones before it left. Refused if memory ran out, and then the storage
+/// may have some of their writes.
 #[tactic(auto, unfolding(rv_step::specs::Fold::receipts_of, rv_step::specs::Fold::store_after))]
 fn run_all(alloc: Global, calls: &[Call], store: &mut Store) -> Result<Vec<Receipt>, AllocError>
     ensures receipts { IfOk result (λ r. r.items ≡ receipts_of calls.now store.old) }

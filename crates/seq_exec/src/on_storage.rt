@@ -11,8 +11,8 @@ use rv_step::{SpareMachine, receipt_over};
 use std::alloc::{AllocError, Global};
 use std::cell::Cell;
 
-/// Runs calls in order on a storage with changes over it, and adds theirs to the changes. Refused where memory ran out,
-/// and then some of theirs may be added.
+/// Runs calls in order on a storage with changes over it, and adds their writes to the changes. Refused if memory ran
+/// out, and then some of them may be added.
 pub fn run_over(
     alloc: Global,
     base: &Store,
@@ -26,7 +26,7 @@ pub fn run_over(
     Ok(receipts)
 }
 
-/// The same, and beside the receipts how often the calls asked the storage. Promises nothing of that number.
+/// Like `run_over`; returns beside the receipts how often the calls read the storage. Promises nothing about that number.
 #[tactic(auto, unfolding(rv_step::specs::Fold::receipts_of, rv_step::specs::Fold::store_after))]
 pub fn run_counted(
     alloc: Global,

@@ -29,7 +29,7 @@ wider a b c L L' P Q NotASession up limit so h = λ w. h (so w)
 wider a b c L L' P Q Busy up limit so h = h
 wider a b c L L' P Q HotJournal up limit so h = h
 
--- of the probe for no database
+-- why the probe for no database fails
 pub blank_cause : (a b size : ℕ) (image : Image) (Wanted : Type 0) (e : log.Error) → HasCause a b (OnlyIf wal.Full (IsLogFor size image.log × IsHuge size image)) e → MayOpenFail a b (IsHuge size image) Wanted (probe_fault e)
 blank_cause a b size image Wanted (wal.Io x) cause = cause
 blank_cause a b size image Wanted wal.OutOfMemory cause = tt
@@ -39,7 +39,7 @@ blank_cause a b size image Wanted wal.Closed cause = let e = cause.0 in absurd (
 blank_cause a b size image Wanted wal.NoSuchPage cause = let e = cause.0 in absurd (cc)
 blank_cause a b size image Wanted wal.Exists cause = let e = cause.0 in absurd (cc)
 
--- of the probe for a first page
+-- why the probe for a first page fails
 pub log_cause : (a b size : ℕ) (image : Image) (Wanted : Type 0) (e : log.Error) → HasCause a b (RefusesLog size image.log) e → (Wanted → (k : ℕ) × raw.Replays size image.log k)
     → MayOpenFail a b (IsHuge size image) Wanted (probe_fault e)
 log_cause a b size image Wanted (wal.Io x) cause reads = cause

@@ -33,7 +33,7 @@ first_of image pages found begins =
     let len = found.whole.sized 1 first is in
     (first, ap (λ (p : PageMap). p 1) (sym found.shows) ∙ trimmed_some database_page_size found.stored 1 first is, len, begins found.stored first found.found is len)
 
--- files that stand for the pages of a database are not blank
+-- files from which the pages of a database are recovered are not blank
 pub not_blank : (image : Image) (pages : PageMap) → Recovers database_page_size image pages → BeginsWell image → (other : Image) → Recovers database_page_size other pages → ¬ IsBlankFile database_page_size other
 not_blank image pages found begins other now blank =
     let one = first_of image pages found begins in
@@ -61,13 +61,13 @@ some_sound image (inl file) some = (file.pages, file.found, file.ours.file.sound
 some_sound image (inr (inl blank)) some = absurd (some blank.0)
 some_sound image (inr (inr empty)) some = (empty.0, empty.1, empty.2.0.sound)
 
--- what stands for the same is a session's, too
+-- files from which the same pages are recovered are a session's, too
 pub same_session : (image now : Image) → IsSession image → ¬ IsBlankFile database_page_size image → RecoversAs database_page_size image now → IsSession now
 same_session image now (inl file) some alike = inl (record { pages = file.pages; found = carried database_page_size image now alike file.pages file.found; ours = file.ours })
 same_session image now (inr (inl blank)) some alike = absurd (some blank.0)
 same_session image now (inr (inr empty)) some alike = inr (inr (empty.0, carried database_page_size image now alike empty.0 empty.1, empty.2))
 
--- so is what a first open leaves on its way
+-- so is what a first open leaves if it is cut
 pub on_the_way : (image : Image) → IsBlankFile database_page_size image ⊎ ((pages : PageMap) × Recovers database_page_size image pages × (IsNew database_page_size pages ⊎ ∥ IsFresh database_page_size session_schema pages ∥₁)) → ∥ IsFileCutShort image ∥₁
 on_the_way image (inl blank) = ∣ inr blank ∣₁
 on_the_way image (inr made) = elim made.2 [

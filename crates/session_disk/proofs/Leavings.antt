@@ -48,7 +48,7 @@ module _ {D : Type 0} {g : Ghosts D} (old : Unopened D g) (size : (state_of old)
   way schema now made =
       on_the_way now (subst₂ (λ n s. IsBlankFile n now ⊎ ((pages : PageMap) × Recovers n now pages × (IsNew n pages ⊎ ∥ IsFresh n s pages ∥₁))) size schema made)
 
-  -- where there was no database, none is made
+  -- there was no database, and making one was refused
   pub not_made : (new : State) → wanted_by old ≡ session_schema → IsBlankFile database_page_size (image old) → ¬ IsBereft (image old) → Creates old new → LeavesAs (image old) (state_of old).may_leave new.may_leave
   not_made new schema blank whole kept = record {
     session = λ _ now may. elim (kept.blank (subst (λ n. IsBlankFile n (image old)) (sym size) blank) now may) [ inl was ↦ inl was | inr made ↦ inr (way schema now made) ];

@@ -46,7 +46,7 @@ module _ {D : Type 0} (g : Ghosts D) (files rest : Files D) (log : rest.log ≡ 
   pub leaves_still : LeavesFiles {g = g} files (left.Files rest)
   leaves_still = only_reads _ _ _ (λ now may. (subst (λ l. g.may_leave l now.log) log may.0, subst (λ d. g.may_leave d now.db) db may.1))
 
--- and what they are once they are to be opened
+-- the files once they are about to be opened
 module _ {D : Type 0} {g : Ghosts D} (fresh : Unopened D g) (files : Files D) (made : files_of fresh ≡ (files.log, files.db)) where
   pub seen_files : image fresh ≡ files_image g files
   seen_files = ap (λ f. seen_image g f.0 f.1) made

@@ -27,7 +27,7 @@ use Rattle.session_disk.specs.Sessions.{database_page_size, HoldsRows, IsSession
 use Rattle.session_disk.specs.Closing.{AreFolded, HoldsTrees}
 use Rattle.session_disk.specs.Opening.{IsSessionStore}
 
--- of a pool, what its files say
+-- a pool has the faults of its files, is clean exactly if they are, and leaves only what they may leave
 pub pool_files : {D : Type 0} {g : Ghosts D} (it : Pool D g)
     → ((pool.state it).faults ≡ g.faults (pool.files it).0 + g.faults (pool.files it).1) × ((pool.state it).is_clean ≡ are_clean g (pool.files it).0 (pool.files it).1)
     × ((left : Image) → (pool.state it).may_leave left → outcomes g (pool.files it).0 (pool.files it).1 left)

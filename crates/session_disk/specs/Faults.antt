@@ -24,12 +24,12 @@ store_fault opening.Io = Unreadable
 store_fault opening.Full = Full
 store_fault opening.Refused = NotASession
 
--- of a call of the system
+-- the fault of a call of the system
 abbrev pub system_fault : ErrorKind → OpenFault
 system_fault kind.OutOfMemory = Memory
 system_fault _ = Unreadable
 
--- of opening the two files at a path
+-- the fault of opening the two files at a path
 abbrev pub path_fault : path.OpenError → OpenFault
 path_fault named.OutOfMemory = Memory
 path_fault (named.Io e) = system_fault (error_kind e)

@@ -1,4 +1,4 @@
--- The log beside a database file, where an open makes it, and when it is removed.
+-- The log beside a database file: when an open makes it, and when it is removed.
 use Rattle.std.specs.Prelude.{◌≡◌, ◌⊎◌, ◌++◌, ◌<◌, ◌+◌, ℕ, Bool, true, false, IsTrue, if◌then◌else◌, List, [], ◌∷◌, length, Option, None, Some, codes, ⊤}
 use Rattle.std.specs.String.{string_bytes}
 use Rattle.std.specs.declared.string.String.{String}
@@ -43,9 +43,9 @@ IsLogBeside None path log = ⊤
 IsLogBeside (Some known) path log = ((known.is_free (log_name known path) ≡ true) × (paths_of log.path ≡ log_name known path ∷ []))
     ⊎ ((known.is_free (log_name known path) ≡ false) × (log.path ≡ None))
 
--- A log with fewer bytes than this holds nothing, if its files are refused for that fault. If they are no session's it is one that
--- is shorter than its header and the header of a frame, and so has no commit of another process. Otherwise it is empty: a longer one
--- may mark a session that is only half made
+-- A log with fewer bytes than this holds nothing, if its files are refused for that fault. If they are no session's, it is a log
+-- that is shorter than its header and the header of a frame, and so has no commit of another process. Otherwise it is empty: a
+-- longer one may mark a session that is only half made
 abbrev pub idle_bound : OpenFault → ℕ
 idle_bound NotASession = 32 + 24
 idle_bound fault = 1
@@ -58,7 +58,7 @@ abbrev pub IsFoundIdle : {D : Type 0} → Ghosts D → OpenFault → D → D →
 IsFoundIdle g fault old new true = IsTrue (g.is_clean new) → IsIdle fault (g.seen new)
 IsFoundIdle g fault old new false = (g.is_usable old ≡ false) ⊎ MoreFaults (g.faults old) (g.faults new) ⊎ (IsTrue (g.is_clean new) → IsIdle fault (g.seen new) → ⊥)
 
--- of a refused open: a log that it made is removed if it is found idle
+-- a refused open: a log that it made is removed if it is found idle
 pub record IsGivenUp {D : Type 0} (g : Ghosts D) (fault : OpenFault) (old new : D) (log : NewLog) (before after : Option FolderView) : Type 0 where
   pub is_idle : Bool
   pub found : IsFoundIdle g fault old new is_idle

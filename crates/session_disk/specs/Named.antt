@@ -8,7 +8,7 @@ use Rattle.session_disk.specs.Looks.{Sees}
 use Rattle.session_disk.specs.Names.{AreNamesOf, first_looks, view_of}
 use Rattle.session_disk.specs.declared.named_disk.NamedDisk.{NamedDisk}
 
--- what failed calls met, if so many writes would have made the file too large: that is no room
+-- what failed calls met, if this number of writes would have made the file too large: each of them found no room
 abbrev pub with_limit : Tally → ℕ → Tally
 with_limit tally too_large = record tally { refused = min (tally.refused + too_large) (2 ^ 64 - 1) }
 

@@ -1,4 +1,4 @@
--- What an open gives, why it may be refused, and what it then leaves.
+-- What an open returns, why it may be refused, and what it then leaves.
 use Rattle.std.specs.Prelude.{◌≡◌, ◌⊎◌, ℕ, ◌+◌, IsTrue, ⊤}
 use Rattle.sqlite_disk.specs.Disk.{MoreFaults}
 use Rattle.sqlite_disk.specs.declared.Disk.{Ghosts}
@@ -44,7 +44,7 @@ abbrev pub faults_of : {D : Type 0} → Ghosts D → Files D → ℕ
 faults_of g files = g.faults files.log + g.faults files.db
 
 module _ {D : Type 0} {g : Ghosts D} where
-  -- the files were not opened yet, and are to have the tables of a session
+  -- the files were not opened yet, and will have the tables of a session
   pub record AreFilesUnopened (it : Unopened D g) : Type 0 where
     pub usable : AreUsable it
     pub size : IsTrue (state_of it).is_clean → (state_of it).page_size ≡ database_page_size
@@ -76,7 +76,7 @@ module _ {D : Type 0} {g : Ghosts D} where
   outcomes_left (left.Files files) = outcomes g files.log files.db
   outcomes_left (left.Unopened files) = (state_of files).may_leave
 
-  -- why files are refused: NotASession tells that no session left them
+  -- why files are refused: NotASession says that no session left them
   abbrev pub FailsToOpen : Files D → Leftover D g → OpenFault → Type 0
   FailsToOpen files rest = MayOpenFail (faults_of g files) (faults_left rest) (IsFullLeft rest) (IsSession (files_image g files))
 

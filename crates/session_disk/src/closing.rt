@@ -15,8 +15,8 @@ use sqlite_store::FileStore;
 use sqlite_trees::error::StoreError;
 use sqlite_trees::store::Store;
 
-/// Gives up what is not committed, copies the log into the database file, and gives the two files back. The database file alone
-/// has the last commit then. If that fails the store is given back, and a crash leaves nothing new.
+/// Drops what is not committed, copies the log into the database file, and returns the two files. The database file alone has the
+/// last commit then. If that fails, the store is returned, and a crash leaves nothing new.
 pub fn close_files<D: Disk>(store: FileStore<D>) -> Result<Files<D>, (StoreError, FileStore<D>)>
     ensures folded { IfOk result (λ files. AreLeftFolded D.Disk files (view store)) }
     ensures err { IfErr result (λ e. (db : Trees) → recovers e.1 db → recovers store db) }

@@ -22,26 +22,30 @@ pub enum OpenFault {
     Memory,
 }
 
-/// The fault of a call that only reads.
-pub(crate) fn probe_fault(error: sqlite_wal::Error) -> OpenFault
-    ensures { result ≡ probe_fault error }
-{
-    match error {
-        sqlite_wal::Error::OutOfMemory => OpenFault::Memory,
-        sqlite_wal::Error::Io(_) => OpenFault::Unreadable,
-        sqlite_wal::Error::Full => OpenFault::Full,
-        _ => OpenFault::NotASession,
+/// Of a call that only reads.
+impl From<sqlite_wal::Error> for OpenFault {
+    ghost from_gives = { λ error fault. fault ≡ probe_fault error };
+
+    fn from(error: sqlite_wal::Error) -> OpenFault {
+        match error {
+            sqlite_wal::Error::OutOfMemory => OpenFault::Memory,
+            sqlite_wal::Error::Io(_) => OpenFault::Unreadable,
+            sqlite_wal::Error::Full => OpenFault::Full,
+            _ => OpenFault::NotASession,
+        }
     }
 }
 
-/// The fault of a call that opens.
-pub(crate) fn store_fault(error: OpenError) -> OpenFault
-    ensures { result ≡ store_fault error }
-{
-    match error {
-        OpenError::OutOfMemory => OpenFault::Memory,
-        OpenError::Io => OpenFault::Unreadable,
-        OpenError::Full => OpenFault::Full,
-        OpenError::Refused => OpenFault::NotASession,
+/// Of a call that opens.
+impl From<OpenError> for OpenFault {
+    ghost from_gives = { λ error fault. fault ≡ store_fault error };
+
+    fn from(error: OpenError) -> OpenFault {
+        match error {
+            OpenError::OutOfMemory => OpenFault::Memory,
+            OpenError::Io => OpenFault::Unreadable,
+            OpenError::Full => OpenFault::Full,
+            OpenError::Refused => OpenFault::NotASession,
+        }
     }
 }

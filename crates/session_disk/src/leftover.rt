@@ -15,7 +15,7 @@ pub enum Leftover<D: Disk> {
 }
 
 impl<D: Disk> Leftover<D> {
-    /// Gives the log and the database file back.
+    /// Returns the log and the database file.
     pub fn into_files(self) -> Files<D>
         ensures { (result.log, result.db) ≡ files_left self }
     {

@@ -20,7 +20,7 @@ pub struct FileNumber {
     pub inode: u64,
 }
 
-/// What is done about a link at the end of a path.
+/// How a link at the end of a path is treated.
 #[derive(Clone, Copy, Debug, PartialEq, Eq)]
 pub enum Links {
     /// It is followed.

@@ -30,8 +30,8 @@ pub struct NamedDisk<D, F> {
 }
 
 impl<D: Disk, F: LogFolder + Copy> NamedDisk<D, F> {
-    /// One of the two files at a path, which were just opened, with the names of both as they are in a folder. The file is given
-    /// back if `Names::look_at` refuses.
+    /// One of the two files at a path, which were just opened, with the names of both as they are in a folder. The file is
+    /// returned if `Names::look_at` refuses.
     pub(crate) fn at(
         alloc: Global,
         folder: F,

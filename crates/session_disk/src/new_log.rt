@@ -15,8 +15,8 @@ pub struct NewLog {
 }
 
 impl NewLog {
-    /// The log beside the file that a path leads to, before that is opened. If nothing is there, the open makes it. Refused if the
-    /// path can't be followed, or memory ran out.
+    /// The log beside the file that a path leads to, before that is opened. If nothing is there, the open makes it. Refused if
+    /// the path can't be followed, or memory ran out.
     pub(crate) fn beside<F: LogFolder>(alloc: Global, folder: &F, path: &str) -> io::Result<NewLog>
         ensures { IfOk result (λ log. IsLogBeside (F.view folder.now) path.now log) }
     {

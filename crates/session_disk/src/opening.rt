@@ -14,7 +14,7 @@ ghost use Rattle.session_disk.specs.Sessions.{database_page_size, BeginsWell, Is
 ghost use Rattle.session_file.specs.Opening.{IsFresh};
 ghost use Rattle.session_disk.specs.Opening.{FailsToOpen, IsCleanLeft, IsFullNow, AreFilesOpened, AreFilesUnopened, LeavesAs, LeavesFiles, MayOpenFail, faults_of, files_image};
 
-use crate::fault::{OpenFault, probe_fault, store_fault};
+use crate::fault::OpenFault;
 use crate::leftover::Leftover;
 use crate::tables::tables;
 use sqlite_disk::{Disk, Files};
@@ -51,7 +51,7 @@ fn is_blank<D: Disk>(alloc: Global, files: &mut Files<D>) -> Result<bool, OpenFa
 {
     match probe_blank(alloc, files, session_page_size(), false) {
         Ok(is_blank) => Ok(is_blank),
-        Err(error) => Err(probe_fault(error)),
+        Err(error) => Err(OpenFault::from(error)),
     }
 }
 
@@ -68,7 +68,7 @@ fn check_first_byte<D: Disk>(alloc: Global, files: &mut Files<D>) -> Result<(), 
 {
     let head = match probe_first_page(alloc, files, session_page_size()) {
         Ok(head) => head,
-        Err(error) => return Err(probe_fault(error)),
+        Err(error) => return Err(OpenFault::from(error)),
     };
     if head.0 != b'S' {
         return Err(OpenFault::NotASession);
@@ -95,7 +95,7 @@ fn check_log<D: Disk>(alloc: Global, files: &mut Files<D>) -> Result<(), OpenFau
         Ok(frames) if frames.as_slice().is_empty() => Ok(()),
         Ok(_) => Err(OpenFault::NotASession),
         Err(sqlite_wal::Error::Corrupt) => Ok(()),
-        Err(error) => Err(probe_fault(error)),
+        Err(error) => Err(OpenFault::from(error)),
     }
 }
 
@@ -144,7 +144,7 @@ fn make<D: Disk>(files: Unopened<D>) -> Result<FileStore<D>, (OpenFault, Unopene
 {
     match files.create() {
         Ok(store) => Ok(store),
-        Err((error, rest)) => Err((store_fault(error), rest)),
+        Err((error, rest)) => Err((OpenFault::from(error), rest)),
     }
 }
 
@@ -164,9 +164,9 @@ fn adopt<D: Disk>(mut files: Unopened<D>) -> Result<FileStore<D>, (OpenFault, Un
         Ok(rows) if rows.as_slice().is_empty() => make(files),
         Ok(_) => match files.open_numbered() {
             Ok(store) => Ok(store),
-            Err((error, rest)) => Err((store_fault(error), rest)),
+            Err((error, rest)) => Err((OpenFault::from(error), rest)),
         },
-        Err(error) => Err((store_fault(error), files)),
+        Err(error) => Err((OpenFault::from(error), files)),
     }
 }
 
@@ -228,7 +228,7 @@ fn adopt_files<D: Disk>(
 
 /// Opens the log and the database file as the store of a session. If they hold no database, or one with no table, the tables are
 /// made; they have no rows then. Files that a session left are refused only for memory, a fault of the disk or a limit of the
-/// format. An empty database file beside a log with a commit is refused: it is no session's. Refused files are given back. A crash
+/// format. An empty database file beside a log with a commit is refused: it is no session's. Refused files are returned. A crash
 /// then leaves those of a session as files of a session, and the content of others is what it was.
 pub fn open_files<D: Disk>(
     alloc: Global,

@@ -94,7 +94,7 @@ pub fn open_path<S: Start, F: LogFolder + Copy>(
     }
 }
 
-/// The two files at a path, which look at their names at each sync. They are given back if a name can't be looked at.
+/// The two files at a path, which look at their names at each sync. They are returned if a name can't be looked at.
 fn named_files<S: Start, F: LogFolder + Copy>(
     alloc: Global,
     folder: F,
@@ -122,7 +122,7 @@ fn named_files<S: Start, F: LogFolder + Copy>(
     }
 }
 
-/// Opens the two files, with the log that the open of them made. If they are refused they are given back, and a log that holds
+/// Opens the two files, with the log that the open of them made. If they are refused, they are returned, and a log that holds
 /// nothing is removed.
 fn open_beside<D: Disk, F: LogFolder>(
     alloc: Global,

@@ -2,10 +2,11 @@
 use Rattle.std.proofs.Common.{◌≡◌, ◌≢◌, ◌+◌, ℕ, List, Bool, true, false, cond, length, Option, None, Result, Ok, Err, inl, inr, refl, sym, ap, subst, ◌∙◌, arith}
 use Rattle.std.specs.Prelude.{nat_le, nat_lt}
 use Rattle.std.specs.FinMap.{contains_key}
+use Rattle.rv_ledger.specs.Height.{greatest_height}
 use Rattle.sha2.specs.Sha256.{sha256}
 use Rattle.elf32.specs.Layout.{Layout}
 use Rattle.programs.specs.Programs.{file_limit}
-use Rattle.session_requests.specs.Requests.{Ask, Program, Forget, Programs, Frame, Try, Last, Get, ListEntries, Dump, Begin, State as AskState, greatest_height}
+use Rattle.session_requests.specs.Requests.{Ask, Program, Forget, Programs, Frame, Try, Last, Get, ListEntries, Dump, Begin, State as AskState}
 use Rattle.session_laws.specs.Begun.{EqualButLast}
 use Rattle.session_laws.proofs.Alike.{after_alike, reply_alike}
 use Rattle.session_states.specs.States.{FileState, last_of}

@@ -1,7 +1,8 @@
 -- What is pending of a request, and what a session over a file answers it.
 use Rattle.std.proofs.Common.{◌≡◌, ◌≢◌, ◌<◌, ◌⊎◌, ℕ, List, [], Bool, true, false, IsTrue, Option, Some, None, inl, inr, refl, sym, ap, subst, ◌∙◌}
 use Rattle.std.specs.Option.{option_map}
-use Rattle.session_requests.specs.Requests.{Ask, Program, Forget, Frame, Last, Begin, greatest_height}
+use Rattle.rv_ledger.specs.Height.{greatest_height}
+use Rattle.session_requests.specs.Requests.{Ask, Program, Forget, Frame, Last, Begin}
 use Rattle.session_laws.specs.Begun.{EqualButLast}
 use Rattle.session_laws.proofs.Alike.{after_alike, frame_after, reply_alike}
 use Rattle.session_file.specs.Opening.{answer_parts}

@@ -43,9 +43,9 @@ module _ (settings : Settings) (s : State) (old : View) where
   pub spared : (new : View) → staging.GivesUp old new → Spares settings s old new
   spared new gives last k keeps is = gives k k is
 
-  pub spared_behind : (known : Kept → Type 0) (change : Kept → Kept) (mid new : View) → ((last : Option (List ℕ × List ℕ)) (k : Kept) → KeepsState settings (over s last) k → known k)
+  pub spared_after : (known : Kept → Type 0) (change : Kept → Kept) (mid new : View) → ((last : Option (List ℕ × List ℕ)) (k : Kept) → KeepsState settings (over s last) k → known k)
       → staging.StagesWhere known change old mid → staging.GivesUp mid new → Spares settings s old new
-  spared_behind known change mid new knows stages gives last k keeps is = gives k (change k) (stages k k (knows last k keeps) is)
+  spared_after known change mid new knows stages gives last k keeps is = gives k (change k) (stages k k (knows last k keeps) is)
 
   pub spared_far : (known : Kept → Type 0) (change more : Kept → Kept) (one two new : View) → ((last : Option (List ℕ × List ℕ)) (k : Kept) → KeepsState settings (over s last) k → known k)
       → staging.StagesWhere known change old one → staging.StagesKept more one two → staging.GivesUp two new → Spares settings s old new

@@ -2,7 +2,8 @@
 use Rattle.std.specs.Prelude.{◌≡◌, ◌≢◌, ◌<◌, ◌≤◌, ◌⊎◌, ⊤, ℕ, Bool, List, [], ◌∷◌, ◌++◌, codes, Option, Some, None}
 use Rattle.std.specs.Option.{ForSome}
 use Rattle.byte_streams.specs.Refusals.{line_text}
-use Rattle.session_requests.specs.Requests.{Ask, Program, Forget, Frame, Last, Begin, greatest_height}
+use Rattle.rv_ledger.specs.Height.{greatest_height}
+use Rattle.session_requests.specs.Requests.{Ask, Program, Forget, Frame, Last, Begin}
 use Rattle.session_serving.specs.Serving as serving
 use Rattle.session_file.specs.Kept.{HoldsIn, Kept}
 use Rattle.session_file.specs.Limits.{HasSmallNumbers, IsLongAnswer}

@@ -99,7 +99,7 @@ fn reply_of(is_shut: bool, fault: KeepFault) -> Result<FileReply, StoreFault>
     match fault {
         KeepFault::Room(_) if is_shut => Err(StoreFault::Memory),
         KeepFault::Room(failure) => Ok(FileReply::Turn(Answer::Failed(failure))),
-        KeepFault::Store(error) if is_shut => Err(StoreFault::of_error(error)),
-        KeepFault::Store(error) => Ok(FileReply::Failed(StoreFault::of_error(error))),
+        KeepFault::Store(error) if is_shut => Err(StoreFault::from(error)),
+        KeepFault::Store(error) => Ok(FileReply::Failed(StoreFault::from(error))),
     }
 }

@@ -37,17 +37,41 @@ pub enum SessionFault {
     Store(StoreError),
 }
 
-impl SessionFault {
-    /// The fault that is reported of it.
-    pub fn fault(self) -> StoreFault
-        ensures { result ≡ store_fault_of self }
-    {
-        match self {
+impl From<OpenFault> for SessionFault {
+    ghost from_gives = { λ below fault. fault ≡ fault_of_open below };
+
+    fn from(fault: OpenFault) -> SessionFault {
+        match fault {
+            OpenFault::NotASession => SessionFault::NotASession,
+            OpenFault::OtherVersion => SessionFault::OtherVersion,
+            OpenFault::Damaged => SessionFault::Damaged,
+            OpenFault::Store(error) => SessionFault::Store(error),
+        }
+    }
+}
+
+impl From<LoadFault> for SessionFault {
+    ghost from_gives = { λ load fault. fault ≡ fault_of_load load };
+
+    fn from(fault: LoadFault) -> SessionFault {
+        match fault {
+            LoadFault::OtherSettings => SessionFault::OtherSettings,
+            LoadFault::Damaged => SessionFault::Damaged,
+        }
+    }
+}
+
+/// The fault that is reported of it.
+impl From<SessionFault> for StoreFault {
+    ghost from_gives = { λ session fault. fault ≡ store_fault_of session };
+
+    fn from(fault: SessionFault) -> StoreFault {
+        match fault {
             SessionFault::NotASession => StoreFault::NotASession,
             SessionFault::OtherVersion => StoreFault::OtherVersion,
             SessionFault::OtherSettings => StoreFault::OtherSettings,
             SessionFault::Damaged => StoreFault::Damaged,
-            SessionFault::Store(error) => StoreFault::of_error(error),
+            SessionFault::Store(error) => StoreFault::from(error),
         }
     }
 }
@@ -73,11 +97,11 @@ pub fn open_durably<S: Store>(
 {
     let (file, found) = match open_session(alloc, store, ProgramLoader::new(alloc)) {
         Ok(opened) => opened,
-        Err((fault, store)) => return Err((fault_of_open(fault), store)),
+        Err((fault, store)) => return Err((SessionFault::from(fault), store)),
     };
     let loaded = match load_state(alloc, settings, found) {
         Ok(loaded) => loaded,
-        Err(fault) => return Err((fault_of_load(fault), file.into_store())),
+        Err(fault) => return Err((SessionFault::from(fault), file.into_store())),
     };
     if loaded.is_new {
         return begin_new(settings, file, loaded);
@@ -127,31 +151,6 @@ fn keep_new<S: Store>(file: &mut SessionFile<S>, settings: Settings) -> Result<(
     ensures lasts { Lasts S.Store file.old file.new }
     ensures crash { IsKeeping (S.Store.view file.old) nothing_kept → (db : Trees) → S.Store.recovers file.new db → S.Store.recovers file.old db ⊎ HoldsIn db (new_kept settings) }
 {
-    match file.stage_session(row_of(settings, Rules::One, 0, [0; 32])) {
-        Ok(()) => {}
-        Err(error) => return Err(error),
-    }
+    file.stage_session(row_of(settings, Rules::One, 0, [0; 32]))?;
     file.commit()
-}
-
-/// The fault of rows that are not those of a session.
-fn fault_of_open(fault: OpenFault) -> SessionFault
-    ensures { result ≡ fault_of_open fault }
-{
-    match fault {
-        OpenFault::NotASession => SessionFault::NotASession,
-        OpenFault::OtherVersion => SessionFault::OtherVersion,
-        OpenFault::Damaged => SessionFault::Damaged,
-        OpenFault::Store(error) => SessionFault::Store(error),
-    }
-}
-
-/// The fault of rows that are not a state of a session.
-fn fault_of_load(fault: LoadFault) -> SessionFault
-    ensures { result ≡ fault_of_load fault }
-{
-    match fault {
-        LoadFault::OtherSettings => SessionFault::OtherSettings,
-        LoadFault::Damaged => SessionFault::Damaged,
-    }
 }

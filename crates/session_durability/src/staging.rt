@@ -55,15 +55,9 @@ fn stage_frame<S: Store>(
     let Some(digest) = frame.digest else {
         return Err(StoreError::Unstorable);
     };
-    match stage_run(file, &state.store, &frame.run) {
-        Ok(()) => {}
-        Err(error) => return Err(error),
-    }
-    let rules = rules_behind(state.rules, &frame.run);
-    match file.stage_session(row_of(settings, rules, frame.height, digest)) {
-        Ok(()) => {}
-        Err(error) => return Err(error),
-    }
+    stage_run(file, &state.store, &frame.run)?;
+    let rules = rules_after(state.rules, &frame.run);
+    file.stage_session(row_of(settings, rules, frame.height, digest))?;
     stage_kept(file, &frame.answer)
 }
 
@@ -76,7 +70,7 @@ fn stage_kept<S: Store>(file: &mut SessionFile<S>, kept: &KeptAnswer) -> Result<
 }
 
 /// The rules after a frame.
-fn rules_behind(rules: Rules, run: &Option<PendingRun>) -> Rules
+fn rules_after(rules: Rules, run: &Option<PendingRun>) -> Rules
     ensures { (s : State) → s.rules ≡ rules → result ≡ (after_run_of s run.now).rules }
 {
     match run {
@@ -114,13 +108,7 @@ fn stage_begin<S: Store>(
     let Some(digest) = begin.digest else {
         return Err(StoreError::Unstorable);
     };
-    match file.stage_storage(&state.store, &begin.store) {
-        Ok(()) => {}
-        Err(error) => return Err(error),
-    }
-    match file.stage_session(row_of(settings, begin.rules, begin.height, digest)) {
-        Ok(()) => {}
-        Err(error) => return Err(error),
-    }
+    file.stage_storage(&state.store, &begin.store)?;
+    file.stage_session(row_of(settings, begin.rules, begin.height, digest))?;
     file.stage_no_answer()
 }

@@ -1,11 +1,12 @@
 -- Trees hold one state of a session.
 use Rattle.std.proofs.Common.{◌≡◌, ℕ, Bool, true, false, List, [], ◌∷◌, map, Option, Some, None, refl, sym, ap, ◌∙◌, arith}
 use Rattle.std.specs.FinMap.{entries, same_entries_map}
+use Rattle.rv_ledger.specs.Rules.{rules_number}
 use Rattle.sqlite_trees.specs.Tree.{Trees}
 use Rattle.rv_ledger.specs.declared.rules.Rules.{Rules}
 use Rattle.rv_ledger.specs.declared.rules.Rules.TheVariants as rules
 use Rattle.session_tree.specs.Entries.{ByteMap, entry_row, rows_of}
-use Rattle.session_file.specs.Kept.{HoldsIn, Kept, answer_row, flag_number, number_or_null, rows_if_any, rules_number, session_row}
+use Rattle.session_file.specs.Kept.{HoldsIn, Kept, answer_row, flag_number, number_or_null, rows_if_any, session_row}
 use Rattle.session_file.specs.declared.rows.SessionRow.{SessionRow}
 
 one_of : (e f : List ℕ × List ℕ) → entry_row e ≡ entry_row f → e ≡ f

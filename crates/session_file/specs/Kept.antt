@@ -2,13 +2,13 @@
 use Rattle.std.specs.Prelude.{◌≡◌, ◌≤◌, ℕ, pos, Bool, true, false, List, [], ◌∷◌, length, Option, Some, None, IfSome}
 use Rattle.std.specs.List.{AllByRecursion}
 use Rattle.std.specs.FinMap.{entries}
+use Rattle.rv_ledger.specs.Height.{greatest_height}
+use Rattle.rv_ledger.specs.Rules.{rules_number}
 use Rattle.sqlite_value.specs.declared.value.Value.{Value}
 use Rattle.sqlite_value.specs.declared.value.Value.TheVariants.{Blob, Int, Null}
 use Rattle.sqlite_value.specs.Order.{Row}
 use Rattle.sqlite_trees.specs.Tree.{Trees}
 use Rattle.rv_ledger.specs.Key.{Storage}
-use Rattle.rv_ledger.specs.declared.rules.Rules.{Rules}
-use Rattle.rv_ledger.specs.declared.rules.Rules.TheVariants.{One, Two, Three}
 use Rattle.session_tree.specs.Entries.{ByteMap, rows_of}
 use Rattle.session_file.specs.declared.rows.SessionRow.{SessionRow}
 
@@ -36,11 +36,6 @@ answer_tree = 3
 -- the version of this format
 abbrev pub format_version : ℕ
 format_version = 1
-
-abbrev pub rules_number : Rules → ℕ
-rules_number One = 1
-rules_number Two = 2
-rules_number Three = 3
 
 abbrev pub flag_number : Bool → ℕ
 flag_number false = 0
@@ -72,10 +67,6 @@ AreEntries storage = AllByRecursion (λ e. (length e.0 ≡ 32) × (length e.1 �
 -- names have 32 bytes
 abbrev pub AreNamed : ByteMap → Type 0
 AreNamed programs = AllByRecursion (λ e. length e.0 ≡ 32) (entries programs)
-
--- no session is higher than this
-abbrev pub greatest_height : ℕ
-greatest_height = 9999999999
 
 -- a digest has 32 bytes
 pub record IsSessionInLimits (s : SessionRow) : Type 0 where

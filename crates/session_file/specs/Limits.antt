@@ -1,7 +1,7 @@
 -- What a file of a session has no room for.
 use Rattle.std.specs.Prelude.{ℕ, ◌<◌, ◌≤◌, ◌+◌, ◌^◌, List, length}
 use Rattle.std.specs.Option.{ForSome}
-use Rattle.session_file.specs.Kept.{greatest_height}
+use Rattle.rv_ledger.specs.Height.{greatest_height}
 use Rattle.session_file.specs.declared.rows.SessionRow.{SessionRow}
 
 -- the numbers of a session can be kept: those of a database are below 2^63, and no session is higher than this

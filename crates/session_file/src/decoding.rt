@@ -2,12 +2,13 @@
 
 ghost use Rattle.std.specs.Prelude.{◌≡◌, ◌≢◌, ◌<◌, ◌^◌, ℕ, Bool, List, Option, pos, false, length, IfOk, IfSome, IsTrue, None};
 ghost use Rattle.std.specs.Option.{ForSome};
+ghost use Rattle.rv_ledger.specs.Rules.{rules_number};
 ghost use Rattle.sqlite_value.specs.Order.{bytes, column};
 ghost use Rattle.sqlite_value.specs.Value.{owned};
 ghost use Rattle.sqlite_value.specs.declared.value.Value.TheVariants.{Blob, Int};
 ghost use Rattle.rv_ledger.specs.declared.rules.Rules.{Rules as RulesValue};
 ghost use Rattle.session_tree.specs.Entries.{entry_row};
-ghost use Rattle.session_file.specs.Kept.{IsSessionInLimits, answer_row, flag_number, number_or_null, rules_number, session_row};
+ghost use Rattle.session_file.specs.Kept.{IsSessionInLimits, answer_row, flag_number, number_or_null, session_row};
 ghost use Rattle.session_file.specs.Opening.{IsOtherVersion, answer_parts};
 ghost use Rattle.session_file.specs.declared.rows.SessionRow.{SessionRow as SessionValue};
 

@@ -9,11 +9,11 @@ ghost use Rattle.session_tree.specs.Entries.{EditsTree, rows_of};
 ghost use Rattle.session_tree.specs.Tries.{Tries};
 ghost use Rattle.overlay.specs.Overlay.{with_changes};
 ghost use Rattle.session_file.specs.Limits.{HasSmallNumbers, IsLongAnswer};
-ghost use Rattle.session_file.specs.Kept.{AreEntries, IsSessionInLimits, answer_row, answer_tree, flag_number, number_or_null, rules_number, session_row, session_tree, storage_tree};
+ghost use Rattle.session_file.specs.Kept.{AreEntries, IsSessionInLimits, answer_row, answer_tree, flag_number, number_or_null, session_row, session_tree, storage_tree};
 
 use crate::rows::SessionRow;
 use overlay::Overlay;
-use rv_ledger::{Rules, StoredValue};
+use rv_ledger::{GREATEST_HEIGHT, StoredValue};
 use session_tree::change_entry;
 use sqlite_trees::error::StoreError;
 use sqlite_trees::store::{Shape, Store};
@@ -41,9 +41,6 @@ const ONLY_ROW: i64 = 1;
 
 /// The least number that a row can't have.
 const NUMBER_BOUND: u64 = 1 << 63;
-
-/// The height that no session is above.
-const GREATEST_HEIGHT: u64 = 9_999_999_999;
 
 /// Makes all changes of a storage in its tree.
 pub(crate) fn change_entries<S: Store>(
@@ -144,13 +141,6 @@ pub(crate) fn replace_entries<S: Store>(
     insert_entries(store, row, storage)
 }
 
-/// The number of rules.
-fn number_of(rules: Rules) -> u8
-    ensures { result ≡ rules_number rules }
-{
-    rules as u8
-}
-
 /// Puts a number, or that there is none, after the values of a row.
 fn push_number(row: &mut Row, number: Option<u64>) -> Result<(), AllocError>
     requires { ForSome number (λ n. n < 2 ^ 63) }
@@ -193,7 +183,7 @@ pub(crate) fn make_session_row(row: &mut Row, session: SessionRow) -> Result<(),
     push_number(row, Some(session.frame_limit))?;
     push_number(row, session.frame_gas)?;
     row.push(ValueRef::Int(i64::from(session.is_brief)))?;
-    row.push(ValueRef::Int(i64::from(number_of(session.rules))))?;
+    row.push(ValueRef::Int(i64::from(session.rules.number())))?;
     push_number(row, Some(session.height))?;
     row.push(ValueRef::Blob(digest_of(&session).as_slice()))
 }

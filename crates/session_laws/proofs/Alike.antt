@@ -3,12 +3,13 @@ use Rattle.std.proofs.Common.{◌≡◌, ◌≢◌, ◌<◌, ℕ, List, [], ◌�
 use Rattle.std.specs.FinMap.{contains_key, insert, remove}
 use Rattle.std.specs.Result.{result_map_both}
 use Rattle.std.proofs.lemmas.Bool.Decides.{nat_tests}
+use Rattle.rv_ledger.specs.Height.{greatest_height}
 use Rattle.sha2.specs.Sha256.{sha256}
-use Rattle.block_file.specs.Block.{BlockValue, block_of}
+use Rattle.block_file.specs.Block.{BlockValue, parsed_block}
 use Rattle.block_file.specs.declared.fault.BlockFault.{BlockFault}
 use Rattle.elf32.specs.Layout.{Layout}
 use Rattle.programs.specs.Programs.{file_limit}
-use Rattle.session_requests.specs.Requests.{Ask, Program, Forget, Frame, Try, Last, Begin, greatest_height}
+use Rattle.session_requests.specs.Requests.{Ask, Program, Forget, Frame, Try, Last, Begin}
 use Rattle.session_turns.specs.Replies.{TurnReply, Done, Refused, turn_reply_text}
 use Rattle.session_turns.specs.Telling.{names_text}
 use Rattle.session_turns.specs.Turn.{Accepted, Turn, ◌>>=◌, accepted, agree, begun_with, frame_answer, is_dump, handed_program, told, turn, unless, turn_with_program}
@@ -49,17 +50,17 @@ equal_but_last e = record {
 
 -- ---- a request
 
--- the block that `begin` takes, or its refusal, where a digest comes as one is kept or not
+-- the block that `begin` takes, or its refusal; `agrees` says whether a digest comes exactly if one is kept
 abbrev pub begun_block : Bool → Result BlockValue BlockFault → Result BlockValue FrameRefusal
 begun_block agrees text = result_map_both (λ block. block) Block text >>= (λ block.
     unless (not (is_dump block)) NotADump (
     unless (not agrees) OtherDigest (Ok block)))
 
--- two turns are answered alike, and what they leave differs at most in the last answer
+-- two turns have the same reply, and what they leave differs at most in the last answer
 abbrev IsAlike : Turn → Turn → Type 0
 IsAlike a b = (a.reply ≡ b.reply) × EqualButLast a.after b.after
 
--- behind either the answers to the same requests are alike, where they are behind what it leaves
+-- if two turns have the same reply, and the answers after them are the same, then all answers are the same
 one_more : (settings : Settings) (a b : Turn) (asks : List Ask) → IsAlike a b → answers_in_turn settings a.after asks ≡ answers_in_turn settings b.after asks
     → turn_reply_text a.reply ++ answers_in_turn settings a.after asks ≡ turn_reply_text b.reply ++ answers_in_turn settings b.after asks
 one_more settings a b asks alike rest =
@@ -96,7 +97,7 @@ module _ (s : State) (last : Option KeptAnswer) where
   begun height digest (Err refusal) = alike_told (Refused refusal)
   begun height digest (Ok block) = (refl, equal_but_last refl)
 
-  -- a frame that counts leaves the same
+  -- a frame that counts leaves the same state
   counts_alike : (settings : Settings) (wanted : Result Accepted FrameRefusal) → frame_answer settings s wanted ≡ frame_answer settings twin wanted
   counts_alike settings (Ok frame) = refl
   counts_alike settings (Err refusal) = refl
@@ -122,7 +123,7 @@ module _ (s : State) (last : Option KeptAnswer) where
   turn_alike settings (Frame bytes) other = frame_alike settings (nat_le greatest_height s.height) (accepted settings s bytes)
   turn_alike settings (Try bytes) other = ((frame_alike settings (nat_le greatest_height s.height) (accepted settings s bytes)).0, other_last s last)
   turn_alike settings Last other = absurd (other refl)
-  turn_alike settings (Begin height digest bytes) other = begun height digest (begun_block (agree digest s.digest) (block_of bytes))
+  turn_alike settings (Begin height digest bytes) other = begun height digest (begun_block (agree digest s.digest) (parsed_block bytes))
   turn_alike settings ask other = (refl, other_last s last)
 
 -- ---- two states

@@ -1,4 +1,4 @@
--- What `begin` makes of a session by another one's dump, and what both answer then.
+-- What `begin` makes of a session with another one's dump, and what both answer then.
 use Rattle.std.proofs.Common.{◌≡◌, ℕ, List, [], ◌∷◌, ◌++◌, Bool, true, All, Result, Ok, refl, sym, ap, subst, ◌∙◌, arith}
 use Rattle.std.specs.Prelude.{codes}
 use Rattle.std.specs.FinMap.{entries}

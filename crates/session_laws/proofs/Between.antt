@@ -12,7 +12,7 @@ use Rattle.rv_ledger.specs.declared.rules.Rules.TheVariants.{One}
 use Rattle.block_file.specs.declared.fault.Cause.TheVariants.{BadHeader, BadLine}
 use Rattle.block_file.specs.declared.fault.BlockFault.{BlockFault}
 use Rattle.block_file.specs.Line.{cut, on_line, read_parts}
-use Rattle.block_file.specs.Block.{Parsed, BlockValue, CallValue, start, with_line, rules_of, body_of, behind, first_format, second_format, block_of_parts, block_of}
+use Rattle.block_file.specs.Block.{Parsed, BlockValue, CallValue, nothing_parsed, with_line, rules_of, lines_from, parts_after, first_format, second_format, block_of_parts, parsed_block}
 use Rattle.session_laws.specs.Chained.{IsEntry, IsReadInBlocks, store_lines}
 use Rattle.session_laws.proofs.Sorted.{none, stored_again}
 use Rattle.session_laws.proofs.Lines.{content}
@@ -65,24 +65,24 @@ module _ (rules : Rules) (store : Storage) (h : All (IsEntry rules) (entries sto
       lines_read rules programs n empty None (entries store) h (entries_sorted store) (starts (entries store))
       ∙ ap (λ m. Ok (state rules programs m [] after)) (stored_again store)
 
-  -- where no storage was read, no `store` line was
-  fresh : (n : ℕ) (named : Rules) (f : Parsed) (rest : List (List ℕ)) → body_of n named rest ≡ Ok f → f.block ≡ block rules programs empty [] → f ≡ state rules programs empty [] None
-  fresh n named f rest e is = by ((parts_later n (start named) f rest e).fresh (inl refl))
+  -- if no storage was read, no `store` line was
+  fresh : (n : ℕ) (named : Rules) (f : Parsed) (rest : List (List ℕ)) → lines_from n named rest ≡ Ok f → f.block ≡ block rules programs empty [] → f ≡ state rules programs empty [] None
+  fresh n named f rest e is = by ((parts_later n (nothing_parsed named) f rest e).fresh (inl refl))
     where
       by : (f.last ≡ None) ⊎ Filled f.block.store → f ≡ state rules programs empty [] None
       by (inl last) = ap (λ (b : BlockValue). with_last b f.last) is ∙ ap (λ l. state rules programs empty [] l) last
       by (inr filled) = absurd (filled (ap (λ b. entries b.store) is ∙ none))
 
-  body_between : (n : ℕ) (named : Rules) (rest back : List (List ℕ)) (f g : Parsed) → 0 < length back → body_of n named rest ≡ Ok f → f.block ≡ block rules programs empty [] → body_of n named (join rest back) ≡ Ok g → g.block ≡ block rules programs empty calls
-      → body_of n named (join rest (join lines back)) ≡ Ok (state rules programs store calls after)
+  body_between : (n : ℕ) (named : Rules) (rest back : List (List ℕ)) (f g : Parsed) → 0 < length back → lines_from n named rest ≡ Ok f → f.block ≡ block rules programs empty [] → lines_from n named (join rest back) ≡ Ok g → g.block ≡ block rules programs empty calls
+      → lines_from n named (join rest (join lines back)) ≡ Ok (state rules programs store calls after)
   body_between n named rest back f g some e is e2 is2 =
       let same = fresh n named f rest e is in
-      let split = reads_split with_line BadLine n (start named) f g rest back some e e2 in
+      let split = reads_split with_line BadLine n (nothing_parsed named) f g rest back some e e2 in
       let from : read_parts with_line BadLine split.0 (state rules programs empty [] None) back ≡ Ok g = subst (λ x. read_parts with_line BadLine split.0 x back ≡ Ok g) same split.1 in
       let empty_still : entries g.block.store ≡ [] = ap (λ b. entries b.store) is2 ∙ none in
       let few : length g.block.programs ≡ length programs = ap (λ b. length b.programs) is2 in
       let called = λ (j : ℕ). calls_again rules programs store after g empty_still (omega (arith, few)) split.0 j [] back from ∙ ap (λ b. Ok (state rules programs store b.calls after)) is2 in
-      reads_on with_line BadLine n (start named) f (state rules programs store calls after) rest (join lines back) (join_some lines back some) e
+      reads_on with_line BadLine n (nothing_parsed named) f (state rules programs store calls after) rest (join lines back) (join_some lines back some) e
       (λ k. subst (λ x. read_parts with_line BadLine k x (join lines back) ≡ Ok (state rules programs store calls after)) (sym same)
       (reads_on with_line BadLine k (state rules programs empty [] None) (state rules programs store [] after) (state rules programs store calls after) lines back some (stored_lines k) called))
 
@@ -90,11 +90,11 @@ module _ (rules : Rules) (store : Storage) (h : All (IsEntry rules) (entries sto
   abbrev Between : Result BlockValue BlockFault → Result BlockValue BlockFault → Result BlockValue BlockFault → Type 0
   Between front both all = front ≡ Ok (block rules programs empty []) → both ≡ Ok (block rules programs empty calls) → all ≡ Ok (block rules programs store calls)
 
-  behind_between : (n : ℕ) (named : Rules) (parts back : List (List ℕ)) → 0 < length back → Between (behind n named parts) (behind n named (join parts back)) (behind n named (join parts (join lines back)))
+  behind_between : (n : ℕ) (named : Rules) (parts back : List (List ℕ)) → 0 < length back → Between (parts_after n named parts) (parts_after n named (join parts back)) (parts_after n named (join parts (join lines back)))
   behind_between n named parts back some e e2 =
-      let first = opened n (length parts == 0) (body_of (n + 1) named parts) (block rules programs empty []) e in
-      let second = opened n (length (join parts back) == 0) (body_of (n + 1) named (join parts back)) (block rules programs empty calls) e2 in
-      closed n (length (join parts (join lines back)) == 0) (body_of (n + 1) named (join parts (join lines back))) (block rules programs store calls) (state rules programs store calls after)
+      let first = opened n (length parts == 0) (lines_from (n + 1) named parts) (block rules programs empty []) e in
+      let second = opened n (length (join parts back) == 0) (lines_from (n + 1) named (join parts back)) (block rules programs empty calls) e2 in
+      closed n (length (join parts (join lines back)) == 0) (lines_from (n + 1) named (join parts (join lines back))) (block rules programs store calls) (state rules programs store calls after)
       (no_part (length (join parts (join lines back))) (join_some parts (join lines back) (join_some lines back some)))
       (body_between (n + 1) named parts back first.last second.last some first.read first.says second.read second.says) refl
 
@@ -102,12 +102,12 @@ module _ (rules : Rules) (store : Storage) (h : All (IsEntry rules) (entries sto
   second_between [] back some e e2 = cc
   second_between (line ∷ []) back some e e2 = absurd (alone (rules_of line) e)
     where
-      alone : (o : Option Rules) → on_line 2 (ok_or o BadLine) (λ named. behind 2 named []) ≡ Ok (block rules programs empty []) → ⊥
+      alone : (o : Option Rules) → on_line 2 (ok_or o BadLine) (λ named. parts_after 2 named []) ≡ Ok (block rules programs empty []) → ⊥
       alone (Some named) h = cc
       alone None h = cc
   second_between (line ∷ r ∷ rs) back some e e2 = by (rules_of line) e e2
     where
-      by : (o : Option Rules) → Between (on_line 2 (ok_or o BadLine) (λ named. behind 2 named (r ∷ rs))) (on_line 2 (ok_or o BadLine) (λ named. behind 2 named (join (r ∷ rs) back))) (on_line 2 (ok_or o BadLine) (λ named. behind 2 named (join (r ∷ rs) (join lines back))))
+      by : (o : Option Rules) → Between (on_line 2 (ok_or o BadLine) (λ named. parts_after 2 named (r ∷ rs))) (on_line 2 (ok_or o BadLine) (λ named. parts_after 2 named (join (r ∷ rs) back))) (on_line 2 (ok_or o BadLine) (λ named. parts_after 2 named (join (r ∷ rs) (join lines back))))
       by (Some named) e e2 = behind_between 2 named (r ∷ rs) back some e e2
       by None e e2 = cc
 
@@ -141,4 +141,4 @@ read_in_blocks rules store h = λ front back programs calls e e2.
     let all : cut 10 (front ++ (store_lines store ++ back)) ≡ join (cut 10 front) (join (lines rules store h programs calls) (cut 10 back)) =
     cut_join 10 front (store_lines store ++ back) ∙ ap (join (cut 10 front)) (cut_join 10 (store_lines store) back ∙ ap (λ x. join x (cut 10 back)) (lines_of (entries store) h)) in
     let both : block_of_parts (join (cut 10 front) (cut 10 back)) ≡ Ok (block rules programs empty calls) = ap block_of_parts (sym (cut_join 10 front back)) ∙ e2 in
-    ap block_of (append_assoc front (store_lines store) back) ∙ ap block_of_parts all ∙ parts_between rules store h programs calls (cut 10 front) (cut 10 back) (cut_some 10 back) e both
+    ap parsed_block (append_assoc front (store_lines store) back) ∙ ap block_of_parts all ∙ parts_between rules store h programs calls (cut 10 front) (cut 10 back) (cut_some 10 back) e both

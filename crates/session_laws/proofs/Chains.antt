@@ -15,7 +15,7 @@ use Rattle.rv_ledger.specs.declared.rules.Rules.TheVariants.{One, Two, Three}
 use Rattle.receipts.specs.Text.{bytes_text, store_line}
 use Rattle.block_file.specs.declared.fault.Cause.TheVariants.{BadLine}
 use Rattle.block_file.specs.Line.{◌>>=◌, cut, read_parts}
-use Rattle.block_file.specs.Block.{is_above, stored_of, with_line, with_fields, behind, block_of}
+use Rattle.block_file.specs.Block.{is_above, stored_of, with_line, with_fields, parts_after, parsed_block}
 use Rattle.block_file.proofs.Lines.{goes_on}
 use Rattle.session_laws.specs.Chained.{AreShort, IsEntry, IsStorageReadBack, block_with, store_lines}
 use Rattle.session_laws.proofs.Sorted.{Entry, stored, stored_again}
@@ -84,13 +84,13 @@ pub starts : (es : List Entry) → GoesOn None es
 starts [] = tt
 starts (e ∷ es) = refl
 
--- behind any beginning
-read_behind : (n : ℕ) (rules : Rules) (store : Storage) → All (IsEntry rules) (entries store) → behind n rules (cut 10 (store_lines store)) ≡ Ok (block_with rules store)
+-- after any beginning, the lines are read as that storage
+read_behind : (n : ℕ) (rules : Rules) (store : Storage) → All (IsEntry rules) (entries store) → parts_after n rules (cut 10 (store_lines store)) ≡ Ok (block_with rules store)
 read_behind n rules store h =
     rw (lines_of (entries store) h, some_parts (entries store), lines_read rules [] (n + 1) empty None (entries store) h (entries_sorted store) (starts (entries store)), stored_again store) refl
 
 abbrev Behind : Rules → Storage → List ℕ → Type 0
-Behind rules store beginning = block_of (beginning ++ store_lines store) ≡ Ok (block_with rules store)
+Behind rules store beginning = parsed_block (beginning ++ store_lines store) ≡ Ok (block_with rules store)
 
 pub read_back : (rules : Rules) (store : Storage) → All (IsEntry rules) (entries store) → IsStorageReadBack rules store
 read_back One store h =

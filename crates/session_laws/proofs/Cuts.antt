@@ -1,4 +1,4 @@
--- Where a text is cut that follows another, and how its parts are read.
+-- At which positions a text that follows another one is cut, and how its parts are read.
 use Rattle.std.proofs.Common.{◌≡◌, ◌<◌, ◌+◌, ◌==◌, ℕ, suc, Bool, true, false, cond, List, [], ◌∷◌, ◌++◌, length, Result, Ok, Err, refl, sym, ap, subst, ◌∙◌, arith, if◌then◌else◌}
 use Rattle.std.specs.List.{onto_first}
 use Rattle.std.proofs.lemmas.Bool.Decides.{nat_tests}
@@ -6,7 +6,7 @@ use Rattle.block_file.specs.declared.fault.Cause.{Cause}
 use Rattle.block_file.specs.declared.fault.BlockFault.{BlockFault}
 use Rattle.block_file.specs.Line.{cut, on_line, read_parts}
 
--- the last part and the first one behind it are one
+-- the last part and the first one after it become one part
 abbrev pub join : List (List ℕ) → List (List ℕ) → List (List ℕ)
 join [] bs = bs
 join (a ∷ []) [] = a ∷ []
@@ -67,12 +67,12 @@ module _ {S : Type 0} (read : S → List ℕ → Result S Cause) (unended : Caus
       above : (n : ℕ) → (suc n == 0) ≡ true → ⊥
       above n h = grind (arith, nat_tests)
 
-  -- a line with a part behind it
+  -- a line with a part after it
   step : (n : ℕ) (s : S) (line : List ℕ) (parts : List (List ℕ)) → 0 < length parts → read_parts read unended n s (line ∷ parts) ≡ on_line n (read s line) (λ u. read_parts read unended (n + 1) u parts)
   step n s line [] h = absurd (omega arith)
   step n s line (next ∷ more) h = refl
 
-  -- parts that are read, and behind those behind them
+  -- parts that are read, and then those after them
   pub reads_on : (n : ℕ) (s t u : S) (es bs : List (List ℕ)) → 0 < length bs → Gives n s es t → ((k : ℕ) → Gives k t bs u) → Gives n s (join es bs) u
   reads_on n s t u [] bs some h behind = let same : s ≡ t = cc in subst (λ x. Gives n x bs u) (sym same) (behind n)
   reads_on n s t u (a ∷ []) [] some h behind = absurd (omega arith)
@@ -88,7 +88,7 @@ module _ {S : Type 0} (read : S → List ℕ → Result S Cause) (unended : Caus
       after (Ok v) on e = on v e
       after (Err cause) on e = cc
 
-  -- and back
+  -- and the converse
   pub reads_split : (n : ℕ) (s t u : S) (es bs : List (List ℕ)) → 0 < length bs → Gives n s es t → Gives n s (join es bs) u → (k : ℕ) × Gives k t bs u
   reads_split n s t u [] bs some h whole = let same : s ≡ t = cc in (n, subst (λ x. Gives n x bs u) same whole)
   reads_split n s t u (a ∷ []) [] some h whole = absurd (omega arith)

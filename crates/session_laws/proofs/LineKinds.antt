@@ -1,4 +1,4 @@
--- What a line adds, where it is read: a program, an entry of the storage or a call.
+-- What a line adds if it is read: a program, an entry of the storage or a call.
 use Rattle.std.proofs.Common.{◌≡◌, ◌==◌, ℕ, Bool, true, false, List, [], ◌∷◌, ◌++◌, length, Option, Some, Result, Ok, Err, ◌⊎◌, inl, inr, refl, ap, ◌∙◌, if◌then◌else◌}
 use Rattle.std.specs.Prelude.{codes, not}
 use Rattle.std.specs.List.{list_all}
@@ -9,13 +9,13 @@ use Rattle.rv_ledger.specs.declared.rules.Rules.{Rules}
 use Rattle.block_file.specs.declared.fault.Cause.{Cause}
 use Rattle.block_file.specs.declared.fault.Cause.TheVariants.{BadLine}
 use Rattle.block_file.specs.Line.{◌>>=◌, cut}
-use Rattle.block_file.specs.Block.{Parsed, CallValue, line_call, with_program, with_stored, with_call, with_kind, with_fields, with_line}
+use Rattle.block_file.specs.Block.{Parsed, CallValue, line_call, with_program_line, with_stored, with_call_line, with_kind, with_fields, with_line}
 
 abbrev pub state : Rules → List (List ℕ) → Storage → List CallValue → Option (List ℕ) → Parsed
 state rules programs store calls last = record { block = record { rules = rules; programs = programs; store = store; calls = calls }; last = last }
 
 module _ (rules : Rules) (programs : List (List ℕ)) (store : Storage) (calls : List CallValue) (last : Option (List ℕ)) (t : Parsed) where
-  -- a program more, an entry more, or a call more, which does not hang on the storage
+  -- one more program, one more entry, or one more call, which does not depend on the storage
   abbrev pub Adds : (Parsed → Result Parsed Cause) → Type 0
   Adds read =
       ((p : List ℕ) × (t ≡ state rules (programs ++ p ∷ []) store calls last))
@@ -44,7 +44,7 @@ module _ (rules : Rules) (programs : List (List ℕ)) (store : Storage) (calls :
     c,
     cc,
     λ m l.
-        ap (λ b. if b then with_call (state rules programs m calls l) first second third else Err BadLine) e
+        ap (λ b. if b then with_call_line (state rules programs m calls l) first second third else Err BadLine) e
         ∙ ap (λ r. r >>= λ call. Ok (state rules programs m (calls ++ call ∷ []) l)) f,
   ))
   call_done true (Err cause) kind first second third e f h = cc
@@ -54,9 +54,9 @@ module _ (rules : Rules) (programs : List (List ℕ)) (store : Storage) (calls :
   kind_adds [] h = cc
   kind_adds (kind ∷ []) h = cc
   kind_adds (kind ∷ a ∷ []) h = cc
-  kind_adds (kind ∷ a ∷ b ∷ []) h = by (one_of_two _ _ (with_program here a b) (with_stored here a b) h)
+  kind_adds (kind ∷ a ∷ b ∷ []) h = by (one_of_two _ _ (with_program_line here a b) (with_stored here a b) h)
     where
-      by : (with_program here a b ≡ Ok t) ⊎ (with_stored here a b ≡ Ok t) → Adds (λ s. with_kind s (kind ∷ a ∷ b ∷ []))
+      by : (with_program_line here a b ≡ Ok t) ⊎ (with_stored here a b ≡ Ok t) → Adds (λ s. with_kind s (kind ∷ a ∷ b ∷ []))
       by (inl e) = inl (program_done _ e)
       by (inr e) = inr (inl (stored_done _ e))
   kind_adds (kind ∷ a ∷ b ∷ c ∷ []) h = call_done (bytes_eq kind (codes "call")) (line_call (length programs) (length calls) a b c) kind a b c refl refl h

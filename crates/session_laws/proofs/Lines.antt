@@ -15,7 +15,7 @@ use Rattle.receipts.specs.Text.{bytes_text, store_line}
 use Rattle.receipts.proofs.Cuts.{plain, both}
 use Rattle.receipts.proofs.Fields.{hex_plain, bytes_plain, are_bytes}
 use Rattle.block_file.specs.declared.fault.Cause.TheVariants.{BadHex}
-use Rattle.block_file.specs.Line.{cut, is_lower_digit, hex_of, bytes_of, key_of}
+use Rattle.block_file.specs.Line.{cut, is_lower_digit, hex_of, field_bytes, field_key}
 use Rattle.session_laws.specs.Chained.{IsEntry}
 use Rattle.session_laws.proofs.Sorted.{Entry}
 
@@ -75,7 +75,7 @@ hex_read xs h = rw (digits xs h, decode_of-encode_lower xs (are_bytes xs h)) ref
 sized : {rules : Rules} (e : Entry) → IsEntry rules e → length (encode_lower e.0) ≡ 64
 sized e h = length-encode_with lower_digits e.0 ∙ ap (λ n. 2 * n) h.key_length
 
-pub key_read : {rules : Rules} (e : Entry) → IsEntry rules e → key_of (encode_lower e.0) ≡ Ok e.0
+pub key_read : {rules : Rules} (e : Entry) → IsEntry rules e → field_key (encode_lower e.0) ≡ Ok e.0
 key_read e h = ap (λ n. if n == 64 then hex_of (encode_lower e.0) else Err BadHex) (sized e h) ∙ hex_read e.0 h.key
 
 no_dash : (a b : ℕ) (rest : List ℕ) → bytes_eq (a ∷ b ∷ rest) (codes "-") ≡ false
@@ -85,7 +85,7 @@ some_digits : (x : ℕ) (xs : List ℕ) → bytes_eq (encode_lower (x ∷ xs)) (
 unfolding encode_with
 some_digits x xs = no_dash (slice_index lower_digits (x / 16)) (slice_index lower_digits (x % 16)) (encode_lower xs)
 
-pub value_read : (xs : List ℕ) → AreBytes xs → bytes_of (bytes_text xs) ≡ Ok xs
+pub value_read : (xs : List ℕ) → AreBytes xs → field_bytes (bytes_text xs) ≡ Ok xs
 value_read [] h = refl
 value_read (x ∷ xs) h = rw (some_digits x xs) (hex_read (x ∷ xs) h)
 

@@ -23,13 +23,13 @@ use Rattle.programs.specs.Programs.{call_over}
 use Rattle.block_file.specs.declared.fault.Cause.{Cause}
 use Rattle.block_file.specs.declared.fault.Cause.TheVariants.{BadLine}
 use Rattle.block_file.specs.declared.fault.BlockFault.{BlockFault}
-use Rattle.block_file.specs.Line.{◌>>=◌, cut, bytes_of, key_of, on_line, read_parts}
-use Rattle.block_file.specs.Block.{BlockValue, CallValue, Parsed, behind, block_of, block_of_parts, body_of, is_above, line_call, program_path, rules_of, second_format, start, stored_of, with_call, with_kind, with_line, with_program, with_stored}
+use Rattle.block_file.specs.Line.{◌>>=◌, cut, field_bytes, field_key, on_line, read_parts}
+use Rattle.block_file.specs.Block.{BlockValue, CallValue, Parsed, block_of_parts, is_above, line_call, lines_from, nothing_parsed, parsed_block, parts_after, program_path, rules_of, second_format, stored_of, with_call_line, with_kind, with_line, with_program_line, with_stored}
 use Rattle.session_turns.specs.Turn.{put_over}
 use Rattle.session_laws.proofs.Values.{EachEntry, EachValue, entries_from, insert_keeps, none_kept, remove_keeps}
 use Rattle.session_laws.proofs.ShortCalls.{IsShortChange, ends_short, sum_short, within}
 
--- a value is no longer than some rules allow, nor is any of a storage
+-- a value is no longer than some rules allow, and neither is any value of a storage
 abbrev pub Fits : Rules → List ℕ → Type 0
 Fits rules value = length value ≤ longest_value rules
 
@@ -95,13 +95,13 @@ HasShortValue rules entry = Fits rules entry.1
 
 entry_short : (rules : Rules) (last : Option (List ℕ)) (key value : List ℕ) → IfOk (stored_of rules last key value) (HasShortValue rules)
 entry_short rules last key value =
-    next_if (λ _. Unit {0}) (HasShortValue rules) (key_of key) _ (any (key_of key)) (λ k _.
-    next_if (λ _. Unit {0}) (HasShortValue rules) (bytes_of value) _ (any (bytes_of value)) (λ v _.
+    next_if (λ _. Unit {0}) (HasShortValue rules) (field_key key) _ (any (field_key key)) (λ k _.
+    next_if (λ _. Unit {0}) (HasShortValue rules) (field_bytes value) _ (any (field_bytes value)) (λ v _.
     cond_both (not (is_above last k)) _ _ (λ r. IfOk r (HasShortValue rules)) (λ _. tt) (λ _.
     cond_both (nat_lt (longest_value rules) (length v)) _ _ (λ r. IfOk r (HasShortValue rules)) (λ _. tt) (λ short. within (longest_value rules) (length v) short))))
 
 module _ (s : Parsed) (h : HasShortStore s) where
-  program_short : (number path : List ℕ) → IfOk (with_program s number path) HasShortStore
+  program_short : (number path : List ℕ) → IfOk (with_program_line s number path) HasShortStore
   program_short number path = next_if (λ _. Unit {0}) HasShortStore (program_path (length s.block.programs) number path) _ (any (program_path (length s.block.programs) number path)) (λ p _. h)
 
   stored_short : (key value : List ℕ) → IfOk (with_stored s key value) HasShortStore
@@ -109,7 +109,7 @@ module _ (s : Parsed) (h : HasShortStore s) where
       next_if (HasShortValue s.block.rules) HasShortStore (stored_of s.block.rules s.last key value) _ (entry_short s.block.rules s.last key value)
       (λ entry new. insert_keeps (Fits s.block.rules) s.block.store entry.0 entry.1 new h)
 
-  line_short : (program gas input : List ℕ) → IfOk (with_call s program gas input) HasShortStore
+  line_short : (program gas input : List ℕ) → IfOk (with_call_line s program gas input) HasShortStore
   line_short program gas input =
       let line = line_call (length s.block.programs) (length s.block.calls) program gas input in
       next_if (λ _. Unit {0}) HasShortStore line _ (any line) (λ c _. h)
@@ -139,9 +139,9 @@ lines_short n s (line ∷ next ∷ more) h = by (with_line s line) (fields_short
 abbrev IsShortBlock : BlockValue → Type 0
 IsShortBlock block = IsShort block.rules block.store
 
-behind_short : (n : ℕ) (rules : Rules) (parts : List (List ℕ)) → IfOk (behind n rules parts) IsShortBlock
+behind_short : (n : ℕ) (rules : Rules) (parts : List (List ℕ)) → IfOk (parts_after n rules parts) IsShortBlock
 behind_short n rules parts =
-    cond_both (length parts == 0) _ _ (λ r. IfOk r IsShortBlock) (λ _. tt) (λ _. by (body_of (n + 1) rules parts) (lines_short (n + 1) (start rules) parts (no_values rules)))
+    cond_both (length parts == 0) _ _ (λ r. IfOk r IsShortBlock) (λ _. tt) (λ _. by (lines_from (n + 1) rules parts) (lines_short (n + 1) (nothing_parsed rules) parts (no_values rules)))
   where
     by : (r : Result Parsed BlockFault) → IfOk r HasShortStore → IfOk (result_map_both (λ s. s.block) (λ fault. fault) r) IsShortBlock
     by (Ok s) k = k
@@ -151,7 +151,7 @@ second_short : (parts : List (List ℕ)) → IfOk (second_format parts) IsShortB
 second_short [] = tt
 second_short (line ∷ rest) = by (rules_of line)
   where
-    by : (o : Option Rules) → IfOk (on_line 2 (ok_or o BadLine) (λ rules. behind 2 rules rest)) IsShortBlock
+    by : (o : Option Rules) → IfOk (on_line 2 (ok_or o BadLine) (λ rules. parts_after 2 rules rest)) IsShortBlock
     by (Some rules) = behind_short 2 rules rest
     by None = tt
 
@@ -161,5 +161,5 @@ parts_short (header ∷ rest) =
     cond_both (bytes_eq header (codes "rvblock 1")) _ _ (λ r. IfOk r IsShortBlock) (λ _. behind_short 1 One rest) (λ _.
     cond_both (bytes_eq header (codes "rvblock 2")) _ _ (λ r. IfOk r IsShortBlock) (λ _. second_short rest) (λ _. tt))
 
-pub file_short : (bytes : List ℕ) → IfOk (block_of bytes) IsShortBlock
+pub file_short : (bytes : List ℕ) → IfOk (parsed_block bytes) IsShortBlock
 file_short bytes = parts_short (cut 10 bytes)

@@ -49,7 +49,7 @@ IsShortRequest limit other = Unit {0}
 pub within : (limit count : ℕ) → nat_lt limit count ≡ false → count ≤ limit
 within limit count h = grind (arith, nat_tests)
 
--- no more bytes are taken than their number
+-- at most this number of bytes is taken
 short_bytes : (limit count : ℕ) (bytes : List ℕ) → count ≤ limit → length (take count bytes) ≤ limit
 short_bytes limit count bytes h = omega (arith, length-take count bytes)
 
@@ -107,7 +107,7 @@ module _ (rules : Rules) where
   abbrev HasShort : Machine → Type 0
   HasShort s = (s.rules ≡ rules) × AreShortWrites s.own
 
-  -- the same of the machine that a step leaves
+  -- the same for the machine that a step leaves
   unfoldable LeavesShort : Progress → Type 0
   LeavesShort (Going t) = (t.rules ≡ rules) × AreShortWrites t.own
   LeavesShort (Over end out t) = (t.rules ≡ rules) × AreShortWrites t.own

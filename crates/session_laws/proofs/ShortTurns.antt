@@ -5,20 +5,20 @@ use Rattle.std.specs.FinMap.{contains_key, empty}
 use Rattle.std.specs.Result.{result_map_both}
 use Rattle.std.proofs.lemmas.Bool.{cond_both}
 use Rattle.std.proofs.lemmas.Result.{IfOk-at_ok}
+use Rattle.rv_ledger.specs.Height.{greatest_height}
 use Rattle.sha2.specs.Sha256.{sha256}
-use Rattle.block_file.specs.Block.{BlockValue, block_of}
+use Rattle.block_file.specs.Block.{BlockValue, parsed_block}
 use Rattle.block_file.specs.declared.fault.BlockFault.{BlockFault}
 use Rattle.elf32.specs.Layout.{Layout}
 use Rattle.programs.specs.Programs.{calls_over, file_limit}
-use Rattle.session_requests.specs.Requests.{Ask, Program, Forget, Frame, Begin, greatest_height}
+use Rattle.session_requests.specs.Requests.{Ask, Program, Forget, Frame, Begin}
 use Rattle.rv_ledger.specs.Key.{Storage}
-use Rattle.rv_ledger.specs.Rules.{longest_value}
+use Rattle.rv_ledger.specs.Rules.{longest_value, rules_number}
 use Rattle.rv_ledger.specs.declared.rules.Rules.{Rules}
 use Rattle.rv_ledger.specs.declared.rules.Rules.TheVariants.{One, Two, Three}
 use Rattle.rv_step.specs.Fold.{store_after}
 use Rattle.session_serving.specs.Serving.{AreAnswered, state_after}
 use Rattle.session_turns.specs.Failures.{IsAnswer}
-use Rattle.session_turns.specs.Telling.{rules_number}
 use Rattle.session_turns.specs.Turn.{Accepted, Turn, ◌>>=◌, accepted, accepted_block, agree, begun_with, frame_answer, block_gas, is_above_limit, is_dump, new_session, handed_program, turn, unless, turn_with_program}
 use Rattle.session_turns.specs.Programs.{frame_programs}
 use Rattle.session_turns.specs.declared.refusal.FrameRefusal.{FrameRefusal}
@@ -29,7 +29,7 @@ use Rattle.session_laws.specs.Chained.{AreShort}
 use Rattle.session_laws.proofs.Values.{entries_from, values_from}
 use Rattle.session_laws.proofs.ShortBlocks.{Fits, IsShort, calls_short, file_short, no_values, put_short}
 
--- ---- the same of the entries
+-- ---- the same for the entries
 
 to_entries : (rules : Rules) (store : Storage) → IsShort rules store → AreShort rules store
 to_entries rules store h = entries_from (Fits rules) store h
@@ -37,7 +37,7 @@ to_entries rules store h = entries_from (Fits rules) store h
 from_entries : (rules : Rules) (store : Storage) → AreShort rules store → IsShort rules store
 from_entries rules store h = values_from (Fits rules) store h
 
-pub file_entries : (bytes : List ℕ) (block : BlockValue) → block_of bytes ≡ Ok block → AreShort block.rules block.store
+pub file_entries : (bytes : List ℕ) (block : BlockValue) → parsed_block bytes ≡ Ok block → AreShort block.rules block.store
 file_entries bytes block e = to_entries block.rules block.store (IfOk-at_ok (λ b. IsShort b.rules b.store) e (file_short bytes))
 
 pub block_entries : (block : BlockValue) (images : List Layout) (store : Storage) → AreShort block.rules store → AreShort block.rules (store_after (calls_over block images) store)
@@ -62,7 +62,7 @@ IsShortState s = AreShort s.rules s.store
 
 -- ---- frames
 
--- a block's entries are short by its rules, which allow what the session's do
+-- a block's entries are short by its rules, which allow at least what the session's rules allow
 record IsShortFor (s : State) (block : BlockValue) : Type 0 where
   own : AreShort block.rules block.store
   more : longest_value s.rules ≤ longest_value block.rules
@@ -86,10 +86,10 @@ block_taken settings s block own =
     with_images s block (record { own = own; more = allowed_more s.rules block.rules newer }) (frame_programs s.programs block.programs)))
 
 text_taken : (bytes : List ℕ) (A : Type 0) (P : A → Type 0) (next : BlockValue → Result A FrameRefusal) → ((block : BlockValue) → AreShort block.rules block.store → IfOk (next block) P)
-    → IfOk (result_map_both (λ block. block) Block (block_of bytes) >>= next) P
-text_taken bytes A P next h = by (block_of bytes) refl
+    → IfOk (result_map_both (λ block. block) Block (parsed_block bytes) >>= next) P
+text_taken bytes A P next h = by (parsed_block bytes) refl
   where
-    by : (text : Result BlockValue BlockFault) → block_of bytes ≡ text → IfOk (result_map_both (λ block. block) Block text >>= next) P
+    by : (text : Result BlockValue BlockFault) → parsed_block bytes ≡ text → IfOk (result_map_both (λ block. block) Block text >>= next) P
     by (Ok block) e = h block (file_entries bytes block e)
     by (Err fault) e = tt
 
@@ -139,7 +139,7 @@ module _ (settings : Settings) where
   asks_short s [] h = h
   asks_short s (ask ∷ asks) h = asks_short (turn settings s ask).after asks (turn_short s ask h)
 
-  -- also where memory ran out at some of the requests
+  -- also if memory ran out at some of the requests
   answer_short : (s after : State) (ask : Ask) (text : List ℕ) → IsAnswer settings s ask text after → IsShortState s → IsShortState after
   answer_short s after ask text (inl (is, leads)) h = subst IsShortState (sym leads) (turn_short s ask h)
   answer_short s after ask text (inr (failure, may, is, same)) h = subst IsShortState (sym same) h

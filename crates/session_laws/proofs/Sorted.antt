@@ -1,4 +1,4 @@
--- Entries that are put into a map in the order of their keys stand behind those before.
+-- Entries that are put into a map in the order of their keys come after the earlier ones.
 use Rattle.std.proofs.Common.{◌≡◌, ℕ, T, List, [], ◌∷◌, ◌++◌, append_assoc, append-nil, length, arith, refl, sym, ap, subst, ◌∙◌}
 use Rattle.std.specs.declared.cmp.Ordering.TheVariants.{Less, Greater}
 use Rattle.std.specs.Ordering.{is_lt, ordering_reverse}
@@ -17,7 +17,7 @@ below_one : (k : List ℕ) (xs ys : List Entry) (e : Entry) → T (below_all key
 below_one k [] ys e h = less (key_cmp k e.0) (and_yes (is_lt (key_cmp k e.0)) (below_all key_cmp k ys) h).0
 below_one k (x ∷ xs) ys e h = below_one k xs ys e (and_yes (is_lt (key_cmp k x.0)) (below_all key_cmp k (xs ++ e ∷ ys)) h).1
 
--- an entry above all others is put behind them
+-- an entry above all others is put after them
 put_last : (xs ys : List Entry) (e : Entry) → T (is_sorted key_cmp (xs ++ e ∷ ys)) → put key_cmp e.0 e.1 xs ≡ xs ++ e ∷ []
 put_last [] ys e h = refl
 put_last (x ∷ xs) ys e h =

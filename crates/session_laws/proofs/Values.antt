@@ -42,7 +42,7 @@ module _ {X : Type 0} (P : X → Type 0) where
   pub values_from : (m : FinMap key_cmp X) → EachEntry (entries m) → EachValue m
   values_from m h key = subst (λ (o : Option X). IfSome o P) (sym (get-entries m key)) (found (entries m) key h)
 
-  -- and back: what is found behind the first entry has another key
+  -- and the converse: what is found after the first entry has another key
   behind_first : (e : List ℕ × X) (es : List (List ℕ × X)) → T (below_all key_cmp e.0 es) → ((q : List ℕ) → IfSome (find key_cmp q (e ∷ es)) P) → (q : List ℕ) → IfSome (find key_cmp q es) P
   behind_first e es below h q = by (key_cmp q e.0) refl
     where

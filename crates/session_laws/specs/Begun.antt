@@ -1,12 +1,13 @@
 -- A session that begins with another one's dump.
 use Rattle.std.specs.Prelude.{◌≡◌, ◌||◌, nat_lt, Bool, true, false, List, [], ◌∷◌, None}
-use Rattle.session_requests.specs.Requests.{Ask, Frame, Last, greatest_height}
+use Rattle.rv_ledger.specs.Height.{greatest_height}
+use Rattle.session_requests.specs.Requests.{Ask, Frame, Last}
 use Rattle.session_turns.specs.Turn.{turn}
 use Rattle.session_turns.specs.declared.settings.Settings.{Settings}
 use Rattle.session_turns.specs.declared.state.State.{State}
 
--- what `begin` makes of a session t by the dump, the height and the digest of s: it has then all that s has, but t's programs
--- and no last answer
+-- what `begin` makes of a session t with the dump, the height and the digest of s: all that s has, except that the programs stay
+-- t's and that there is no last answer
 abbrev pub begun_from : State → State → State
 begun_from s t = record s { programs = t.programs; last = None }
 

@@ -7,7 +7,7 @@ use Rattle.rv_ledger.specs.declared.rules.Rules.{Rules}
 use Rattle.rv_ledger.specs.declared.rules.Rules.TheVariants.{One, Two, Three}
 use Rattle.receipts.specs.Ranges.{AreBytes}
 use Rattle.receipts.specs.Text.{store_line}
-use Rattle.block_file.specs.Block.{BlockValue, CallValue, block_of}
+use Rattle.block_file.specs.Block.{BlockValue, CallValue, parsed_block}
 
 -- no value is longer than these rules allow: 64 bytes, or 256
 abbrev pub AreShort : Rules → Storage → Type 0
@@ -34,14 +34,14 @@ beginnings One = codes "rvblock 1\n" ∷ codes "rvblock 2\ngas 1\n" ∷ []
 beginnings Two = codes "rvblock 2\ngas 2\n" ∷ []
 beginnings Three = codes "rvblock 2\ngas 3\n" ∷ []
 
--- behind each such beginning of a block file, the `store` lines are read as that storage
+-- after each such beginning of a block file, the `store` lines are read as that storage
 abbrev pub IsStorageReadBack : Rules → Storage → Type 0
-IsStorageReadBack rules store = All (λ beginning. block_of (beginning ++ store_lines store) ≡ Ok (block_with rules store)) (beginnings rules)
+IsStorageReadBack rules store = All (λ beginning. parsed_block (beginning ++ store_lines store) ≡ Ok (block_with rules store)) (beginnings rules)
 
 -- the same between the programs and the calls of a block file of these rules without storage; its programs and calls stay
 abbrev pub IsReadInBlocks : Rules → Storage → Type 0
 IsReadInBlocks rules store =
     (front back : List ℕ) (programs : List (List ℕ)) (calls : List CallValue)
-    → block_of front ≡ Ok (record { rules = rules; programs = programs; store = empty; calls = [] })
-    → block_of (front ++ back) ≡ Ok (record { rules = rules; programs = programs; store = empty; calls = calls })
-    → block_of (front ++ store_lines store ++ back) ≡ Ok (record { rules = rules; programs = programs; store = store; calls = calls })
+    → parsed_block front ≡ Ok (record { rules = rules; programs = programs; store = empty; calls = [] })
+    → parsed_block (front ++ back) ≡ Ok (record { rules = rules; programs = programs; store = empty; calls = calls })
+    → parsed_block (front ++ store_lines store ++ back) ≡ Ok (record { rules = rules; programs = programs; store = store; calls = calls })

@@ -1,8 +1,9 @@
-//! A session that begins with another one's dump, and goes on as that one.
+//! A session that begins with another one's dump, and continues as that one.
 
 ghost use Rattle.std.specs.Prelude.{◌≡◌, ◌≢◌, ◌<◌, ◌++◌, ◌∷◌, [], ℕ, List, All, codes, true};
 ghost use Rattle.std.specs.FinMap.{entries};
-ghost use Rattle.session_requests.specs.Requests.{Ask, Begin, Frame, Last, greatest_height};
+ghost use Rattle.rv_ledger.specs.Height.{greatest_height};
+ghost use Rattle.session_requests.specs.Requests.{Ask, Begin, Frame, Last};
 ghost use Rattle.session_laws.specs.Begun.{EqualButLast, asks_last_late, begun_from};
 ghost use Rattle.session_laws.specs.Chained.{IsEntry};
 ghost use Rattle.session_serving.specs.Serving.{AreAnswered, answers_in_turn, state_after};
@@ -16,17 +17,17 @@ ghost use Rattle.session_turns.specs.declared.state.State.{State};
 use crate::storage::are_entries;
 use session_turns::State;
 
-/// A law, and no code: a session t that is handed the dump, the height and the digest of a session s by `begin` has then all
-/// that s has, but its programs, which stay t's, and its last answer, which is none. This holds where the keys of s have 32
-/// bytes and its values at most what its rules allow, and where both sessions keep a digest or neither does.
+/// A law, and no code: `begin` hands a session t the dump, the height and the digest of a session s. Then t has all that s has,
+/// except that its programs stay and that it has no last answer. This holds if the keys of s have 32 bytes and its values at most
+/// what its rules allow, and if both sessions keep a digest or neither does.
 pub fn begin_after_dump()
     ensures { (settings : Settings) (s t : State) → All (IsEntry s.rules) (entries s.store) → agree s.digest t.digest ≡ true
         → turn settings t (Begin s.height s.digest (dump_text s.rules s.store)) ≡ record { reply = Done []; after = begun_from s t } }
 {}
 
-/// A law, and no code: two sessions that differ at most in their last answer answer each request but `last` alike, and differ
-/// at most in their last answer behind each. Behind a frame that counts they are equal. So they answer a list of requests alike
-/// where no `last` comes before the first such frame.
+/// A law, and no code: two sessions that differ at most in their last answer give the same answer to each request except `last`.
+/// After each request they differ at most in their last answer, and after a frame that counts they are equal. So they give the
+/// same answers to a list of requests if no `last` comes before the first such frame.
 pub fn begun_answers_alike()
     ensures reply { (settings : Settings) (s t : State) (ask : Ask) → EqualButLast s t → ask ≢ Last
         → (turn settings s ask).reply ≡ (turn settings t ask).reply }
@@ -40,10 +41,10 @@ pub fn begun_answers_alike()
         → EqualButLast (state_after settings s asks) (state_after settings t asks) }
 {}
 
-/// A law, and no code: a session t that has the programs of a session s, and is handed its dump, height and digest by `begin`,
-/// answers that by `ok 0`, and what follows as s does where no `last` comes before the first frame that counts. What both leave
-/// differs at most in the last answer. This holds where the keys of s have 32 bytes and its values at most what its rules
-/// allow, and where both sessions keep a digest or neither does.
+/// A law, and no code: a session t has the programs of a session s, and gets its dump, height and digest by `begin`. It answers
+/// that by `ok 0`, and the requests after it as s does if no `last` comes before the first frame that counts. What both leave
+/// differs at most in the last answer. This holds if the keys of s have 32 bytes and its values at most what its rules allow, and
+/// if both sessions keep a digest or neither does.
 pub fn begun_session_answers_alike()
     ensures answers { (settings : Settings) (s t : State) (asks : List Ask)
         → All (IsEntry s.rules) (entries s.store) → agree s.digest t.digest ≡ true → t.programs ≡ s.programs → asks_last_late settings s asks ≡ true
@@ -53,8 +54,8 @@ pub fn begun_session_answers_alike()
         → EqualButLast (state_after settings s asks) (state_after settings t (Begin s.height s.digest (dump_text s.rules s.store) ∷ asks)) }
 {}
 
-/// The same law for a session s that a program holds and that came from a new one by requests, at some of which memory may
-/// have run out: nothing is asked of its keys and values then. It walks over the storage and changes nothing.
+/// The same law for a session s that a program holds and that came from a new one by requests, at some of which memory may have
+/// run out. Nothing is required of its keys and values then. It walks over the storage and changes nothing.
 pub fn held_session_answers_alike(s: &State)
     ensures answers { (settings : Settings) (t : State) (before asks : List Ask) (text : List ℕ)
         → AreAnswered (IsAnswer settings) (new_session settings) before text s.now

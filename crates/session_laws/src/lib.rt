@@ -1,5 +1,5 @@
 //! What one crate writes, read by another: the storage after a block is the storage before the next one, and a session that
-//! begins with what another one dumps goes on as that one.
+//! begins with what another one dumps continues as that one.
 #![tactic(auto)]
 
 mod begin;

@@ -10,10 +10,9 @@ ghost use Rattle.session_laws.specs.Chained.{AreShort, IsEntry, IsStorageReadBac
 
 use rv_ledger::{Key, Store, StoredValue};
 
-/// A law, and no code: the `store` lines of a result, put into a block file, are read as the result's
-/// storage: alone behind each beginning of a block file, and between the programs and the calls of
-/// any block file without storage. This holds where the storage's keys have 32 bytes and its values
-/// at most what the block file's rules allow, 64 or 256.
+/// A law, and no code: the `store` lines of a result, put into a block file, are read as the result's storage: alone after each
+/// beginning of a block file, and between the programs and the calls of any block file without storage. This holds if the
+/// storage's keys have 32 bytes and its values at most what the block file's rules allow, 64 or 256.
 pub fn storage_is_read_back()
     ensures alone { (rules : Rules) (store : Storage) → All (IsEntry rules) (entries store) → IsStorageReadBack rules store }
     ensures between { (rules : Rules) (store : Storage) → All (IsEntry rules) (entries store) → IsReadInBlocks rules store }

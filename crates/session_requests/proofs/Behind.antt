@@ -11,7 +11,7 @@ use Rattle.session_requests.specs.Reading.{GivesBody, ReadsRequest, TellsBehind,
 use Rattle.session_requests.proofs.RoundTrip.{body_read, by_found}
 use Rattle.session_requests.proofs.Taken.{IsBroken, known_map, known_then}
 
--- ---- behind a line
+-- ---- after a line
 
 behind_whole : (said : RequestLine) (xs bs ys : List ℕ) → xs ≡ bs ++ ys → length bs ≡ body_length said → behind_line (Some said) xs ≡ Is (with_body said bs) ys
 behind_whole said xs bs ys e h = ap (behind_line (Some said)) e ∙ body_read said bs ys h

@@ -28,7 +28,7 @@ pub scan_end : (byte room : ℕ) (done : List ℕ) → option_map (before done) 
 scan_end byte zero done = refl
 scan_end byte (suc room) done = refl
 
--- the same over a text, where i bytes were seen of at most `limit`
+-- the same over a text, if i bytes were seen of at most `limit`
 abbrev pub SeenTo : ℕ → ℕ → List ℕ → ℕ → Type 0
 SeenTo byte limit text i = first_part byte limit text ≡ option_map (before (take i text)) (first_part byte (limit - i) (drop i text))
 

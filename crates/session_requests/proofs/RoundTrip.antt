@@ -26,7 +26,7 @@ apart c b h = grind (arith, nat_tests)
 same : (c : ℕ) → (c == c) ≡ true
 same c = grind (arith, nat_tests)
 
--- a text that lacks a byte stands before it
+-- a text that lacks a byte is the part before it
 pub part_found : (c room : ℕ) (text more : List ℕ) → above c text ≡ true → length text < room → first_part c room (text ++ c ∷ more) ≡ Some (text, more)
 part_found c zero text more h lt = absurd (omega (arith, lt))
 part_found c (suc room) [] more h lt = rw (same c) refl

@@ -1,4 +1,4 @@
--- A line, and a request, that is read is spelled so.
+-- A line or a request that is read has the text that is written for it.
 use Rattle.std.proofs.Common.{◌≡◌, ◌≤◌, ◌==◌, ◌&&◌, ℕ, Bool, true, false, cond, List, [], ◌∷◌, ◌++◌, length, take, drop, Option, Some, None, IfSome, nat_lt, refl, sym, ap, subst, ◌∙◌, arith, append_assoc, take-append-drop, length-take-le}
 use Rattle.std.specs.Prelude.{⊤, nat_le, codes}
 use Rattle.std.specs.Fmt.{decimal}

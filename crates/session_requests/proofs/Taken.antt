@@ -93,7 +93,7 @@ scans_full room count a b full fits so = known_map (Scans room count) IsBroken a
 
 -- ---- a body
 
--- all but `left` of `size` bytes were read, and are kept where there is room
+-- all except `left` of `size` bytes were read; if bytes are kept, they are these
 abbrev pub Passes : ℕ → ℕ → Keeping → List ℕ → List ℕ → Type 0
 Passes size left kept xs ys = (bs : List ℕ) × (xs ≡ bs ++ ys) × (length bs + left ≡ size) × AreBytesKept kept bs
 
@@ -110,7 +110,7 @@ passes_more size left count kept longer bytes a b c so read long few keeps = kno
   keeps bs is,
 ))
 
--- what became of bytes that were to be kept
+-- bytes that were kept are not passed over; if memory for them ran out, there was at least one
 abbrev pub IsLost : Keeping → Keeping → ℕ → Type 0
 IsLost (Kept before) Passed size = ⊥
 IsLost (Kept before) OutOfMemory size = 0 < size

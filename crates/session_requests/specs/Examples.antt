@@ -29,7 +29,7 @@ pub cut_body : requests_of (codes "try 0\nframe 3\nab") ≡ all_requests (Try []
 unfolding requests_of request_in_bytes
 cut_body = refl
 
--- the greatest length, with nothing behind it
+-- the greatest length, with nothing after it
 pub greatest_length : requests_of (codes "frame 9999999999\n") ≡ all_requests [] (Some Cut)
 unfolding requests_of request_in_bytes
 greatest_length = refl
@@ -39,7 +39,7 @@ pub eleven_digits : requests_of (codes "frame 10000000000\n") ≡ all_requests [
 unfolding requests_of request_in_bytes
 eleven_digits = refl
 
--- a number that 64 bits lack
+-- a number that 64 bits can not hold
 pub too_great : requests_of (codes "frame 18446744073709551616\n") ≡ all_requests [] (Some BadLine)
 unfolding requests_of request_in_bytes
 too_great = refl
@@ -73,7 +73,7 @@ pub behind_a_word : requests_of (codes "q 1\n") ≡ all_requests [] (Some BadLin
 unfolding requests_of request_in_bytes
 behind_a_word = refl
 
--- what follows the end of a session is read on
+-- bytes after the end of a session are read, too
 pub behind_the_end : requests_of (codes "q\nend") ≡ all_requests (Quit ∷ []) (Some BadLine)
 unfolding requests_of request_in_bytes
 behind_the_end = refl

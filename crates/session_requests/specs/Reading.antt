@@ -17,7 +17,7 @@ use Rattle.session_requests.specs.declared.request.RequestLine.TheVariants as li
 use Rattle.session_requests.specs.Requests.{Ask, Program, Forget, Programs, Frame, Try, Last, Get, ListEntries, Dump, Begin, State, Quit, Is, Ends, behind_line, body_length, first_part, line_limit, request_in_bytes, with_body}
 use Rattle.session_requests.specs.Written.{line_for}
 
--- of the bytes before and after, where those before are known
+-- a fact of the bytes before and after, if those before are known
 abbrev pub WhereKnown : Option (List ℕ) → Option (List ℕ) → (List ℕ → List ℕ → Type 0) → Type 0
 WhereKnown None after P = ⊤
 WhereKnown (Some xs) None P = ⊥
@@ -28,7 +28,7 @@ abbrev pub AreBytesKept : Keeping → List ℕ → Type 0
 AreBytesKept (Kept bytes) whole = bytes.items ≡ whole
 AreBytesKept other whole = ⊤
 
--- what becomes of more bytes: those that are kept may be lost for want of memory alone, and are not lost again
+-- how keeping changes with more bytes: kept bytes are lost only if memory runs out, and what is not kept stays so
 abbrev pub KeepingGoesOn : Keeping → Keeping → Type 0
 KeepingGoesOn (Kept bytes) Passed = ⊥
 KeepingGoesOn (Kept bytes) other = ⊤
@@ -57,11 +57,11 @@ is_too_long frame_limit (line.Frame length) = nat_lt frame_limit length
 is_too_long frame_limit (line.Try length) = nat_lt frame_limit length
 is_too_long frame_limit other = false
 
--- a request with this line, and as many bytes as it says, comes first in xs, and ys is behind it
+-- a request with this line, and as many bytes as it says, comes first in xs, and ys follows it
 abbrev pub IsPassed : RequestLine → List ℕ → List ℕ → Type 0
 IsPassed said xs ys = (bytes : List ℕ) × (request_in_bytes xs ≡ Is (with_body said bytes) ys) × (length bytes ≡ body_length said)
 
--- what a reader answers is what comes first in xs, and it leaves ys
+-- what a reader returns is what comes first in xs, and it leaves ys
 abbrev pub ReadsRequest : ℕ → Asked → List ℕ → List ℕ → Type 0
 ReadsRequest frame_limit (asked.Whole request) xs ys = (request_in_bytes xs ≡ Is (ask_of request) ys) × (is_too_long frame_limit (line_for (ask_of request)) ≡ false)
 ReadsRequest frame_limit (asked.TooLong said) xs ys = IsPassed said xs ys × (is_too_long frame_limit said ≡ true)
@@ -69,7 +69,7 @@ ReadsRequest frame_limit (asked.Unkept said) xs ys = IsPassed said xs ys × (is_
 ReadsRequest frame_limit (asked.Broken fault) xs ys = request_in_bytes xs ≡ Ends (Some fault)
 ReadsRequest frame_limit asked.End xs ys = request_in_bytes xs ≡ Ends None
 
--- the same behind a line
+-- the same for the bytes after a line
 abbrev pub TellsBehind : ℕ → Asked → RequestLine → List ℕ → List ℕ → Type 0
 TellsBehind frame_limit (asked.Whole request) said xs ys = (behind_line (Some said) xs ≡ Is (ask_of request) ys) × (is_too_long frame_limit (line_for (ask_of request)) ≡ false)
 TellsBehind frame_limit (asked.TooLong other) said xs ys = (other ≡ said) × ((bytes : List ℕ) × (behind_line (Some said) xs ≡ Is (with_body said bytes) ys) × (length bytes ≡ body_length said)) × (is_too_long frame_limit said ≡ true)
@@ -93,14 +93,15 @@ abbrev pub IsLineWithin : LineEnd → Type 0
 IsLineWithin (end.Whole count) = count ≤ 128
 IsLineWithin other = ⊤
 
--- what a read of so many bytes gives
+-- what a read of this many bytes gives
 abbrev pub GivesBody : ℕ → Body → List ℕ → List ℕ → Type 0
 GivesBody size (body.Whole bytes) xs ys = (bs : List ℕ) × (xs ≡ bs ++ ys) × (length bs ≡ size) × (bytes.items ≡ bs)
 GivesBody size body.Passed xs ys = (bs : List ℕ) × (xs ≡ bs ++ ys) × (length bs ≡ size)
 GivesBody size body.Unkept xs ys = (bs : List ℕ) × (xs ≡ bs ++ ys) × (length bs ≡ size)
 GivesBody size body.Cut xs ys = length xs < size
 
--- bytes that were to be kept are not passed over; those that are lost for want of memory are some, since none take no memory
+-- bytes that must be kept are not passed over; if they are lost because memory ran out, there is at least one, since
+-- no bytes need no memory
 abbrev pub LosesSome : Keeping → ℕ → Body → Type 0
 LosesSome (Kept bytes) size body.Passed = ⊥
 LosesSome (Kept bytes) size body.Unkept = 0 < size

@@ -4,7 +4,7 @@ use Rattle.std.specs.List.{starts_with}
 use Rattle.std.specs.Option.{option_map}
 use Rattle.std.specs.Str.{bytes_eq}
 use Rattle.std.specs.Result.{result_ok}
-use Rattle.block_file.specs.Line.{decimal_of, key_of}
+use Rattle.block_file.specs.Line.{decimal_of, field_key}
 use Rattle.session_requests.specs.declared.request.RequestLine.{RequestLine}
 use Rattle.session_requests.specs.declared.request.RequestLine.TheVariants as line
 use Rattle.session_requests.specs.declared.request.RequestFault.{RequestFault}
@@ -12,7 +12,7 @@ use Rattle.session_requests.specs.declared.request.RequestFault.TheVariants.{Bad
 
 -- ---- a line, without its LF
 
--- the second step, where the first gave a value
+-- the second step, if the first gave a value
 infixl 10 ◌>>=◌
 abbrev pub ◌>>=◌ : {A B : Type 0} → Option A → (A → Option B) → Option B
 (Some x) >>= f = f x
@@ -22,15 +22,12 @@ None >>= f = None
 abbrev pub line_limit : ℕ
 line_limit = 128
 
--- no session is higher than this
-abbrev pub greatest_height : ℕ
-greatest_height = 9999999999
-
 -- a byte before the first of two texts
 abbrev pub onto : ℕ → List ℕ × List ℕ → List ℕ × List ℕ
 onto byte found = (byte ∷ found.0, found.1)
 
--- what stands before a byte and what is behind it, at its first place; None where it is not among the first `room` bytes
+-- what comes before a byte and what comes after it, at its first place; None if it is not among the first `room`
+-- bytes
 abbrev pub first_part : ℕ → ℕ → List ℕ → Option (List ℕ × List ℕ)
 first_part byte zero text = None
 first_part byte (suc room) [] = None
@@ -38,7 +35,7 @@ first_part byte (suc room) (b ∷ bs) = if b == byte then Some ([], bs) else opt
 
 -- a name, a key or a digest has 64 lower-case hex digits, which write 32 bytes
 abbrev pub hex_name_of : List ℕ → Option (List ℕ)
-hex_name_of text = result_ok (key_of text)
+hex_name_of text = result_ok (field_key text)
 
 -- a COUNT is 1 to 1,024
 abbrev pub list_count : List ℕ → Option ℕ
@@ -86,7 +83,7 @@ request_line_of text =
 
 -- ---- a request
 
--- a request: what its line says, with the bytes behind it
+-- a request: what its line says, with the bytes after it
 pub data Ask : Type 0 where
   Program : List ℕ → Ask
   Forget : List ℕ → Ask
@@ -109,7 +106,7 @@ body_length (line.Try length) = length
 body_length (line.Begin height digest length) = length
 body_length other = 0
 
--- a line and the bytes behind it
+-- a line and the bytes after it
 abbrev pub with_body : RequestLine → List ℕ → Ask
 with_body (line.Program length) body = Program body
 with_body (line.Forget name) body = Forget name
@@ -124,7 +121,7 @@ with_body (line.Begin height digest length) body = Begin height digest body
 with_body line.State body = State
 with_body line.Quit body = Quit
 
--- what comes first in an input: a request, and the bytes behind it; or no request, at the input's end or by a fault
+-- what comes first in an input: a request, and the bytes after it; or no request, at the input's end or by a fault
 pub data NextRequest : Type 0 where
   Is : Ask → List ℕ → NextRequest
   Ends : Option RequestFault → NextRequest
@@ -139,7 +136,7 @@ abbrev pub by_line : Option (List ℕ × List ℕ) → NextRequest
 by_line None = Ends (Some BadLine)
 by_line (Some found) = behind_line (request_line_of found.0) found.1
 
--- what comes first: its line is what stands before the first LF
+-- what comes first: its line is the text before the first LF
 unfoldable pub request_in_bytes : List ℕ → NextRequest
 request_in_bytes [] = Ends None
 request_in_bytes (byte ∷ bytes) = by_line (first_part 10 line_limit (byte ∷ bytes))
@@ -158,7 +155,7 @@ abbrev pub and_then : NextRequest → (List ℕ → AllRequests) → AllRequests
 and_then (Is ask rest) more = all_requests (ask ∷ (more rest).asks) (more rest).fault
 and_then (Ends fault) more = all_requests [] fault
 
--- what comes first, up to so many times
+-- what comes first, up to this many times
 abbrev pub requests_within : ℕ → List ℕ → AllRequests
 requests_within zero bytes = all_requests [] None
 requests_within (suc times) bytes = and_then (request_in_bytes bytes) (requests_within times)

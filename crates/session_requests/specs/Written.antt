@@ -21,7 +21,7 @@ line_for (Begin height digest body) = line.Begin height digest (length body)
 line_for State = line.State
 line_for Quit = line.Quit
 
--- the bytes behind it
+-- the bytes after the line
 abbrev pub body_for : Ask → List ℕ
 body_for (Program body) = body
 body_for (Frame body) = body

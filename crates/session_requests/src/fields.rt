@@ -12,7 +12,7 @@ pub(crate) fn name(text: &[u8]) -> Option<[u8; 32]>
     Some(*key(text).ok()?.bytes())
 }
 
-/// What stands before the first blank, and what is behind it. None where no blank is among the first 128 bytes.
+/// What comes before the first blank, and what comes after it. None if no blank is among the first 128 bytes.
 pub(crate) fn first_part(text: &[u8]) -> Option<(&[u8], &[u8])>
     ensures { MatchOption result (first_part 32 line_limit text.now ≡ None) (λ parts. first_part 32 line_limit text.now ≡ Some (parts.0.now, parts.1.now)) }
 {

@@ -18,8 +18,8 @@ pub fn next_of_input()
     ensures { (bytes : List ℕ) → requests_of bytes ≡ next_and_rest (request_in_bytes bytes) }
 {}
 
-/// A law, and no code: a request that is read is one that can be written, and its bytes come first in the input. So nothing
-/// but the forms is read.
+/// A law, and no code: a request that is read is one that can be written, and its bytes come first in the input. So
+/// only the forms of requests are read.
 pub fn read_is_written()
     ensures { (bytes rest : List ℕ) (ask : Ask) → request_in_bytes bytes ≡ Is ask rest → FitsRequest ask × (bytes ≡ request_bytes ask ++ rest) }
 {}

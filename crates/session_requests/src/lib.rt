@@ -1,4 +1,5 @@
-//! The requests of a session: a line each, of at most 128 bytes with its LF, and as many bytes behind it as the line says.
+//! The requests of a session: a line each, of at most 128 bytes with its LF, and as many bytes after it as the line
+//! says.
 //!
 //! The lines are these, with one blank before each field:
 //!
@@ -27,4 +28,4 @@ mod request;
 
 pub use laws::{next_of_input, read_is_written, written_is_read};
 pub use reading::next_request;
-pub use request::{Asked, GREATEST_HEIGHT, Request, RequestFault, RequestLine};
+pub use request::{Asked, Request, RequestFault, RequestLine};

@@ -9,7 +9,7 @@ use crate::request::RequestLine;
 use block_file::fields::decimal;
 use programs::FILE_LIMIT;
 
-/// What a line without its LF says. None where it has none of the forms.
+/// What a line without its LF says. None if it has none of the forms.
 pub(crate) fn line_of(text: &[u8]) -> Option<RequestLine>
     ensures { result ≡ request_line_of text.now }
 {
@@ -73,7 +73,7 @@ fn list_of(text: &[u8]) -> Option<RequestLine>
     Some(RequestLine::List(first, count))
 }
 
-/// A digest, or `-` where there is none. None for any other text.
+/// A digest, or `-` if there is none. None for any other text.
 fn digest_of(text: &[u8]) -> Option<Option<[u8; 32]>>
     ensures { result ≡ digest_of text.now }
 {
@@ -99,7 +99,7 @@ fn begin_of(text: &[u8]) -> Option<RequestLine>
 }
 
 impl RequestLine {
-    /// How many bytes are behind the line.
+    /// How many bytes follow the line.
     pub fn body_length(self) -> u64
         ensures { result ≡ body_length self }
     {
@@ -112,7 +112,8 @@ impl RequestLine {
         }
     }
 
-    /// Whether more bytes are behind the line than may be: 131,072 of a program, `frame_limit` of a frame that is run or tried.
+    /// Whether more bytes follow the line than are allowed: 131,072 of a program, `frame_limit` of a frame that is
+    /// run or tried.
     pub fn is_too_long(self, frame_limit: u64) -> bool
         ensures { result ≡ is_too_long frame_limit self }
     {

@@ -16,7 +16,7 @@ const LINE_LIMIT: usize = 128;
 
 /// How a line ends.
 enum LineEnd {
-    /// With an LF, behind so many bytes.
+    /// With an LF, after this many bytes.
     Whole(usize),
     /// No byte is left.
     Nothing,
@@ -24,12 +24,12 @@ enum LineEnd {
     Broken,
 }
 
-/// The bytes behind a line.
+/// The bytes after a line.
 #[derive(Drop)]
 enum Body {
     /// They are kept.
     Whole(Vec<u8>),
-    /// They were passed over, since they were not to be kept.
+    /// They were passed over, since they must not be kept.
     Passed,
     /// They were passed over, since memory for them ran out.
     Unkept,
@@ -37,7 +37,7 @@ enum Body {
     Cut,
 }
 
-/// What becomes of the bytes behind a line.
+/// What becomes of the bytes after a line.
 #[derive(Drop)]
 enum Keeping {
     /// These came so far, and are kept.
@@ -48,11 +48,11 @@ enum Keeping {
     OutOfMemory,
 }
 
-/// Reads the next request. `frame_limit` is the greatest length of a frame's body, in bytes; that of a program's file is
-/// 131,072. A body takes memory only as its bytes come. Where it is too long, or memory for it runs out, it is passed over,
-/// and the input stands behind its last byte. Broken as BadLine where the next line has none of the forms or no LF is among
-/// its first 128 bytes, and as Cut where the input ends before the body does, whatever its length. Refused only where a
-/// read may fail.
+/// Reads the next request. `frame_limit` is the greatest length of a frame's body, in bytes; that of a program's file
+/// is 131,072. A body takes memory only as its bytes come. If it is too long, or memory for it runs out, it is passed
+/// over, and its last byte is the last one that is read. Broken as BadLine if the next line has none of the forms or
+/// no LF is among its first 128 bytes, and as Cut if the input ends before the body does, whatever its length.
+/// Refused only if a read may fail.
 pub fn next_request<R: BufferedSource>(
     alloc: Global,
     input: &mut R,
@@ -74,7 +74,7 @@ pub fn next_request<R: BufferedSource>(
     }
 }
 
-/// Reads the body behind a line.
+/// Reads the body after a line.
 fn read_behind<R: BufferedSource>(
     alloc: Global,
     input: &mut R,
@@ -102,7 +102,7 @@ fn read_behind<R: BufferedSource>(
     }
 }
 
-/// A request of a line and the bytes behind it.
+/// The request of a line and the bytes after it.
 fn with_body(line: RequestLine, body: Vec<u8>) -> Request
     ensures { ask_of result ≡ with_body line body.items }
 {
@@ -122,7 +122,7 @@ fn with_body(line: RequestLine, body: Vec<u8>) -> Request
     }
 }
 
-/// Reads a line with its LF, and puts what stands before the LF first into the room.
+/// Reads a line with its LF, and puts what comes before the LF at the start of the room.
 fn read_line<R: BufferedSource>(input: &mut R, room: &mut [u8; LINE_LIMIT]) -> io::Result<LineEnd>
     ensures within { IfOk result IsLineWithin }
     ensures line { IfOk result (λ end. WhereKnown (R.remaining input.old) (R.remaining input.new) (GivesLine room.new end)) }
@@ -167,7 +167,7 @@ fn next_byte<R: BufferedSource>(input: &mut R) -> io::Result<Option<u8>>
     Ok(Some(byte))
 }
 
-/// Reads `size` bytes, and keeps them where they are to be kept and memory does not run out. Cut where the input ends before.
+/// Reads `size` bytes, and keeps them if they must be kept and memory does not run out. Cut if the input ends before.
 fn read_body<R: BufferedSource>(input: &mut R, size: u64, kept: Keeping) -> io::Result<Body>
     requires { AreBytesKept kept [] }
     ensures bytes { IfOk result (λ body. WhereKnown (R.remaining input.old) (R.remaining input.new) (GivesBody size body)) }
@@ -194,7 +194,7 @@ fn read_body<R: BufferedSource>(input: &mut R, size: u64, kept: Keeping) -> io::
     }
 }
 
-/// Reads at most so many bytes, none only at the end, and puts them behind those of `kept`, where memory does not run out.
+/// Reads at most this many bytes, none only at the end. Puts them after those of `kept`, if memory does not run out.
 fn read_piece<R: BufferedSource>(
     input: &mut R,
     most: u64,
@@ -231,7 +231,7 @@ fn at_most(count: usize, most: u64) -> usize
     }
 }
 
-/// The bytes so far with more behind them, where they are kept and memory does not run out.
+/// The bytes so far with more after them, if they are kept and memory does not run out.
 fn with_part(kept: Keeping, part: &[u8]) -> Keeping
     ensures longer { (whole : List ℕ) → AreBytesKept kept whole → AreBytesKept result (whole ++ part.now) }
     ensures goes_on { KeepingGoesOn kept result }

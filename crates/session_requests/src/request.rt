@@ -1,14 +1,11 @@
 //! What a session is asked for.
 
-/// The height that no session is above.
-pub const GREATEST_HEIGHT: u64 = 9_999_999_999;
-
-/// What the line of a request says. A length is the number of bytes behind the line, below 10^10.
+/// What the line of a request says. A length is the number of bytes after the line, below 10^10.
 #[derive(Clone, Copy, Debug, PartialEq, Eq)]
 pub enum RequestLine {
     /// To load a program: the length of its file.
     Program(u64),
-    /// To give back the program of this digest.
+    /// To free the program of this digest.
     Forget([u8; 32]),
     /// To name the programs.
     Programs,
@@ -24,7 +21,7 @@ pub enum RequestLine {
     List([u8; 32], u64),
     /// To give the whole storage.
     Dump,
-    /// To begin anew: the height, below 10^10, the digest where there is one, and the length of the storage's text.
+    /// To begin again: the height, below 10^10, the digest if there is one, and the length of the storage's text.
     Begin(u64, Option<[u8; 32]>, u64),
     /// To give the settings and counts.
     State,
@@ -32,12 +29,12 @@ pub enum RequestLine {
     Quit,
 }
 
-/// A request: what its line says, with the bytes behind it in place of their length.
+/// A request: what its line says, with the bytes after it in place of their length.
 #[derive(Debug, Drop)]
 pub enum Request {
     /// To load a program: the bytes of its file.
     Program(Vec<u8>),
-    /// To give back the program of this digest.
+    /// To free the program of this digest.
     Forget([u8; 32]),
     /// To name the programs.
     Programs,
@@ -53,7 +50,7 @@ pub enum Request {
     List([u8; 32], u64),
     /// To give the whole storage.
     Dump,
-    /// To begin anew: the height, below 10^10, the digest where there is one, and the storage's text.
+    /// To begin again: the height, below 10^10, the digest if there is one, and the storage's text.
     Begin(u64, Option<[u8; 32]>, Vec<u8>),
     /// To give the settings and counts.
     State,
@@ -75,7 +72,7 @@ pub enum RequestFault {
 pub enum Asked {
     /// A request.
     Whole(Request),
-    /// The line of a request with more bytes behind it than may be. They were passed over.
+    /// The line of a request with more bytes after it than are allowed. They were passed over.
     TooLong(RequestLine),
     /// The line of a request for whose bytes memory ran out. They were passed over.
     Unkept(RequestLine),

@@ -1,4 +1,4 @@
--- What comes of what was read.
+-- What follows from what was read.
 use Rattle.std.proofs.Common.{◌≡◌, ◌<◌, ℕ, true, List, arith}
 use Rattle.session_requests.specs.Reading.{is_too_long}
 use Rattle.session_requests.specs.Requests.{Ask, Last, Quit, body_length, with_body}

@@ -4,9 +4,10 @@ use Rattle.std.specs.Prelude.{⊤, length, nat_le, nat_lt}
 use Rattle.std.specs.FinMap.{contains_key}
 use Rattle.elf32.specs.Layout.{Layout}
 use Rattle.block_file.specs.Block.{BlockValue}
+use Rattle.rv_ledger.specs.Height.{greatest_height}
 use Rattle.sha2.specs.Sha256.{sha256}
 use Rattle.programs.specs.Programs.{file_limit}
-use Rattle.session_requests.specs.Requests.{Ask, Program, Forget, Programs, Frame, Try, Last, Get, ListEntries, Dump, Begin, Quit, State as AskState, greatest_height}
+use Rattle.session_requests.specs.Requests.{Ask, Program, Forget, Programs, Frame, Try, Last, Get, ListEntries, Dump, Begin, Quit, State as AskState}
 use Rattle.session_turns.specs.Failures.{IsAnswer}
 use Rattle.session_turns.specs.Replies.{Done, Failed, Refused, TurnReply, turn_reply_text, refused_or_done}
 use Rattle.session_turns.specs.Turn.{Accepted, Turn, accepted, begun_with, frame_answer, last_reply, named_turn, handed_program, turn, turn_with_program}
@@ -16,7 +17,7 @@ use Rattle.session_turns.specs.declared.refusal.FrameRefusal.{FrameRefusal}
 use Rattle.session_turns.specs.declared.settings.Settings.{Settings}
 use Rattle.session_turns.specs.declared.state.State.{State}
 
--- no failure is told
+-- a reply that is no failure
 abbrev Tells : TurnReply → Type 0
 Tells (Failed failure) = ⊥
 Tells other = ⊤

@@ -1,4 +1,4 @@
--- A session that is seen as something else: what is said of it is said of what it is seen as.
+-- A session that is seen through a map: what holds of the session holds of what the map gives.
 use Rattle.std.proofs.Common.{ℕ, List, [], ◌∷◌, Option, Some, inl, inr, ap}
 use Rattle.session_requests.specs.Requests.{Ask, requests_of}
 use Rattle.session_requests.specs.declared.request.RequestFault.{RequestFault}

@@ -12,7 +12,7 @@ use Rattle.session_serving.specs.Serving.{Answering, AreAnswered, IsCutOff, IsEn
 use Rattle.session_serving.specs.declared.serving.ServeFault.{ServeFault}
 use Rattle.session_serving.specs.declared.serving.ServeFault.TheVariants.{Broken, Output, Shut, Unreadable}
 
--- so many requests were answered, and nothing after them was read
+-- this number of requests was answered, and nothing after them was read
 pub record IsServing {S : Type 0} (answers : Answering S) (old now : S) (before mid : Option (List ℕ)) (count : ℕ) (xs ys : List ℕ) : Type 0 where
   pub heard : List Ask
   pub text : List ℕ
@@ -85,7 +85,7 @@ module _ {S : Type 0} (answers : Answering S) where
     Appends-trans before mid last s.text part s.wrote writes,
   )
 
-  -- and in what is written last
+  -- a write failed in what is written last
   cut_last : (fault : RequestFault) (old now next : S) (before mid last : Option (List ℕ)) (count : ℕ) (xs ys : List ℕ)
       → IsServing answers old now before mid count xs ys → NothingComes (Some fault) now next ys
       → (part : List ℕ) × (left : List ℕ) × (part ++ left ≡ end_text (Some fault)) × Appends mid last part → IsCutOff answers old xs next before last
@@ -147,7 +147,7 @@ module _ {S : Type 0} (answers : Answering S) where
   serve_unread may_fail old now before mid count (Some xs) None so fails = absurd so
   serve_unread may_fail old now before mid count (Some xs) (Some ys) so fails = (so.heard, until_quit (requests_of ys).asks, so.text, so.asked, so.done, so.wrote, inl fails)
 
-  -- so many requests were answered as are in one call
+  -- one call answered as many requests as it can
   pub serve_all : (may_fail : Type 0) (old now : S) (before mid : Option (List ℕ)) (count : ℕ) (a b : Option (List ℕ))
       → WhereKnown a b (IsServing answers old now before mid count) → count ≡ 18446744073709551615 → IfSome a (λ bytes. IsUnread may_fail answers old bytes now before mid)
   serve_all may_fail old now before mid count None b so all = tt

@@ -13,7 +13,7 @@ use Rattle.session_serving.specs.Writing.{PrintsText, Says}
 part_of : (text : List ℕ) (before after : Option (List ℕ)) → AppendsPart before after text → (part : List ℕ) × (left : List ℕ) × (part ++ left ≡ text) × Appends before after part
 part_of text before after (n, below, a) = (take n text, drop n text, take-append-drop n text, a)
 
--- and of that with more after it
+-- a part of a text is also a beginning of that text with more after it
 part_before : (line text : List ℕ) (before after : Option (List ℕ)) → AppendsPart before after line → (part : List ℕ) × (left : List ℕ) × (part ++ left ≡ line ++ text) × Appends before after part
 part_before line text before after (n, below, a) = (
   take n line,
@@ -42,7 +42,7 @@ module _ {S X : Type 0} {contents : S → Option (List ℕ)} {may_refuse : S →
   pub cut : {Y : Type 0} {e : WriteFault} {old new : S} {text : List ℕ} → WritesText {X = Y} contents may_refuse (Err e) old new text → PrintsText {X = X} contents may_refuse is_flushed (Err e) old new text
   cut {old = old} {new = new} {text = text} w = record { says = part_of text (contents old) (contents new) w.err; flushed = tt; refused = w.cause; no_worse = w.same }
 
-  -- and so was a part of that with more after it
+  -- a part of a text with more after it was written
   pub cut_before : {Y : Type 0} {e : WriteFault} {old new : S} {line : List ℕ} (text : List ℕ) → WritesText {X = Y} contents may_refuse (Err e) old new line → PrintsText {X = X} contents may_refuse is_flushed (Err e) old new (line ++ text)
   cut_before {old = old} {new = new} {line = line} text w = record { says = part_before line text (contents old) (contents new) w.err; flushed = tt; refused = w.cause; no_worse = w.same }
 

@@ -22,7 +22,7 @@ use Rattle.session_turns.specs.declared.state.State.{State}
 abbrev pub ComesFirst : Ask → List ℕ → List ℕ → Type 0
 ComesFirst ask xs ys = (until_quit (requests_of xs).asks ≡ ask ∷ until_quit (requests_of ys).asks) × (end_fault_of (requests_of xs) ≡ end_fault_of (requests_of ys))
 
--- none does, and so the session ends
+-- no request comes first, and so the session ends
 abbrev pub NoneComes : Option RequestFault → List ℕ → Type 0
 NoneComes fault xs = (until_quit (requests_of xs).asks ≡ []) × (end_fault_of (requests_of xs) ≡ fault)
 
@@ -30,17 +30,18 @@ NoneComes fault xs = (until_quit (requests_of xs).asks ≡ []) × (end_fault_of 
 abbrev pub IsNextAnswered : {S : Type 0} → Answering S → S → List ℕ → S → List ℕ → List ℕ → Type 0
 IsNextAnswered answers s text after xs ys = (ask : Ask) × ComesFirst ask xs ys × answers s ask text after
 
--- none does, and nothing changes
+-- no request comes first, and nothing changes
 abbrev pub NothingComes : {S : Type 0} → Option RequestFault → S → S → List ℕ → Type 0
 NothingComes fault s after xs = NoneComes fault xs × (after ≡ s)
 
--- a request, but a `last`, has this pending
+-- a request other than `last` has this pending
 pub record AsksPending (settings : Settings) (s : State) (ask : Ask) (p : Pending) : Type 0 where
   pub pending : IsPending settings s ask p
   pub due : IsPendingDue s ask p
   pub other : ask ≢ Last
 
--- what keeps a session can have what is pending: a program has the bytes that it was loaded from, and is no longer than one may be
+-- what keeps a session can have what is pending: a program has the bytes that it was loaded from, and is not longer than a
+-- program may be
 abbrev pub IsStorable : List ℕ → Pending → Type 0
 IsStorable body (pending.Program name image text) = (sha256 body ≡ name) × (image_of body ≡ Ok (arc_value image)) × (length body ≤ file_limit)
 IsStorable body other = ⊤

@@ -15,11 +15,11 @@ use Rattle.session_turns.specs.declared.state.State.{State}
 
 -- ---- requests one after another
 
--- what a session is, S, may answer to a request, and to what that leads: `answers s ask text next`
+-- how a session, a value of S, may answer a request, and what that leads to: `answers s ask text next`
 abbrev pub Answering : Type 0 → Type 1
 Answering S = S → Ask → List ℕ → S → Type 0
 
--- by what fault a request may shut it, and to what that leads: `shuts s ask fault next`
+-- by what fault a request may shut it, and what that leads to: `shuts s ask fault next`
 abbrev pub Shutting : Type 0 → Type 0 → Type 1
 Shutting S F = S → Ask → F → S → Type 0
 
@@ -58,7 +58,7 @@ quits [] = false
 quits (Quit ∷ asks) = true
 quits (ask ∷ asks) = quits asks
 
--- why a session ends: by no fault at a `q` or at the input's end, else by the bytes that are no request
+-- why a session ends: by no fault at a `q` or at the input's end, otherwise by the bytes that are no request
 abbrev pub end_fault_of : AllRequests → Option RequestFault
 end_fault_of all = if quits all.asks then None else all.fault
 
@@ -92,14 +92,14 @@ IsCutOff {S = S} answers old bytes new before after =
     × (until_quit (requests_of bytes).asks ≡ heard ++ rest) × AreAnswered answers old heard text mid
     × IsAnswerCutAt answers (end_fault_of (requests_of bytes)) mid rest part new × Appends before after (text ++ part)
 
--- they were, and then a read failed, if one may; or they are 2^64 - 1
+-- the first requests were answered, and then a read failed, if one may; or 2^64 - 1 requests were answered
 abbrev pub IsUnread : {S : Type 0} → Type 0 → Answering S → S → List ℕ → S → Option (List ℕ) → Option (List ℕ) → Type 0
 IsUnread may_fail answers old bytes new before after =
     (heard : List Ask) × (rest : List Ask) × (text : List ℕ)
     × (until_quit (requests_of bytes).asks ≡ heard ++ rest) × AreAnswered answers old heard text new
     × Appends before after text × (may_fail ⊎ (length heard ≡ 18446744073709551615))
 
--- they were, and the next one shut it
+-- the first requests were answered, and the next one shut the session
 abbrev pub IsShut : {S F : Type 0} → Answering S → Shutting S F → F → S → List ℕ → S → Option (List ℕ) → Option (List ℕ) → Type 0
 IsShut {S = S} answers shuts fault old bytes new before after =
     (heard : List Ask) × (ask : Ask) × (rest : List Ask) × (text : List ℕ) × (mid : S) × (until_quit (requests_of bytes).asks ≡ heard ++ ask ∷ rest)
@@ -112,7 +112,7 @@ IsEndedBy may_fail answers shuts Unreadable old bytes new before after = IsUnrea
 IsEndedBy may_fail answers shuts (Output fault) old bytes new before after = IsCutOff answers old bytes new before after
 IsEndedBy may_fail answers shuts (Shut fault) old bytes new before after = IsShut answers shuts fault old bytes new before after
 
--- a write may have been refused so
+-- if the fault is that of a write, the writer may refuse so
 abbrev pub MayEnd : {F : Type 0} → (WriteFault → Type 0) → ServeFault F → Type 0
 MayEnd may_refuse (Output fault) = may_refuse fault
 MayEnd may_refuse other = ⊤

@@ -1,4 +1,4 @@
--- Private help of proofs: no public clause cites it, but `PrintsText`. How an answer is written.
+-- Private help of proofs: no public clause cites it, except `PrintsText`. How an answer is written.
 use Rattle.std.specs.Prelude.{◌≡◌, ℕ, List, ◌++◌, Option, Result, Ok, Err, IfErr, OnOk}
 use Rattle.std.specs.Io.KnownBytes.{Appends}
 use Rattle.byte_streams.specs.Written.{AtMostAs}

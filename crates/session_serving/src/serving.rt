@@ -24,12 +24,12 @@ pub enum ServeFault<F> {
     Unreadable,
     /// A write failed.
     Output(WriteFault),
-    /// A request shut the session: only another open mends it. The request has no answer; the next session shows whether it was
+    /// A request shut the session; only opening it again helps. The request has no answer; the next session shows whether it was
     /// kept.
     Shut(F),
 }
 
-/// What comes of what was read.
+/// What follows from what was read.
 #[derive(Drop)]
 enum Course<R, F> {
     /// A request, and this is its answer.
@@ -87,7 +87,7 @@ pub fn serve<R: BufferedSource, M: Session, C: CallRunner, W: Destination>(
     Err(ServeFault::Unreadable)
 }
 
-/// Reads the next request, as `next_request` does, after so many answers to a writer, the last of which is flushed.
+/// Reads the next request, as `next_request` does, after a number of answers to a writer, the last of which is flushed.
 fn read_after_flush<R: BufferedSource, W: Destination>(
     alloc: Global,
     input: &mut R,

@@ -14,7 +14,7 @@ use std::alloc::Global;
 
 /// A session: its state in memory, and what keeps it.
 pub trait Session {
-    /// What a request is answered.
+    /// The answer to a request.
     type Reply: Drop;
 
     /// Why a request shuts the session.
@@ -29,10 +29,10 @@ pub trait Session {
     /// No request shut it.
     ghost is_open: { Self → Type 0 };
 
-    /// What it may answer a request, and as what the request leaves it.
+    /// What it may answer to a request, and what the request makes of it.
     ghost answers: { Settings → Self → Ask → List ℕ → Self → Type 0 };
 
-    /// By what fault a request may shut it, and as what the request leaves it.
+    /// By what fault a request may shut it, and what the request makes of it.
     ghost shuts: { Settings → Self → Ask → Self.Fault → Self → Type 0 };
 
     /// What a crash of the second session may leave. The first is the session before these requests: at most the first of them is

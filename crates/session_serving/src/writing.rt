@@ -76,14 +76,9 @@ fn print_storage<W: Destination>(
     ensures { PrintsText W.contents W.may_refuse W.is_flushed result out.old out.new (turn_reply_text (Done (dump_text state.now.rules state.now.store))) }
 {
     let line = done_line(dump_length(state.rules, &state.store));
-    match write_whole(line.as_str().as_bytes(), out) {
-        Ok(()) => {}
-        Err(fault) => return Err(fault),
-    }
-    match write_dump(buffer, state.rules, &state.store, out) {
-        Ok(()) => flush(out),
-        Err(fault) => Err(fault),
-    }
+    write_whole(line.as_str().as_bytes(), out)?;
+    write_dump(buffer, state.rules, &state.store, out)?;
+    flush(out)
 }
 
 /// Answers bytes that are no request: writes the refusal, and flushes it. Refused if a write failed.
@@ -98,20 +93,16 @@ pub(crate) fn print_end<W: Destination>(fault: RequestFault, out: &mut W) -> Res
 pub fn write_both<W: Destination>(line: &[u8], bytes: &[u8], out: &mut W) -> Result<(), WriteFault>
     ensures { PrintsText W.contents W.may_refuse W.is_flushed result out.old out.new (line.now ++ bytes.now) }
 {
-    match write_whole(line, out) {
-        Ok(()) => print(bytes, out),
-        Err(fault) => Err(fault),
-    }
+    write_whole(line, out)?;
+    print(bytes, out)
 }
 
 /// Writes a text and flushes it, so that it is seen before the next request is read.
 fn print<W: Destination>(text: &[u8], out: &mut W) -> Result<(), WriteFault>
     ensures { PrintsText W.contents W.may_refuse W.is_flushed result out.old out.new text.now }
 {
-    match write_whole(text, out) {
-        Ok(()) => flush(out),
-        Err(fault) => Err(fault),
-    }
+    write_whole(text, out)?;
+    flush(out)
 }
 
 /// Flushes a writer.

@@ -51,7 +51,7 @@ pub session_begun : (settings : Settings) (f : FileState) (k : Kept) (s : State)
     → KeepsState settings (record { state = s; last = None }) (record k { storage = s.store; session = Some (session_row_of settings s.rules s.height digest); answer = None })
 session_begun settings f k s digest = frame_counted settings f k s digest None
 
--- a new session, of which a file keeps its row alone
+-- a new session: a file keeps only its row
 pub session_made : (settings : Settings) → settings.keeps_digest ≡ true
     → KeepsState settings (new_state settings) (record nothing_kept { session = Some (session_row_of settings One 0 (replicate 32 0)) })
 session_made settings keeps = record {

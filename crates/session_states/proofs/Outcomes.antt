@@ -1,4 +1,4 @@
--- What a load answers.
+-- What a load returns.
 use Rattle.std.proofs.Common.{◌≡◌, ◌≢◌, Bool, true, false, not, List, [], Option, Some, None, IsTrue, is_some, refl, sym, ap, subst, ◌∙◌}
 use Rattle.std.specs.FinMap.{empty, entries, same_entries_map}
 use Rattle.std.specs.Map.Iter.{TakesFirst}
@@ -22,7 +22,7 @@ use Rattle.session_states.proofs.Programs.{loaded_once, no_files, none_loaded}
 no_some : (row : SessionRow) → None ≡ Some row → ⊥
 no_some row is = cc
 
--- no session is kept where there is no row of one
+-- no session is kept if there is no row of one
 no_row : (settings : Settings) (f : FileState) (k : Kept) → k.session ≡ None → ¬ KeepsState settings f k
 no_row settings f k none h =
     let row = h.session.2 in cc
@@ -38,7 +38,7 @@ nothing_found files storage loaded answer all none =
     is_none None none = refl
     is_none (Some answer) none = cc
 
--- a new session is loaded of no rows
+-- a new session is loaded from no rows
 pub loads_new : (settings : Settings) (files : ByteMap) (storage : Storage) (loaded : Option ProgramsByName) (answer : Option AnswerRow) (state : State) → AreLoadedAs files loaded → HasNoRows storage loaded answer
     → state ≡ new_session settings → Loads settings (kept_rows files storage None answer) (record { state = state; answer = None; is_new = true })
 loads_new settings files storage loaded answer state all none is = (nothing_found files storage loaded answer all none, ap (λ (s : State). file_state s None) is)
@@ -51,7 +51,7 @@ no_programs : (loaded : Option ProgramsByName) → AreLoadedAs empty loaded → 
 no_programs None all = absurd (all empty none_loaded)
 no_programs (Some programs) all = ap Some (loaded_once empty programs empty all none_loaded)
 
--- rows of nothing are none
+-- if nothing is kept, there are no rows
 rows_of_nothing : (files : ByteMap) (storage : Storage) (loaded : Option ProgramsByName) (answer : Option AnswerRow) → AreLoadedAs files loaded → kept_rows files storage None answer ≡ nothing_kept → HasNoRows storage loaded answer
 rows_of_nothing files storage loaded answer all is = record {
   storage = ap (λ (k : Kept). k.storage) is;
@@ -59,7 +59,7 @@ rows_of_nothing files storage loaded answer all is = record {
   answer = no_value answer (ap (λ (k : Kept). k.answer) is);
 }
 
--- rows without that of a session are those of none
+-- other rows, without that of a session, cannot be loaded
 pub unloadable_rows : (settings : Settings) (files : ByteMap) (storage : Storage) (loaded : Option ProgramsByName) (answer : Option AnswerRow) → AreLoadedAs files loaded → ¬ HasNoRows storage loaded answer
     → IsUnloadable settings (kept_rows files storage None answer) Damaged
 unloadable_rows settings files storage loaded answer all some = (
@@ -68,7 +68,7 @@ unloadable_rows settings files storage loaded answer all some = (
   λ row is. absurd (no_some row is),
 )
 
--- a storage of no entries
+-- a storage without entries is empty
 pub empty_if : (s : Storage) → entries s ≡ [] → s ≡ empty
 empty_if s none = same_entries_map s empty (none ∙ sym no_entries)
 
@@ -83,7 +83,7 @@ some_left : {A X : Type 0} (shows : A → X) (s : List X) (r : Option A) (t : Li
 some_left shows s None t h some is = cc
 some_left shows s (Some x) t h some is = cc
 
--- what is told of the next of some entries
+-- whether there is a next entry says whether the entries are empty
 pub none_told : {A X : Type 0} (shows : A → X) (s : List X) (r : Option A) (t : List X) (b : Bool) → TakesFirst shows s r t → is_some r ≡ not b → IsTrue b → s ≡ []
 none_told shows s r t b h is told = none_left shows s r t h (is ∙ ap not told)
 

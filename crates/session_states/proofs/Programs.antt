@@ -57,7 +57,7 @@ one_image name (Some file) (Some p) (Some q) a b =
     let left = a.1 in
     let right = b.1 in cc
 
--- the programs of files are some ones
+-- files have one set of programs at most
 pub loaded_once : (files : ByteMap) (p q : ProgramsByName) → AreLoadedFrom files p → AreLoadedFrom files q → p ≡ q
 loaded_once files p q a b = same_map nat_list_cmp_total key_cmp-IsAntisymmetric p q (λ name. one_image name (get files name) (get p name) (get q name) (a name) (b name))
 
@@ -71,7 +71,7 @@ no_length programs none =
     nothing [] is = refl
     nothing (e ∷ es) is = absurd (omega arith)
 
--- a program of no files is none
+-- if the programs of files are none, there are no files
 pub no_files : (files : ByteMap) → AreLoadedFrom files empty → files ≡ empty
 no_files files all = same_map nat_list_cmp_total key_cmp-IsAntisymmetric files empty (λ name.
     none_here name (get files name) (rw (get-empty {X = Layout} key_cmp name) at (all name)) ∙ sym (get-empty {X = List ℕ} key_cmp name))

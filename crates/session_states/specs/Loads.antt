@@ -19,7 +19,7 @@ kept_rows files storage session answer = record {
   answer = option_map answer_parts answer;
 }
 
--- there is no row but perhaps that of a session
+-- there is no row, except perhaps that of a session
 pub record HasNoRows (keys : Storage) (loaded : Option ProgramsByName) (last : Option AnswerRow) : Type 0 where
   pub storage : keys ≡ empty
   pub programs : loaded ≡ Some empty

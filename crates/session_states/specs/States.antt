@@ -21,7 +21,7 @@ use Rattle.session_states.specs.declared.loading.LoadFault.{LoadFault}
 use Rattle.session_states.specs.declared.loading.Loaded.{Loaded}
 use Rattle.session_states.specs.declared.loading.LoadFault.TheVariants.{OtherSettings, Damaged}
 
--- a session over a file: its state but for the last answer, and that answer as the file has it, its line and its bytes
+-- a session over a file: its state without the last answer, and that answer as the file has it, its line and its bytes
 pub record FileState : Type 0 where
   pub state : State
   pub last : Option (List ℕ × List ℕ)
@@ -30,7 +30,7 @@ pub record FileState : Type 0 where
 abbrev pub kept_text : KeptAnswer → List ℕ × List ℕ
 kept_text kept = (answer_line (kept_reply kept), answer_bytes (kept_reply kept))
 
--- the last answer: that of this run, else the one that was found in the file
+-- the last answer: that of this run, otherwise the one that was found in the file
 abbrev pub last_of : Option KeptAnswer → Option (List ℕ × List ℕ) → Option (List ℕ × List ℕ)
 last_of None found = found
 last_of (Some kept) found = Some (kept_text kept)
@@ -49,11 +49,11 @@ IsLoadedFrom name None None = ⊤
 IsLoadedFrom name (Some file) (Some image) = (sha256 file ≡ name) × (image_of file ≡ Ok image)
 IsLoadedFrom name file image = ⊥
 
--- so it is of each name
+-- this holds for each name
 abbrev pub AreLoadedFrom : ByteMap → ProgramsByName → Type 0
 AreLoadedFrom files programs = (name : List ℕ) → IsLoadedFrom name (fin.get files name) (fin.get programs name)
 
--- what comes of loading files: their programs, or None if one of them is no program of its name
+-- what loading files returns: their programs, or None if one of them is no program of its name
 abbrev pub AreLoadedAs : ByteMap → Option ProgramsByName → Type 0
 AreLoadedAs files (Some programs) = AreLoadedFrom files programs
 AreLoadedAs files None = (programs : ProgramsByName) → ¬ AreLoadedFrom files programs
@@ -69,7 +69,7 @@ session_row_of settings rules height digest = record {
   digest = digest;
 }
 
--- a file keeps a session of these settings. Its state has a digest, and its last answer stands beside the state
+-- a file keeps a session of these settings. Its state has a digest, and its last answer is kept beside the state
 pub record KeepsState (settings : Settings) (f : FileState) (k : Kept) : Type 0 where
   pub storage : k.storage ≡ f.state.store
   pub programs : AreLoadedFrom k.programs f.state.programs
@@ -83,18 +83,18 @@ nothing_kept = record { storage = fin.empty; programs = fin.empty; session = Non
 
 -- ---- what is loaded
 
--- a row keeps these settings; whether a digest is kept it does not say, since of a session in a file one is
+-- a row keeps these settings. It does not say whether a digest is kept, since a session in a file always keeps one
 pub record HasSettings (settings : Settings) (row : SessionRow) : Type 0 where
   pub frame_limit : row.frame_limit ≡ settings.frame_limit
   pub frame_gas : row.frame_gas ≡ settings.frame_gas
   pub is_brief : row.is_brief ≡ settings.is_brief
 
--- a new session where there are no rows, else the session that they keep
+-- a new session if there are no rows, otherwise the session that they keep
 abbrev pub LoadsAs : Bool → Settings → Kept → FileState → Type 0
 LoadsAs true settings k f = (k ≡ nothing_kept) × (f ≡ new_state settings)
 LoadsAs false settings k f = KeepsState settings f k
 
--- what is loaded, which tells whether it is new
+-- what is loaded, which says whether it is new
 abbrev pub Loads : Settings → Kept → Loaded → Type 0
 Loads settings k loaded = LoadsAs loaded.is_new settings k (file_state loaded.state loaded.answer)
 

@@ -7,8 +7,8 @@ ghost use Rattle.session_states.specs.Faults.{fault_of_store, store_fault_parts}
 use byte_streams::LineParts;
 use sqlite_trees::error::StoreError;
 
-/// Why a session's file is not opened, or did not take a change. Its number is that of its place here, from 1 on. FILE
-/// is the file, and FILE-wal and FILE-journal are the files beside it.
+/// Why a session's file is not opened, or did not take a change. Its number is that of its place here, from 1 on. FILE is the
+/// file, and FILE-wal and FILE-journal are the files beside it.
 #[derive(Clone, Copy, Debug, PartialEq, Eq)]
 pub enum StoreFault {
     /// Another process has FILE or FILE-wal.
@@ -55,11 +55,12 @@ impl StoreFault {
             StoreFault::Memory => LineParts::without_line("store", "Memory", 9),
         }
     }
+}
 
-    /// The fault of a store's error.
-    pub fn of_error(error: StoreError) -> StoreFault
-        ensures { result ≡ fault_of_store error }
-    {
+impl From<StoreError> for StoreFault {
+    ghost from_gives = { λ error fault. fault ≡ fault_of_store error };
+
+    fn from(error: StoreError) -> StoreFault {
         match error {
             StoreError::OutOfMemory => StoreFault::Memory,
             StoreError::Io => StoreFault::Unreadable,

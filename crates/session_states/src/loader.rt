@@ -5,12 +5,13 @@ ghost use Rattle.std.specs.Arc.{arc_value};
 ghost use Rattle.elf32.specs.Layout.{Layout};
 ghost use Rattle.session_states.specs.States.{AreLoadedAs, IsLoadedFrom};
 
-use elf32::{ElfError, Image, load};
+use elf32::{ElfError, Image};
+use programs::load_image;
 use rv_ledger::Key;
 use session_file::Entries;
 use session_turns::ProgramTable;
 use sha2::{Digest, Sha256};
-use std::alloc::{AllocError, AllocFailed, Global};
+use std::alloc::{AllocError, Global};
 use std::marker::Model;
 use std::sync::Arc;
 
@@ -93,13 +94,9 @@ fn load_program(alloc: Global, name: &Key, file: &[u8]) -> Result<Option<Arc<Ima
     if Key::new(Sha256::digest(file)) != *name {
         return Ok(None);
     }
-    let image = match load(alloc, file) {
-        Ok(image) => image,
-        Err(ElfError::Memory) => return Err(AllocError),
-        Err(_) => return Ok(None),
-    };
-    match Arc::new(alloc, image) {
+    match load_image(alloc, file) {
         Ok(image) => Ok(Some(image)),
-        Err(AllocFailed { .. }) => Err(AllocError),
+        Err(ElfError::Memory) => Err(AllocError),
+        Err(_) => Ok(None),
     }
 }

@@ -110,7 +110,7 @@ fn load_session(
     })
 }
 
-/// Whether there are no rows but perhaps that of a session.
+/// Whether there are no rows, except perhaps that of a session.
 fn has_no_rows(storage: &Store, programs: &ProgramLoader, answer: &Option<AnswerRow>) -> bool
     ensures same { IsTrue result → HasNoRows storage.now programs.now answer.now }
     ensures other { result ≡ false → ¬ HasNoRows storage.now programs.now answer.now }

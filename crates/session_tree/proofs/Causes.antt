@@ -12,7 +12,7 @@ use Rattle.sqlite_trees.specs.declared.error.StoreError.{StoreError}
 use Rattle.sqlite_trees.specs.declared.error.StoreError.TheVariants.{OutOfMemory, Io, Corrupt, Full, Broken, Unstorable}
 use Rattle.session_tree.specs.Entries.{IsTooLong, entry_row}
 
--- what a later call failed for, as the cause of all calls from an earlier moment on
+-- the failure of a later call, as the cause of all calls from an earlier moment on
 pub later_cause : (old mid : View) (a b c : ℕ) (U V : Type 0) (e : StoreError) → a ≤ b → mid.is_broken ≡ old.is_broken → (U → V)
     → HasCause mid (MoreFaults b c) U e → HasCause old (MoreFaults a c) V e
 later_cause old mid a b c U V OutOfMemory up same weaker h = tt
@@ -31,7 +31,7 @@ other_limit old F U V Full weaker h = h
 other_limit old F U V Broken weaker h = h
 other_limit old F U V Unstorable weaker h = weaker h
 
--- what an earlier call failed for
+-- the failure of an earlier call
 pub earlier_cause : (old : View) (a b c : ℕ) (U : Type 0) (e : StoreError) → b ≤ c → HasCause old (MoreFaults a b) U e → HasCause old (MoreFaults a c) U e
 earlier_cause old a b c U OutOfMemory up h = tt
 earlier_cause old a b c U Io up h = omega (arith, h)

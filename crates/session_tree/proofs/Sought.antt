@@ -1,4 +1,4 @@
--- Where a key is sought in the rows of a map.
+-- At which position a key is sought in the rows of a map.
 use Rattle.std.proofs.Common.{◌≡◌, ◌≢◌, ℕ, ne_eqb, eq-eqb, subst, true, false, List, [], ◌∷◌, map, Option, Some, None, T, refl, sym, ap, ◌∙◌, cond, Ordering, Less, Equal, Greater, is_eq, is_lt}
 use Rattle.std.specs.List.{AllByRecursion}
 use Rattle.std.specs.Ordering.{ordering_reverse}
@@ -38,7 +38,7 @@ record IsFound (k : List ℕ) (given : Row) (content : Option (List ℕ)) : Type
   row : given ≡ entry_row (k, value)
   found : content ≡ Some value
 
--- nothing is left from the key on: it is not there
+-- if no row is left from the key on, the key is not there
 at_end : (k : List ℕ) (es : Entries) → left_at k es ≡ [] → find R k es ≡ None
 at_end k [] is = refl
 at_end k (e ∷ es) is = rw (nat_list_cmp_total.antisymm k e.0) (go (R e.0 k) (rw (key_order e k) at is) (at_end k es))
@@ -48,7 +48,7 @@ at_end k (e ∷ es) is = rw (nat_list_cmp_total.antisymm k e.0) (go (R e.0 k) (r
     go Equal is more = cc
     go Greater is more = cc
 
--- the first row that is left begins with the key: it is the key's
+-- if the first row that is left begins with the key, it is the key's
 at_key : (k : List ℕ) (es : Entries) (row : Row) (left : List Row) → left_at k es ≡ row ∷ left → column row 0 ≡ Blob k → IsFound k row (find R k es)
 at_key k [] row left is begins = cc
 at_key k (e ∷ es) row left is begins = rw (nat_list_cmp_total.antisymm k e.0) (go (R e.0 k) refl (rw (key_order e k) at is) (at_key k es row left))
@@ -67,7 +67,7 @@ at_key k (e ∷ es) row left is begins = rw (nat_list_cmp_total.antisymm k e.0) 
         let tie : R e.0 k ≡ Equal = rw key (tied_itself nat_list_cmp_total k) in
         cc
 
--- the first row that is left begins with another one: the key is not there
+-- if the first row that is left begins with another key, the key is not there
 past_key : (k : List ℕ) (es : Entries) (row : Row) (left : List Row) → T (is_sorted R es) → left_at k es ≡ row ∷ left → column row 0 ≢ Blob k → find R k es ≡ None
 past_key k [] row left up is other = refl
 past_key k (e ∷ es) row left up is other = rw (nat_list_cmp_total.antisymm k e.0) (go (R e.0 k) refl (rw (key_order e k) at is) (past_key k es row left (sorted_rest e es up)) (below_first e es up))
@@ -82,7 +82,7 @@ past_key k (e ∷ es) row left up is other = rw (nat_list_cmp_total.antisymm k e
         absurd (other (ap (λ r. column r 0) this ∙ ap Blob key))
     go Greater t is more low = not_among k es (below_all_of k e.0 (nat_list_cmp_total.antisymm k e.0 ∙ ap ordering_reverse t) es low)
 
--- the rows without a key that is not there
+-- if a key is not there, removing it changes no row
 pub none_removed : (m : ByteMap) (k : List ℕ) → find R k (entries m) ≡ None → rows_of m ≡ rows_of (remove m k)
 none_removed m k none = ap rows_of (sym (none_gone m k (get-entries m k ∙ none)))
 

@@ -56,7 +56,7 @@ module _ {S : Type 0} (g : Ghosts S) where
     quiet = t.quiet;
   }
 
-  -- one call after another that was not refused, and that only wrote
+  -- a call after another one that was not refused, and that only wrote
   pub after : {A B : Type 0} {first limit : Type 0} {old mid new : S} {x : A} (r : Result B StoreError) → Tries g first old mid (Ok x) → (IsClean (g.view mid) → OnlyWrites (g.view old) (g.view mid))
       → Tries g limit mid new r → Tries g limit old new r
   after {old = old} {mid = mid} {new = new} (Ok y) a only b = record { err = λ _. tt; cause = λ _. tt; told = tt; schema = schema_on _ _ _ a.schema b.schema; quiet = quiet_on old mid new a.quiet b.quiet }

@@ -40,7 +40,7 @@ with_new key (Some value) rows = insert_entry plain (entry_row (key, value)) row
 abbrev pub changed_rows : List ℕ → Option (List ℕ) → Option (List ℕ) → List Row → List Row
 changed_rows key old new rows = with_new key new (without_old key old rows)
 
--- the transaction edits one tree, and nothing is said of the cursors
+-- the transaction edits one tree; the cursors may change
 pub record EditsTree (old new : View) (tree : ℕ) (edit : List Row → List Row) : Type 0 where
   pub this : new.trees tree ≡ edit (old.trees tree)
   pub others : (t : ℕ) → t ≢ tree → new.trees t ≡ old.trees t

@@ -18,7 +18,7 @@ use Rattle.session_turns.specs.Turn.{put_over}
 abbrev pub put_each : Storage → List (List ℕ × List ℕ) → Storage
 put_each store entries = fold (λ s e. map.insert s e.0 e.1) store entries
 
--- what is still to be put over it
+-- putting the rest over the storage now gives what putting all over it gave before
 abbrev pub IsPutting : Changes → Changes → List (List ℕ × List ℕ) → List (List ℕ × List ℕ) → Type 0
 IsPutting old now rest all = (base : Storage) → put_each (with_changes base now) rest ≡ put_each (with_changes base old) all
 
@@ -31,7 +31,7 @@ put_next old now next k v before rest all so step is base =
 pub no_entries : (s : Storage) → map.entries s ≡ [] → s ≡ empty
 no_entries s none = same_at_all s empty (λ q. get-entries s q ∙ ap (find key_cmp q) none ∙ sym (get-empty key_cmp q))
 
--- one content, or else another
+-- the first content if there is one, otherwise the second
 abbrev or_else : Option (List ℕ) → Option (List ℕ) → Option (List ℕ)
 or_else (Some c) d = Some c
 or_else None d = d

@@ -4,17 +4,18 @@ use Rattle.std.specs.Prelude.{IfErr, IsOk, IsSome, None, Some, Vec}
 use Rattle.std.specs.declared.alloc.Global.{Global}
 use Rattle.std.specs.Result.{result_map_both}
 use Rattle.std.proofs.lemmas.Bool.Decides.{nat_tests}
-use Rattle.block_file.specs.Block.{BlockValue, block_of}
+use Rattle.block_file.specs.Block.{BlockValue, parsed_block}
 use Rattle.block_file.specs.declared.fault.BlockFault.{BlockFault}
 use Rattle.elf32.specs.Layout.{Layout}
-use Rattle.session_requests.specs.Requests.{Frame, greatest_height}
+use Rattle.rv_ledger.specs.Height.{greatest_height}
+use Rattle.rv_ledger.specs.Rules.{rules_number}
+use Rattle.session_requests.specs.Requests.{Frame}
 use Rattle.rv_ledger.specs.declared.rules.Rules.{Rules}
 use Rattle.session_turns.specs.Failures.{MayTurnFail, MayFailFrame}
 use Rattle.session_turns.specs.Pending.{IsPendingDue, IsPending, counting, long_frame, stopped_frame}
 use Rattle.session_turns.specs.Programs.{ProgramsByName, before, program_named, frame_programs}
 use Rattle.session_turns.specs.Replies.{Done, done_answer, refused_answer}
 use Rattle.session_turns.specs.Stages.{StageGives, FailsOnlyWhere, IsAccepted, IsRequestAnswered, IsRan, StopsAt, accepted_value, left_of, stopped_answer}
-use Rattle.session_turns.specs.Telling.{rules_number}
 use Rattle.session_turns.specs.Turn.{Accepted, Turn, ◌>>=◌, accepted, accepted_block, counted_turn, frame_answer, frame_turn, block_gas, is_above_limit, try_turn, unless}
 use Rattle.session_turns.specs.declared.answer.Answer.TheVariants as answer
 use Rattle.session_turns.specs.declared.pending.Pending.TheVariants as pending
@@ -32,7 +33,7 @@ use Rattle.session_turns.specs.declared.state.State.{State}
 
 -- ---- stops
 
--- where memory may run out by one condition, it may by a weaker one
+-- if memory runs out only under one condition, it runs out only under a weaker one
 pub fails_weaker : {X : Type 0} (P Q : Failure → Type 0) (given : Result X Stop) → ((f : Failure) → P f → Q f) → FailsOnlyWhere P given → FailsOnlyWhere Q given
 fails_weaker P Q (Ok x) h p = tt
 fails_weaker P Q (Err (stop.Failed f)) h p = h f p
@@ -55,28 +56,28 @@ text_stops false text f (stop.Failed failure) short is = answers_failed IsAccept
 text_stops false (Err fault) f (stop.Refused refusal) short is = is
 text_stops false (Ok block) f (stop.Refused refusal) short is = absurd is
 
-accepted_is : (settings : Settings) (s : State) (bytes : List ℕ) (block : BlockValue) → length bytes ≤ settings.frame_limit → block_of bytes ≡ Ok block → accepted settings s bytes ≡ accepted_block settings s block
+accepted_is : (settings : Settings) (s : State) (bytes : List ℕ) (block : BlockValue) → length bytes ≤ settings.frame_limit → parsed_block bytes ≡ Ok block → accepted settings s bytes ≡ accepted_block settings s block
 accepted_is settings s bytes block short is =
     let test : nat_lt settings.frame_limit (length bytes) ≡ false = grind (arith, nat_tests) in
-    text_is (nat_lt settings.frame_limit (length bytes)) (block_of bytes) block (accepted_block settings s) test is
+    text_is (nat_lt settings.frame_limit (length bytes)) (parsed_block bytes) block (accepted_block settings s) test is
 
--- behind a text that was read
-pub says_block : (settings : Settings) (s : State) (bytes : List ℕ) (block : BlockValue) (given : Result AcceptedFrame Stop) → length bytes ≤ settings.frame_limit → block_of bytes ≡ Ok block
+-- the stages after a text that was read
+pub says_block : (settings : Settings) (s : State) (bytes : List ℕ) (block : BlockValue) (given : Result AcceptedFrame Stop) → length bytes ≤ settings.frame_limit → parsed_block bytes ≡ Ok block
     → StageGives IsAccepted (accepted_block settings s block) given → StageGives IsAccepted (accepted settings s bytes) given
 says_block settings s bytes block given short is says = subst (λ (r : Result Accepted FrameRefusal). StageGives IsAccepted r given) (sym (accepted_is settings s bytes block short is)) says
 
-pub fails_block : (settings : Settings) (s : State) (bytes : List ℕ) (block : BlockValue) (given : Result AcceptedFrame Stop) → length bytes ≤ settings.frame_limit → block_of bytes ≡ Ok block
+pub fails_block : (settings : Settings) (s : State) (bytes : List ℕ) (block : BlockValue) (given : Result AcceptedFrame Stop) → length bytes ≤ settings.frame_limit → parsed_block bytes ≡ Ok block
     → FailsOnlyWhere (λ failure. (failure ≡ want.Program) × IfErr (accepted_block settings s block) (λ refusal. refusal ≡ NoProgram)) given → FailsOnlyWhere (MayFailFrame settings s bytes) given
 fails_block settings s bytes block given short is fails = fails_weaker _ (MayFailFrame settings s bytes) given
     (λ f p. subst (MayFailFrame settings s bytes) (sym p.0) (subst (λ (r : Result Accepted FrameRefusal). IfErr r (λ refusal. refusal ≡ NoProgram)) (sym (accepted_is settings s bytes block short is)) p.1)) fails
 
--- where it was not read
-pub says_stopped : (settings : Settings) (s : State) (bytes : List ℕ) (why : Stop) → length bytes ≤ settings.frame_limit → StopsAt (block_of bytes) why → StageGives IsAccepted (accepted settings s bytes) (Err why)
+-- if the text was not read
+pub says_stopped : (settings : Settings) (s : State) (bytes : List ℕ) (why : Stop) → length bytes ≤ settings.frame_limit → StopsAt (parsed_block bytes) why → StageGives IsAccepted (accepted settings s bytes) (Err why)
 says_stopped settings s bytes why short is =
     let test : nat_lt settings.frame_limit (length bytes) ≡ false = grind (arith, nat_tests) in
-    text_stops (nat_lt settings.frame_limit (length bytes)) (block_of bytes) (accepted_block settings s) why test is
+    text_stops (nat_lt settings.frame_limit (length bytes)) (parsed_block bytes) (accepted_block settings s) why test is
 
-pub fails_stopped : (settings : Settings) (s : State) (bytes : List ℕ) (why : Stop) → length bytes ≤ settings.frame_limit → StopsAt (block_of bytes) why → FailsOnlyWhere {X = AcceptedFrame} (MayFailFrame settings s bytes) (Err why)
+pub fails_stopped : (settings : Settings) (s : State) (bytes : List ℕ) (why : Stop) → length bytes ≤ settings.frame_limit → StopsAt (parsed_block bytes) why → FailsOnlyWhere {X = AcceptedFrame} (MayFailFrame settings s bytes) (Err why)
 fails_stopped settings s bytes (stop.Refused refusal) short is = tt
 fails_stopped settings s bytes (stop.Failed failure) short is =
     let test : nat_lt settings.frame_limit (length bytes) ≡ false = grind (arith, nat_tests) in
@@ -84,7 +85,7 @@ fails_stopped settings s bytes (stop.Failed failure) short is =
 
 -- ---- the programs
 
--- a program that is not here is the only fault of programs
+-- if a missing program is the only fault of each part, it is the only fault of all
 before_refuses : (first : Result Layout FrameRefusal) (rest : Result (List Layout) FrameRefusal) → IfErr first (λ r. r ≡ NoProgram) → IfErr rest (λ r. r ≡ NoProgram) → IfErr (before first rest) (λ r. r ≡ NoProgram)
 before_refuses (Err r) rest p q = p
 before_refuses (Ok image) (Err r) p q = q
@@ -93,7 +94,7 @@ before_refuses (Ok image) (Ok images) p q = tt
 named_refuses : (programs : ProgramsByName) (path : List ℕ) → IfErr (program_named programs path) (λ r. r ≡ NoProgram)
 named_refuses programs path = search rules
 
-programs_refuse : (programs : ProgramsByName) (paths : List (List ℕ)) → IfErr (frame_programs programs paths) (λ r. r ≡ NoProgram)
+pub programs_refuse : (programs : ProgramsByName) (paths : List (List ℕ)) → IfErr (frame_programs programs paths) (λ r. r ≡ NoProgram)
 programs_refuse programs [] = tt
 programs_refuse programs (path ∷ paths) = before_refuses (program_named programs path) (frame_programs programs paths) (named_refuses programs path) (programs_refuse programs paths)
 
@@ -106,7 +107,7 @@ tests_refuse false false rest p q h = h
 tests_refuse true b rest p q h = cc
 tests_refuse false true rest p q h = cc
 
--- where the programs stop
+-- the stage of the programs stopped: memory ran out, or a program is not here
 pub fails_programs : (settings : Settings) (s : State) (block : BlockValue) (why : Stop) → is_above_limit settings.frame_gas (block_gas block) ≡ false → nat_lt (rules_number block.rules) (rules_number s.rules) ≡ false
     → (why ≡ stop.Failed want.Program) ⊎ ((frame_programs s.programs block.programs ≡ Err NoProgram) × (why ≡ stop.Refused NoProgram))
     → FailsOnlyWhere {X = AcceptedFrame} (λ failure. (failure ≡ want.Program) × IfErr (accepted_block settings s block) (λ refusal. refusal ≡ NoProgram)) (Err why)
@@ -136,7 +137,7 @@ ran_answers settings s (Ok w) frame ran is done =
     let same : accepted_value frame ≡ w = λ j. record { block = is.0 j; images = is.1 j } in
     subst (λ (a : Accepted). IsRan settings s a ran) same done
 
--- a run fails where the frame was accepted
+-- a run fails only if the frame was accepted
 pub run_fails : (settings : Settings) (s : State) (bytes : List ℕ) (frame : AcceptedFrame) (failure : Failure) → StageGives IsAccepted (accepted settings s bytes) (Ok frame) → (failure ≡ want.Run) ⊎ (failure ≡ want.Answer) → MayFailFrame settings s bytes failure
 run_fails settings s bytes frame failure is (inl e) = subst (MayFailFrame settings s bytes) (sym e) (accepted_ok (accepted settings s bytes) frame is)
 run_fails settings s bytes frame failure is (inr e) = subst (MayFailFrame settings s bytes) (sym e) (accepted_ok (accepted settings s bytes) frame is)
@@ -156,7 +157,7 @@ answer_kept : (settings : Settings) (s : State) (wanted : Result Accepted FrameR
 answer_kept settings s (Ok w) ran is = λ j. counted_turn (record s { store = is.2 j; rules = is.1 j }) (done_answer (is.0 j))
 answer_kept settings s (Err r) ran is = absurd is
 
--- a frame that ran is to count
+-- a frame that ran counts
 pub frame_kept : (settings : Settings) (s : State) (bytes : List ℕ) (ran : Ran) → s.height < greatest_height → StageGives (IsRan settings s) (accepted settings s bytes) (Ok ran)
     → IsPending settings s (Frame bytes) (pending.Frame (counting s (Some (record { left = ran.2; rules = ran.1 })) (done_answer ran.0.items)))
 frame_kept settings s bytes ran low is = record {
@@ -173,7 +174,7 @@ stop_refused : (settings : Settings) (s : State) (wanted : Result Accepted Frame
 stop_refused settings s (Ok w) refusal is = absurd is
 stop_refused settings s (Err r) refusal is = ap (λ (x : FrameRefusal). counted_turn s (refused_answer x)) is
 
--- one that stopped before is refused, or fails
+-- a frame that stopped before its run is refused, or fails
 pub frame_stopped : (settings : Settings) (s : State) (bytes : List ℕ) (why : Stop) → s.height < greatest_height → StageGives (IsRan settings s) (accepted settings s bytes) (Err why)
     → FailsOnlyWhere {X = Ran} (MayFailFrame settings s bytes) (Err why) → IsPending settings s (Frame bytes) (stopped_frame s why)
 frame_stopped settings s bytes (stop.Refused refusal) low is fails = record {
@@ -184,7 +185,7 @@ frame_stopped settings s bytes (stop.Refused refusal) low is fails = record {
 }
 frame_stopped settings s bytes (stop.Failed failure) low is fails = ((low, fails), refl)
 
--- the same of a frame that is only tried
+-- the same for a frame that is only tried
 pub try_done : (settings : Settings) (s : State) (bytes : List ℕ) (ran : Ran) → s.height < greatest_height → StageGives (IsRan settings s) (accepted settings s bytes) (Ok ran) → Done ran.0.items ≡ (frame_turn settings s bytes).reply
 try_done settings s bytes ran low is = ap (λ (t : Turn). t.reply) (answer_kept settings s (accepted settings s bytes) ran is ∙ turn_is settings s bytes low)
 
@@ -199,7 +200,7 @@ pub due_stopped : (s : State) (bytes : List ℕ) (why : Stop) → s.height < gre
 due_stopped s bytes (stop.Refused refusal) low = low
 due_stopped s bytes (stop.Failed failure) low = tt
 
--- so does one that is too long
+-- a frame that is too long counts only below it, too
 long_due : (s : State) (bytes : List ℕ) (high : Bool) → nat_le greatest_height s.height ≡ high → IsPendingDue s (Frame bytes) (if high then pending.Nothing (answer.Refused TooHigh) else pending.Frame (counting s None (refused_answer TooLong)))
 long_due s bytes true is = tt
 long_due s bytes false is = grind (arith, nat_tests)

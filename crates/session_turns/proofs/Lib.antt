@@ -3,6 +3,7 @@ pub mod Dumps
 pub mod Entries
 pub mod Frames
 pub mod Listings
+pub mod Named
 pub mod Pendings
 pub mod Readies
 pub mod ShortNames

@@ -3,7 +3,7 @@ use Rattle.std.proofs.Common.{◌≡◌, ◌+◌, ◌∷◌, ◌++◌, ℕ, suc,
 use Rattle.std.specs.List.{flat_map}
 use Rattle.receipts.specs.Text.{store_line}
 
--- the next entry of them
+-- the line of the next entry, before the lines of the rest
 pub next_listed : (e : List ℕ × List ℕ) (rest all : List (List ℕ × List ℕ)) (left n : ℕ) → n + 1 ≡ left → all ≡ e ∷ rest
     → store_line e ++ flat_map store_line (take n rest) ≡ flat_map store_line (take left all)
 next_listed e rest all left n count step =

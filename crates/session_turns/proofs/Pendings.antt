@@ -1,4 +1,4 @@
--- What is pending, and what comes of it.
+-- What is pending, and what it leads to.
 use Rattle.std.proofs.Common.{◌≡◌, ℕ, List, Option, Some, None, true, false, cond, refl, sym, ap, subst, ◌∙◌, is_some}
 use Rattle.std.specs.Prelude.{Vec}
 use Rattle.std.specs.declared.alloc.Global.{Global}
@@ -27,7 +27,7 @@ none_is : {A : Type 0} (o : Option A) → is_some o ≡ false → o ≡ None
 none_is None is = refl
 none_is (Some x) is = cc
 
--- a program that was put in and removed again
+-- putting in a new program and removing it again changes nothing
 pub put_and_gone : (programs : ProgramsByName) (name : List ℕ) (image : Layout) → contains_key programs name ≡ false → remove (insert programs name image) name ≡ programs
 put_and_gone programs name image new = same_map nat_list_cmp_total key_cmp-IsAntisymmetric _ _ (λ q.
     get-remove nat_list_cmp_total (insert programs name image) name q ∙ ap (cond (eq_by_cmp key_cmp q name) None) (get-insert nat_list_cmp_total programs name image q)
@@ -64,6 +64,6 @@ pending_is_new settings s ask (pending.Forget name) is = tt
 pending_is_new settings s ask (pending.Frame frame) is = tt
 pending_is_new settings s ask (pending.Begin begin) is = tt
 
--- settings, for what holds whatever they are
+-- some settings, for facts that hold for all settings
 unfoldable pub some_settings : Settings
 some_settings = record { frame_limit = 0; frame_gas = None; keeps_digest = false; is_brief = false }

@@ -1,4 +1,4 @@
--- A state without the room that it has for what is pending.
+-- A state without its room for what is pending.
 use Rattle.std.proofs.Common.{◌≡◌, ℕ, List, Option, Some, None, refl, sym, ap, subst, ◌∙◌}
 use Rattle.std.specs.Prelude.{Vec}
 use Rattle.std.specs.declared.alloc.Global.{Global}
@@ -24,7 +24,7 @@ store_is : (before now : Storage) (run : Option PendingRun) (keys : Option (Vec 
 store_is before now None keys has = has
 store_is before now (Some run) keys has = left_is before now run.left keys has
 
--- it is as it was before
+-- without the room the state is as it was before
 pub without_is : (before now : State) (p : Pending) (keys : Option (Vec (List ℕ) Global)) → HasRoomFor before p keys now → without_room p keys now ≡ before
 without_is before now (pending.Nothing given) keys has = has
 without_is before now (pending.Program name image text) keys has = program_back before now name (arc_value image) _ has.0 has.1 refl
@@ -34,6 +34,6 @@ without_is before now (pending.Frame frame) keys has =
     ∙ ap (λ (store : Storage). record before { store = store }) (store_is before.store now.store frame.run keys has.0)
 without_is before now (pending.Begin begin) keys has = has
 
--- so it has the room for what is pending of it
+-- so the room is also room over the state without it
 pub is_ready : (before now : State) (p : Pending) (keys : Option (Vec (List ℕ) Global)) → HasRoomFor before p keys now → HasRoomFor (without_room p keys now) p keys now
 is_ready before now p keys has = subst (λ (s : State). HasRoomFor s p keys now) (sym (without_is before now p keys has)) has

@@ -1,7 +1,7 @@
--- What a request is answered where a stage stopped.
+-- What a request is answered if a stage stopped.
 use Rattle.std.proofs.Common.{◌≡◌, ℕ, List, Option, Result, Ok, Err, not, refl, ap, subst, sym}
 use Rattle.std.specs.Result.{result_map_both}
-use Rattle.block_file.specs.Block.{BlockValue, block_of}
+use Rattle.block_file.specs.Block.{BlockValue, parsed_block}
 use Rattle.block_file.specs.declared.fault.BlockFault.{BlockFault}
 use Rattle.session_requests.specs.Requests.{Begin}
 use Rattle.session_turns.specs.Failures.{MayTurnFail}
@@ -30,12 +30,12 @@ begun_stopped s height digest text (stop.Failed failure) is = (is, refl)
 begun_stopped s height digest (Err fault) (stop.Refused refusal) is = (ap Refused is, refl)
 begun_stopped s height digest (Ok block) (stop.Refused refusal) is = absurd is
 
-begin_stopped : (s : State) (height : ℕ) (digest : Option (List ℕ)) (bytes : List ℕ) (why : Stop) → StopsAt (block_of bytes) why
+begin_stopped : (s : State) (height : ℕ) (digest : Option (List ℕ)) (bytes : List ℕ) (why : Stop) → StopsAt (parsed_block bytes) why
     → IsRequestAnswered (λ failure. failure ≡ want.Block) s (begin_turn s height digest bytes) (stopped_answer why) s
-begin_stopped s height digest bytes why is = begun_stopped s height digest (block_of bytes) why is
+begin_stopped s height digest bytes why is = begun_stopped s height digest (parsed_block bytes) why is
 
--- where the text of `begin` is not read
-pub begin_pending : (settings : Settings) (s : State) (height : ℕ) (digest : Option (List ℕ)) (bytes : List ℕ) (why : Stop) → StopsAt (block_of bytes) why
+-- if the text of `begin` is not read
+pub begin_pending : (settings : Settings) (s : State) (height : ℕ) (digest : Option (List ℕ)) (bytes : List ℕ) (why : Stop) → StopsAt (parsed_block bytes) why
     → IsPending settings s (Begin height digest bytes) (pending.Nothing (stopped_answer why))
 begin_pending settings s height digest bytes (stop.Failed failure) is = (subst (MayTurnFail settings s (Begin height digest bytes)) (sym is) tt, refl)
 begin_pending settings s height digest bytes (stop.Refused refusal) is = begin_stopped s height digest bytes (stop.Refused refusal) is

@@ -1,7 +1,8 @@
--- Where this machine may run out of memory: for a stage of a request only where no stage before it refuses.
+-- When this machine may run out of memory: for a stage of a request only if no earlier stage refuses.
 use Rattle.std.specs.Prelude.{◌≡◌, ◌≢◌, ◌<◌, ◌⊎◌, ⊤, ℕ, List, false, nat_lt, length, IfErr, IsOk}
 use Rattle.programs.specs.Programs.{file_limit}
-use Rattle.session_requests.specs.Requests.{Ask, Program, Programs, Frame, Try, Get, ListEntries, Dump, Begin, State as AskState, greatest_height}
+use Rattle.rv_ledger.specs.Height.{greatest_height}
+use Rattle.session_requests.specs.Requests.{Ask, Program, Programs, Frame, Try, Get, ListEntries, Dump, Begin, State as AskState}
 use Rattle.session_turns.specs.Turn.{accepted, program_turn, turn}
 use Rattle.session_turns.specs.Replies.{Failed, Refused, turn_reply_text}
 use Rattle.session_turns.specs.declared.refusal.Failure.{Failure}
@@ -11,8 +12,8 @@ use Rattle.session_turns.specs.declared.refusal.FrameRefusal.TheVariants.{NoProg
 use Rattle.session_turns.specs.declared.settings.Settings.{Settings}
 use Rattle.session_turns.specs.declared.state.State.{State}
 
--- a frame: for its body and text where it may run at this height and is not too long; for its programs where nothing before them
--- refuses it; for its run and its answer where nothing does
+-- a frame that may run at this height: for its body and text if it is not too long; for its programs if no earlier stage refuses;
+-- for its run and its answer if no stage refuses
 abbrev pub MayFailFrame : Settings → State → List ℕ → Failure → Type 0
 MayFailFrame settings s bytes want.Block = nat_lt settings.frame_limit (length bytes) ≡ false
 MayFailFrame settings s bytes want.Program = IfErr (accepted settings s bytes) (λ refusal. refusal ≡ NoProgram)
@@ -36,7 +37,7 @@ MayTurnFail settings s ask failure = ⊥
 abbrev pub IsAnsweredAsTurn : Settings → State → Ask → List ℕ → State → Type 0
 IsAnsweredAsTurn settings s ask text after = (text ≡ turn_reply_text (turn settings s ask).reply) × (after ≡ (turn settings s ask).after)
 
--- so it was; or memory ran out where it may, which is told, and all is as it was
+-- it was answered so; or memory ran out when it may, the answer says so, and nothing changed
 abbrev pub IsAnswer : Settings → State → Ask → List ℕ → State → Type 0
 IsAnswer settings s ask text after =
     IsAnsweredAsTurn settings s ask text after ⊎ ((failure : Failure) × MayTurnFail settings s ask failure × (text ≡ turn_reply_text (Failed failure)) × (after ≡ s))

@@ -1,12 +1,13 @@
--- What a request is to change, before it is made so.
+-- What a request will change, before the change is made.
 use Rattle.std.specs.Prelude.{◌≡◌, ◌⊎◌, ⊤, ℕ, ◌+◌, ◌<◌, List, [], false, Option, Some, None, Ok, Vec, IsSome, nat_le, if◌then◌else◌}
 use Rattle.std.specs.declared.alloc.Global.{Global}
 use Rattle.std.specs.Arc.{arc_value}
 use Rattle.std.specs.FinMap.{contains_key, insert, remove}
+use Rattle.rv_ledger.specs.Height.{greatest_height}
 use Rattle.sha2.specs.Sha256.{sha256}
 use Rattle.elf32.specs.Image.{image_of}
 use Rattle.overlay.specs.Commit.{HasRoom}
-use Rattle.session_requests.specs.Requests.{Ask, Begin, Forget, Frame, Program, Try, greatest_height}
+use Rattle.session_requests.specs.Requests.{Ask, Begin, Forget, Frame, Program, Try}
 use Rattle.rv_ledger.specs.Key.{Storage}
 use Rattle.session_turns.specs.Failures.{MayTurnFail}
 use Rattle.session_turns.specs.Replies.{Done, kept_reply, refused_answer}
@@ -31,7 +32,7 @@ use Rattle.session_turns.specs.declared.state.State.{State}
 
 -- ---- what is pending, made
 
--- the storage and the rules behind a run; those before where nothing ran
+-- the storage and the rules after a run, or the earlier ones if nothing ran
 abbrev pub after_run_of : State → Option PendingRun → State
 after_run_of s None = s
 after_run_of s (Some run) = record s { store = left_of s.store run.left; rules = run.rules }
@@ -54,18 +55,18 @@ turn_of s (pending.Begin begin) = record {
 abbrev pub counting : State → Option PendingRun → KeptAnswer → PendingFrame
 counting s run kept = record { run = run; height = s.height + 1; digest = next_digest s.digest (kept_reply kept); answer = kept }
 
--- one that stopped before it ran
+-- a frame that stopped before it ran
 abbrev pub stopped_frame : State → Stop → Pending
 stopped_frame s (stop.Refused why) = pending.Frame (counting s None (refused_answer why))
 stopped_frame s (stop.Failed want) = pending.Nothing (answer.Failed want)
 
--- one that is refused for its length
+-- a frame that is refused for its length
 abbrev pub long_frame : State → Pending
 long_frame s = if nat_le greatest_height s.height then pending.Nothing (answer.Refused TooHigh) else pending.Frame (counting s None (refused_answer TooLong))
 
 -- ---- the room that it needs
 
--- where memory for that room may run out
+-- the failures that may come while that room is made
 abbrev pub MayWantRoom : Pending → Failure → Type 0
 MayWantRoom (pending.Program name image text) failure = failure ≡ want.Program
 MayWantRoom (pending.Frame frame) failure = (failure ≡ want.Run) × IsSome frame.run
@@ -98,7 +99,7 @@ abbrev pub IsPendingMade : State → Pending → Answer → State → Type 0
 IsPendingMade before (pending.Nothing answer) given after = (given ≡ answer) × (after ≡ before)
 IsPendingMade before other given after = IsRequestAnswered (λ _. ⊥) before (turn_of before other) given after
 
--- so it was; or memory for its room ran out, which is told, and all is as it was
+-- it was made; or memory for its room ran out, the answer says so, and nothing changed
 abbrev pub IsPendingTaken : State → Pending → Answer → State → Type 0
 IsPendingTaken before p (answer.Failed failure) after = (IsPendingMade before p (answer.Failed failure) after) ⊎ (MayWantRoom p failure × (after ≡ before))
 IsPendingTaken before p given after = IsPendingMade before p given after
@@ -113,19 +114,19 @@ IsAskedBy ask (pending.Forget name) = ask ≡ Forget name
 IsAskedBy ask (pending.Frame frame) = (bytes : List ℕ) × (ask ≡ Frame bytes)
 IsAskedBy ask (pending.Begin begin) = (bytes : List ℕ) × (ask ≡ Begin begin.height begin.digest bytes)
 
--- a change is pending as the request's turn says, and memory for its room may run out only where the request may fail so
+-- a change is pending as the request's turn says; memory for its room may run out only if the request may fail so
 pub record IsPendingChange (settings : Settings) (s : State) (ask : Ask) (p : Pending) : Type 0 where
   pub turn : turn_of s p ≡ turn settings s ask
   pub room : (failure : Failure) → MayWantRoom p failure → MayTurnFail settings s ask failure
   pub new : IsNewProgram s p
   pub asked : IsAskedBy ask p
 
--- a request comes to what is pending
+-- a request leads to what is pending
 abbrev pub IsPending : Settings → State → Ask → Pending → Type 0
 IsPending settings s ask (pending.Nothing answer) = IsTurn settings s ask answer s
 IsPending settings s ask change = IsPendingChange settings s ask change
 
--- a request that only tells of the state
+-- a request that only reads the state
 abbrev pub IsReadRequest : Ask → Type 0
 IsReadRequest (Program file) = ⊥
 IsReadRequest (Forget name) = ⊥
@@ -140,13 +141,13 @@ IsPendingRefusal (pending.Nothing (answer.Refused why)) = ⊤
 IsPendingRefusal (pending.Frame frame) = (frame.run ≡ None)
 IsPendingRefusal other = ⊥
 
--- an answer that tells of no change
+-- an answer that says that nothing was done: a refusal or a failure
 abbrev pub IsUndone : Answer → Type 0
 IsUndone (answer.Refused why) = ⊤
 IsUndone (answer.Failed failure) = ⊤
 IsUndone other = ⊥
 
--- where nothing is pending of a `begin`, it is refused or fails; a frame is pending only below the greatest height
+-- if nothing is pending of a `begin`, it is refused or fails; a frame is pending only below the greatest height
 abbrev pub IsPendingDue : State → Ask → Pending → Type 0
 IsPendingDue s (Begin height digest bytes) (pending.Nothing answer) = IsUndone answer
 IsPendingDue s (Frame bytes) (pending.Frame frame) = s.height < greatest_height

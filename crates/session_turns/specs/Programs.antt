@@ -3,9 +3,11 @@ use Rattle.std.specs.Prelude.{ℕ, List, [], ◌∷◌, Option, Some, None, Resu
 use Rattle.std.specs.FinMap.{FinMap, get}
 use Rattle.std.specs.Option.{ok_or}
 use Rattle.std.specs.Result.{result_map_both, result_ok}
-use Rattle.block_file.specs.Line.{key_of}
+use Rattle.block_file.specs.Line.{field_key}
 use Rattle.elf32.specs.Layout.{Layout}
 use Rattle.rv_ledger.specs.Key.{key_cmp}
+use Rattle.programs.specs.declared.fault.ProgramFault.{ProgramFault}
+use Rattle.programs.specs.declared.fault.ProgramFault.TheVariants.{Unreadable}
 use Rattle.session_turns.specs.declared.refusal.FrameRefusal.{FrameRefusal}
 use Rattle.session_turns.specs.declared.refusal.FrameRefusal.TheVariants.{NoProgram}
 
@@ -19,14 +21,18 @@ program_by programs None = None
 program_by programs (Some name) = get programs name
 
 abbrev pub program_named : ProgramsByName → List ℕ → Result Layout FrameRefusal
-program_named programs path = ok_or (program_by programs (result_ok (key_of path))) NoProgram
+program_named programs path = ok_or (program_by programs (result_ok (field_key path))) NoProgram
 
 -- a program before others, or the first refusal
 abbrev pub before : Result Layout FrameRefusal → Result (List Layout) FrameRefusal → Result (List Layout) FrameRefusal
 before (Err refusal) rest = Err refusal
 before (Ok image) rest = result_map_both (λ images. image ∷ images) (λ refusal. refusal) rest
 
--- the programs of a frame, or the refusal of the first name that is none of a program that is here
+-- the programs of a frame, or the refusal of the first name under which no program is here
 abbrev pub frame_programs : ProgramsByName → List (List ℕ) → Result (List Layout) FrameRefusal
 frame_programs programs [] = Ok []
 frame_programs programs (path ∷ paths) = before (program_named programs path) (frame_programs programs paths)
+
+-- the same of one name, as what loads programs has it: a name that names none is a path that can't be read
+abbrev pub program_in : ProgramsByName → List ℕ → Option (Result Layout ProgramFault)
+program_in programs path = Some (result_map_both (λ image. image) (λ _. Unreadable) (program_named programs path))

@@ -28,10 +28,10 @@ without_room (pending.Program name image text) keys now = record now { programs 
 without_room (pending.Frame frame) keys now = record now { store = store_without frame.run keys now.store }
 without_room other keys now = now
 
--- as it was before
+-- the state as it was before the room was made
 abbrev pub without : Ready → State → State
 without ready now = without_room ready.pending ready.keys now
 
--- it has that room
+-- the state has that room
 abbrev pub IsReady : Ready → State → Type 0
 IsReady ready now = HasRoomFor (without ready now) ready.pending ready.keys now

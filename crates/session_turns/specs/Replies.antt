@@ -30,7 +30,7 @@ frame_refusal_parts NoFrame = without_line (codes "frame") (codes "NoFrame") 7
 frame_refusal_parts OtherDigest = without_line (codes "frame") (codes "OtherDigest") 8
 frame_refusal_parts TooHigh = without_line (codes "frame") (codes "TooHigh") 9
 
--- of a failure: want of memory for a body or a text, a program, a run or what it leaves, an answer
+-- the parts of what a failure prints: memory ran out for a body or a text, a program, a run or what it leaves, or an answer
 abbrev pub parts_of_failure : Failure → Parts
 parts_of_failure want.Block = without_line (codes "block") (codes "Memory") 8
 parts_of_failure want.Program = without_line (codes "elf") (codes "Memory") 16
@@ -43,7 +43,7 @@ answer_line (Done bytes) = codes "ok " ++ decimal (length bytes) ++ codes "\n"
 answer_line (Refused refusal) = line_text (codes "refused ") (frame_refusal_parts refusal)
 answer_line (Failed failure) = line_text (codes "failed ") (parts_of_failure failure)
 
--- the bytes behind it
+-- the bytes after it
 abbrev pub answer_bytes : TurnReply → List ℕ
 answer_bytes (Done bytes) = bytes
 answer_bytes _ = []

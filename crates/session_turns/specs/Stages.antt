@@ -1,4 +1,5 @@
--- Private help of proofs: no public clause cites it, but `IsTurn`, `IsRequestAnswered` and `left_of`. How a request is answered stage by stage.
+-- Private help of proofs: no public clause cites it, except `IsTurn`, `IsRequestAnswered` and `left_of`. How a request is
+-- answered stage by stage.
 use Rattle.std.specs.Prelude.{◌≡◌, ◌≢◌, ⊤, ℕ, List, true, false, map, Result, Ok, Err, Option, Some, None, Vec}
 use Rattle.std.specs.declared.alloc.Global.{Global}
 use Rattle.std.specs.Arc.{arc_value}
@@ -36,7 +37,7 @@ use Rattle.session_turns.specs.declared.run.Left.TheVariants as left
 use Rattle.session_turns.specs.declared.settings.Settings.{Settings}
 use Rattle.session_turns.specs.declared.state.State.{State}
 
--- the reply that an answer is, in the state that it leaves
+-- the reply of an answer, in the state after it
 abbrev pub reply_in : State → Answer → TurnReply
 reply_in s (answer.Done bytes) = Done bytes.items
 reply_in s answer.Last = last_reply s.last
@@ -44,7 +45,8 @@ reply_in s (answer.Storage buffer) = Done (dump_text s.rules s.store)
 reply_in s (answer.Refused refusal) = Refused refusal
 reply_in s (answer.Failed failure) = Failed failure
 
--- a request was answered as wanted, and not by the storage; or memory ran out where it may, which is told, and all is as it was
+-- a request was answered as wanted, and not by the storage; or memory ran out when it may, the answer says so, and nothing
+-- changed
 abbrev pub IsRequestAnswered : (Failure → Type 0) → State → Turn → Answer → State → Type 0
 IsRequestAnswered may_fail s want (answer.Failed failure) after = may_fail failure × (after ≡ s)
 IsRequestAnswered may_fail s want (answer.Storage buffer) after = ⊥
@@ -55,7 +57,7 @@ abbrev pub IsTurn : Settings → State → Ask → Answer → State → Type 0
 IsTurn settings s ask (answer.Storage buffer) after = (ask ≡ Dump) × (after ≡ s)
 IsTurn settings s ask given after = IsRequestAnswered (MayTurnFail settings s ask) s (turn settings s ask) given after
 
--- the answer where a stage stopped
+-- the answer if a stage stopped
 abbrev pub stopped_answer : Stop → Answer
 stopped_answer (stop.Refused why) = answer.Refused why
 stopped_answer (stop.Failed want) = answer.Failed want
@@ -83,7 +85,7 @@ abbrev pub left_of : Storage → Left → Storage
 left_of store (left.Changed changes) = with_changes store changes
 left_of store (left.Begun begun) = begun
 
--- memory runs out only where it may
+-- memory runs out only if it may
 abbrev pub FailsOnlyWhere : {X : Type 0} → (Failure → Type 0) → Result X Stop → Type 0
 FailsOnlyWhere may_fail (Err (stop.Failed failure)) = may_fail failure
 FailsOnlyWhere may_fail given = ⊤
@@ -95,7 +97,7 @@ IsRan settings s frame ran =
     × (ran.1 ≡ frame.block.rules)
     × (left_of s.store ran.2 ≡ store_after (calls_over frame.block frame.images) (storage_for s frame))
 
--- a frame that was accepted, as what is wanted of it
+-- a frame that was accepted, as the value that is wanted
 abbrev pub accepted_value : AcceptedFrame → Accepted
 accepted_value frame = record { block = block_value frame.block; images = map arc_value frame.images.items }
 

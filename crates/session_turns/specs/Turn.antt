@@ -4,17 +4,19 @@ use Rattle.std.specs.FinMap as fin
 use Rattle.std.specs.Option.{option_map}
 use Rattle.std.specs.Result.{result_map_both}
 use Rattle.std.specs.List.{sum_by}
+use Rattle.rv_ledger.specs.Height.{greatest_height}
+use Rattle.rv_ledger.specs.Rules.{rules_number}
 use Rattle.sha2.specs.Sha256.{sha256}
-use Rattle.block_file.specs.Block.{BlockValue, block_of}
+use Rattle.block_file.specs.Block.{BlockValue, parsed_block}
 use Rattle.elf32.specs.Layout.{Layout}
 use Rattle.elf32.specs.Image.{image_of}
-use Rattle.session_requests.specs.Requests.{Ask, Program, Forget, Programs, Frame, Try, Last, Get, ListEntries, Dump, Begin, State as AskState, Quit, greatest_height}
+use Rattle.session_requests.specs.Requests.{Ask, Program, Forget, Programs, Frame, Try, Last, Get, ListEntries, Dump, Begin, State as AskState, Quit}
 use Rattle.rv_ledger.specs.Key.{Storage}
 use Rattle.rv_ledger.specs.declared.rules.Rules.TheVariants as rules
 use Rattle.rv_step.specs.Fold.{receipts_of, store_after}
 use Rattle.receipts.specs.Brief.{receipts_text}
 use Rattle.session_turns.specs.Replies.{TurnReply, Done, Refused, turn_reply_text, done_answer, kept_reply, refused_answer}
-use Rattle.session_turns.specs.Telling.{value_line, dump_text, listed, names_text, rules_number, state_text}
+use Rattle.session_turns.specs.Telling.{value_line, dump_text, listed, names_text, state_text}
 use Rattle.programs.specs.Programs.{calls_over, file_limit}
 use Rattle.session_turns.specs.Programs.{frame_programs}
 use Rattle.session_turns.specs.declared.kept.KeptAnswer.{KeptAnswer}
@@ -50,7 +52,7 @@ new_session settings = record {
 
 -- ---- frames
 
--- the gas limits of a block's calls together
+-- the sum of the gas limits of a block's calls
 abbrev pub block_gas : BlockValue → ℕ
 block_gas block = sum_by (λ call. call.gas) block.calls
 
@@ -58,7 +60,7 @@ abbrev pub is_above_limit : Option ℕ → ℕ → Bool
 is_above_limit None gas = false
 is_above_limit (Some most) gas = nat_lt most gas
 
--- the second step, where the first gave a value, else its refusal
+-- the second step if the first gave a value, otherwise the refusal of the first
 infixl 10 ◌>>=◌
 abbrev pub ◌>>=◌ : {A B : Type 0} → Result A FrameRefusal → (A → Result B FrameRefusal) → Result B FrameRefusal
 (Ok x) >>= f = f x
@@ -81,7 +83,7 @@ accepted_block settings s block =
 abbrev pub accepted : Settings → State → List ℕ → Result Accepted FrameRefusal
 accepted settings s bytes =
     unless (nat_lt settings.frame_limit (length bytes)) TooLong (
-    result_map_both (λ block. block) Block (block_of bytes) >>= accepted_block settings s)
+    result_map_both (λ block. block) Block (parsed_block bytes) >>= accepted_block settings s)
 
 -- the storage that its calls run over: its own entries are put over the session's
 abbrev pub put_over : Storage → Storage → Storage
@@ -112,7 +114,7 @@ abbrev pub frame_answer : Settings → State → Result Accepted FrameRefusal �
 frame_answer settings s (Err refusal) = counted_turn s (refused_answer refusal)
 frame_answer settings s (Ok frame) = counted_turn (after_run s frame) (receipts_answer settings s frame)
 
--- a frame that is refused for what is known of it before its text
+-- a frame that is refused before its text is read
 abbrev pub refused_frame : State → FrameRefusal → Turn
 refused_frame s refusal = if nat_le greatest_height s.height then told s (Refused TooHigh) else counted_turn s (refused_answer refusal)
 
@@ -156,7 +158,7 @@ last_reply (Some kept) = kept_reply kept
 abbrev pub is_dump : BlockValue → Bool
 is_dump block = length block.programs == 0 && length block.calls == 0
 
--- a digest comes where one is kept, and none where none is
+-- a digest comes exactly if one is kept
 abbrev pub agree : Option (List ℕ) → Option (List ℕ) → Bool
 agree None None = true
 agree (Some one) (Some other) = true
@@ -171,7 +173,7 @@ begun_with s height digest (Ok block) = record {
 
 abbrev pub begin_turn : State → ℕ → Option (List ℕ) → List ℕ → Turn
 begin_turn s height digest bytes = begun_with s height digest (
-    result_map_both (λ block. block) Block (block_of bytes) >>= (λ block.
+    result_map_both (λ block. block) Block (parsed_block bytes) >>= (λ block.
     unless (not (is_dump block)) NotADump (
     unless (not (agree digest s.digest)) OtherDigest (Ok block))))
 

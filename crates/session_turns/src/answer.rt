@@ -28,7 +28,7 @@ pub enum Answer {
 /// The line of an answer.
 pub type AnswerLine = ArrayString<LINE_ROOM>;
 
-/// The line of an answer of so many bytes.
+/// The line of an answer of this many bytes.
 pub fn done_line(length: u128) -> AnswerLine
     ensures { result.bytes ≡ codes "ok " ++ decimal length ++ codes "\n" }
 {
@@ -63,7 +63,7 @@ pub fn line_of_kept(kept: &KeptAnswer) -> AnswerLine
     }
 }
 
-/// The bytes behind that line.
+/// The bytes after that line.
 pub fn bytes_of_kept(kept: &KeptAnswer) -> &[u8]
     ensures { result.now ≡ answer_bytes (kept_reply kept.now) }
 {

@@ -1,4 +1,4 @@
-//! A session that goes on from another one's storage.
+//! A session that continues from another session's storage.
 
 ghost use Rattle.session_requests.specs.Requests.{Begin};
 ghost use Rattle.session_turns.specs.Pending.{IsPendingDue, IsPending};
@@ -12,9 +12,9 @@ use crate::state::State;
 use block_file::BlockText;
 use std::alloc::Global;
 
-/// The storage of a text, its rules, a height and a digest, which are to take the place of the session's. The programs stay, and
-/// there is no last answer. Refused by the text's first fault, where the text has programs or calls, or where there is a digest
-/// and the session keeps none, or the other way round.
+/// The storage of a text, its rules, a height and a digest, which will take the place of the session's. The programs stay, and
+/// there is no last answer. Refused by the text's first fault, or if the text has programs or calls. Refused also if there is a
+/// digest and the session keeps none, or the other way round.
 pub(crate) fn begin(
     alloc: Global,
     state: &State,

@@ -1,4 +1,4 @@
-//! The turns of the requests that have bytes behind their line, which are lent.
+//! The turns of the requests that have bytes after their line. The bytes are lent.
 
 ghost use Rattle.std.specs.Prelude.{◌≡◌};
 ghost use Rattle.session_requests.specs.Requests.{Begin, Frame, Program, Try};

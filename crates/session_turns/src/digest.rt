@@ -8,7 +8,7 @@ use crate::answer::{bytes_of_kept, line_of_kept};
 use crate::kept::KeptAnswer;
 use sha2::{Digest, Sha256};
 
-/// The digest behind an answer, where one is kept: SHA-256 (FIPS 180-4) of the one before it, the answer's line and its bytes.
+/// The digest after an answer, if one is kept: SHA-256 (FIPS 180-4) of the one before it, the answer's line and its bytes.
 pub(crate) fn next_digest(digest: Option<[u8; 32]>, kept: &KeptAnswer) -> Option<[u8; 32]>
     ensures { result ≡ next_digest digest (kept_reply kept.now) }
 {

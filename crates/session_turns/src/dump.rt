@@ -8,7 +8,6 @@ ghost use Rattle.receipts.specs.Buffer.{Appended};
 ghost use Rattle.receipts.specs.Text.{bytes_text, store_line};
 ghost use Rattle.session_turns.specs.Telling.{dump_head, dump_text};
 
-use crate::accepting::number_of;
 use byte_streams::{Destination, WriteFault};
 use receipts::{TextBuffer, push_decimal, push_entry};
 use rv_ledger::{Key, Rules, Store, StoredValue};
@@ -23,7 +22,7 @@ pub struct EmptyBuffer {
 }
 
 impl EmptyBuffer {
-    /// A buffer in which nothing waits; refused where memory ran out.
+    /// A buffer in which nothing waits. Refused if memory ran out.
     pub fn new(alloc: Global) -> Result<EmptyBuffer, AllocError> {
         let buffer = TextBuffer::new(alloc)?;
         Ok(EmptyBuffer { buffer })
@@ -66,7 +65,7 @@ fn line_length(key: &Key, value: &StoredValue) -> usize
     8 + 2 * key.bytes().len() + digit_count(value.bytes())
 }
 
-/// The length of a value in digits, or of the dash that stands for none.
+/// The length of a value in digits, or of the dash that stands for no value.
 #[tactic(auto, using(crate::proofs::Dumps::digits_are))]
 fn digit_count(bytes: &[u8]) -> usize
     requires { length bytes.now ≤ 256 }
@@ -76,8 +75,8 @@ fn digit_count(bytes: &[u8]) -> usize
     if bytes.is_empty() { 1 } else { 2 * bytes.len() }
 }
 
-/// Writes the text of a storage: a block file of the session's rules. Takes no memory. Refused as the first write that was
-/// refused; then a beginning of the text was written, and not all of it.
+/// Writes the text of a storage: a block file of the session's rules. Takes no memory. If a write is refused, the first refusal
+/// is returned, and only a beginning of the text was written.
 pub fn write_dump<W: Destination>(
     buffer: EmptyBuffer,
     rules: Rules,
@@ -106,7 +105,7 @@ fn push_head<W: Destination>(text: &mut TextBuffer, rules: Rules, out: &mut W)
     ensures { Appended W.contents W.may_refuse text.old out.old text.new out.new (dump_head rules) }
 {
     text.push(b"rvblock 2\ngas ", out);
-    push_decimal(text, u64::from(number_of(rules)), out);
+    push_decimal(text, u64::from(rules.number()), out);
     text.push(b"\n", out);
 }
 

@@ -1,7 +1,8 @@
 //! Frames that are run, and those that are only tried.
 
 ghost use Rattle.std.specs.Prelude.{◌≡◌, ◌<◌, ◌⊎◌, IfErr, IfOk, nat_le, if◌then◌else◌};
-ghost use Rattle.session_requests.specs.Requests.{Frame, greatest_height};
+ghost use Rattle.rv_ledger.specs.Height.{greatest_height};
+ghost use Rattle.session_requests.specs.Requests.{Frame};
 ghost use Rattle.session_turns.specs.Failures.{MayFailFrame};
 ghost use Rattle.session_turns.specs.Pending.{IsPendingDue, IsPending, counting, long_frame, stopped_frame};
 ghost use Rattle.session_turns.specs.Replies.{Refused, done_answer};
@@ -21,15 +22,14 @@ use crate::stages::{AcceptedFrame, Stop};
 use crate::state::State;
 use block_file::BlockText;
 use programs::calls_over;
-use rv_ledger::Rules;
-use session_requests::GREATEST_HEIGHT;
+use rv_ledger::{GREATEST_HEIGHT, Rules};
 use std::alloc::{AllocError, Global};
 
 /// What a frame that ran gives: the text of its receipts, its rules, and what it leaves.
 type Ran = (Vec<u8>, Rules, Left);
 
-/// Runs a frame beside the session: what it leaves is to be made. A frame that is done or refused is to count, and its answer
-/// to be kept as the session's last one. Where it fails nothing changes.
+/// Runs a frame beside the session, and returns what will change. A frame that is done or refused counts, and its answer is kept
+/// as the session's last one. Nothing changes if the frame fails, or is refused as TooHigh.
 pub(crate) fn frame<C: CallRunner>(
     alloc: Global,
     runner: &mut C,
@@ -50,7 +50,7 @@ pub(crate) fn frame<C: CallRunner>(
     }
 }
 
-/// Runs a frame beside the session: its answer is that of the frame, and nothing changes.
+/// Runs a frame beside the session and answers it. Nothing changes.
 pub(crate) fn try_frame<C: CallRunner>(
     alloc: Global,
     runner: &mut C,
@@ -94,7 +94,7 @@ fn ran<C: CallRunner>(
     }
 }
 
-/// The same of a frame that may run.
+/// The same for a frame that may run.
 fn ran_accepted<C: CallRunner>(
     alloc: Global,
     runner: &mut C,
@@ -130,7 +130,7 @@ fn ran_accepted<C: CallRunner>(
     }
 }
 
-/// A frame that ran is to count, and what it leaves is to be made.
+/// A frame that ran: it will count, and what it leaves will be made.
 fn kept_frame(state: &State, ran: Ran) -> Pending
     requires { state.now.height < greatest_height }
     ensures { result ≡ Pending.Frame (counting state.now (Some (record { left = ran.2; rules = ran.1 })) (done_answer ran.0.items)) }
@@ -140,7 +140,7 @@ fn kept_frame(state: &State, ran: Ran) -> Pending
     counting(state, Some(run), None, KeptBytes::of(text))
 }
 
-/// A frame that is refused is to count. Where it fails nothing changes.
+/// A frame that stopped: it will count if it is refused. If it fails, nothing changes.
 fn stopped_frame(alloc: Global, state: &State, stop: Stop) -> Pending
     requires { state.now.height < greatest_height }
     ensures { result ≡ stopped_frame state.now stop }
@@ -151,7 +151,7 @@ fn stopped_frame(alloc: Global, state: &State, stop: Stop) -> Pending
     }
 }
 
-/// A frame that is to count: the height goes up, the digest goes on, and the answer is kept.
+/// A frame that will count: the height goes up by one, the digest is continued, and the answer is kept.
 fn counting(
     state: &State,
     run: Option<PendingRun>,
@@ -170,7 +170,7 @@ fn counting(
     })
 }
 
-/// A frame with more bytes than the settings allow: it is to count, as other refused frames.
+/// A frame with more bytes than the settings allow: it will count, unless it is refused as TooHigh.
 pub(crate) fn long_frame(alloc: Global, state: &State) -> Pending
     ensures { result ≡ long_frame state.now }
 {
@@ -185,7 +185,7 @@ pub(crate) fn long_frame(alloc: Global, state: &State) -> Pending
     )
 }
 
-/// Why such a frame is refused that is only tried.
+/// Why such a frame is refused if it is only tried.
 pub(crate) fn long_try(state: &State) -> FrameRefusal
     ensures { Refused result ≡ (refused_frame state.now FrameRefusal.TooLong).reply }
 {
@@ -195,7 +195,7 @@ pub(crate) fn long_try(state: &State) -> FrameRefusal
     FrameRefusal::TooLong
 }
 
-/// Answers a frame for whose bytes memory ran out.
+/// The answer to a frame if memory for its bytes ran out.
 pub(crate) fn unkept_frame(state: &State) -> Answer
     ensures { result ≡ (if nat_le greatest_height state.now.height then Answer.Refused FrameRefusal.TooHigh else Answer.Failed Failure.Block) }
 {

@@ -1,4 +1,4 @@
-//! Programs that are handed in, given back and named.
+//! Programs that are handed in, forgotten and named.
 
 ghost use Rattle.std.specs.Prelude.{◌≡◌, ◌⊎◌, ◌∷◌, [], Err, IfErr, IfOk, false, map};
 ghost use Rattle.std.specs.Arc.{arc_value};
@@ -19,16 +19,16 @@ use crate::refusal::{Failure, FrameRefusal};
 use crate::state::State;
 use crate::texts::finished;
 use byte_streams::Destination;
-use elf32::{ElfError, Image, load};
-use programs::FILE_LIMIT;
+use elf32::{ElfError, Image};
+use programs::{FILE_LIMIT, load_image};
 use receipts::{TextBuffer, push_key};
 use rv_ledger::Key;
 use sha2::{Digest, Sha256};
-use std::alloc::{AllocError, AllocFailed, Global};
+use std::alloc::{AllocError, Global};
 use std::sync::Arc;
 
-/// A program that is to be put under its name, the SHA-256 of its file, which is the answer. One that is here is not loaded
-/// again. Refused where the file has more than 131,072 bytes or is no program.
+/// A program that will be put under its name, the SHA-256 of its file. The answer is the name. A program that is here is not
+/// loaded again. Refused if the file has more than 131,072 bytes or is no program.
 pub(crate) fn hand_in(alloc: Global, state: &State, file: &[u8]) -> Pending
     ensures { (settings : Settings) → IsPending settings state.now (Program file.now) result }
 {
@@ -51,7 +51,7 @@ pub(crate) fn hand_in(alloc: Global, state: &State, file: &[u8]) -> Pending
     }
 }
 
-/// The program of a file; None where one of its name is here already.
+/// The program of a file, or None if a program of its name is here already.
 fn loaded(
     alloc: Global,
     programs: &ProgramTable,
@@ -64,14 +64,10 @@ fn loaded(
     if programs.get(name).is_some() {
         return Ok(None);
     }
-    let image = load(alloc, file)?;
-    match Arc::new(alloc, image) {
-        Ok(image) => Ok(Some(image)),
-        Err(AllocFailed { .. }) => Err(ElfError::Memory),
-    }
+    Ok(Some(load_image(alloc, file)?))
 }
 
-/// A program that is to go; refused where none of that name is here.
+/// A program that will be removed. Refused if no program of that name is here.
 pub(crate) fn forget(state: &State, name: Key) -> Pending
     ensures { (settings : Settings) → IsPending settings state.now (Forget name) result }
 {

@@ -48,11 +48,11 @@ impl KeptBytes {
     }
 }
 
-/// What the last frame that counts was answered.
+/// The answer to the last frame that counts.
 #[derive(Drop)]
 pub struct KeptAnswer {
-    /// Why the frame was refused, where it was.
+    /// Why the frame was refused, if it was.
     pub refusal: Option<FrameRefusal>,
-    /// The bytes behind the answer's line; none of a refusal.
+    /// The bytes after the answer's line; none for a refusal.
     pub bytes: KeptBytes,
 }

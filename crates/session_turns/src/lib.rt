@@ -8,6 +8,7 @@ mod bodies;
 mod digest;
 mod dump;
 mod frame;
+mod frame_programs;
 mod handed_in;
 mod kept;
 mod making;

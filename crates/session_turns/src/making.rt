@@ -71,7 +71,7 @@ fn make_run(state: &mut State, run: PendingRun, _keys: &Option<Vec<Key>>)
     state.rules = rules;
 }
 
-/// Goes on from another storage.
+/// Continues from another storage.
 pub(crate) fn make_begin(alloc: Global, state: &mut State, begin: PendingBegin) -> Answer
     ensures { IsPendingMade state.old (pending.Begin begin) result state.new }
 {

@@ -1,4 +1,4 @@
-//! What a request is to change, before it is made so.
+//! What a request will change, before the change is made.
 
 use crate::answer::Answer;
 use crate::kept::KeptAnswer;
@@ -7,35 +7,35 @@ use elf32::Image;
 use rv_ledger::{Key, Rules, Store};
 use std::sync::Arc;
 
-/// What a request is to change, with its answer, before it is made so.
+/// What a request will change, with its answer, before the change is made.
 #[derive(Drop)]
 pub enum Pending {
     /// Nothing changes, and this is the answer.
     Nothing(Answer),
     /// A program is put under its name, and these are the answer's bytes.
     Program(Key, Arc<Image>, Vec<u8>),
-    /// The program of this name goes.
+    /// The program of this name is removed.
     Forget(Key),
     /// A frame counts.
     Frame(PendingFrame),
-    /// The session goes on from another storage.
+    /// The session continues from another storage.
     Begin(PendingBegin),
 }
 
-/// What a frame that counts is to change.
+/// What a frame that counts will change.
 #[derive(Drop)]
 pub struct PendingFrame {
-    /// What its run leaves; None of a frame that is refused.
+    /// What its run leaves; None for a frame that is refused.
     pub run: Option<PendingRun>,
-    /// The height behind it.
+    /// The height after it.
     pub height: u64,
-    /// The digest behind its answer, where one is kept.
+    /// The digest after its answer, if one is kept.
     pub digest: Option<[u8; 32]>,
     /// Its answer.
     pub answer: KeptAnswer,
 }
 
-/// What a run of calls is to change.
+/// What a run of calls will change.
 #[derive(Drop)]
 pub struct PendingRun {
     /// What it leaves of the storage.
@@ -44,7 +44,7 @@ pub struct PendingRun {
     pub rules: Rules,
 }
 
-/// What a session goes on from.
+/// What a session continues from.
 #[derive(Drop)]
 pub struct PendingBegin {
     /// The storage.
@@ -53,6 +53,6 @@ pub struct PendingBegin {
     pub rules: Rules,
     /// The height.
     pub height: u64,
-    /// The digest, where one is kept.
+    /// The digest, if one is kept.
     pub digest: Option<[u8; 32]>,
 }

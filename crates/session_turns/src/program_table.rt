@@ -67,7 +67,7 @@ impl ProgramTable {
         }
     }
 
-    /// Puts a program under a name; refused where memory ran out, and then nothing changes.
+    /// Puts a program under a name. Refused if memory ran out, and then nothing changes.
     pub fn insert(&mut self, name: Key, image: Arc<Image>) -> Result<(), AllocError>
         ensures ok { OnOk result (self.new ≡ map.insert self.old name (arc_value image)) }
         ensures err { OnErr result (self.new ≡ self.old) }
@@ -76,7 +76,7 @@ impl ProgramTable {
         Ok(())
     }
 
-    /// Gives back the program under a name; nothing changes where there is none.
+    /// Frees the program under a name. Nothing changes if there is none.
     pub fn remove(&mut self, name: &Key)
         ensures { self.new ≡ map.remove self.old name.now }
     {

@@ -24,8 +24,8 @@ pub struct Ready {
     keys: Option<Vec<Key>>,
 }
 
-/// Makes the room that what is pending needs, so that making it takes no memory. It fails where memory runs out, and then
-/// nothing changes. What a program needs is to be in its place, so it is put there.
+/// Makes the room that what is pending needs, so that making it takes no memory. Fails if memory runs out, and then nothing
+/// changes. The room of a program is its place in the table, so the program is put there already.
 pub fn make_ready(state: &mut State, pending: Pending) -> Result<Ready, Failure>
     requires { IsNewProgram state.old pending }
     ensures ready { IfOk result (λ ready. IsReady ready state.new) }
@@ -50,7 +50,7 @@ impl Ready {
         make_pending(alloc, state, pending, &keys)
     }
 
-    /// Gives the room back: the state is as it was before.
+    /// Frees the room: the state is as it was before.
     pub fn give_back(self, state: &mut State)
         ensures { IsReady self state.old → state.new ≡ without self state.old }
     {
@@ -63,7 +63,8 @@ impl Ready {
     }
 }
 
-/// Makes the room for what is pending, and makes it. It fails where memory for the room runs out, and then nothing changes.
+/// Makes the room for what is pending, then makes what is pending. Fails if memory for the room runs out, and then nothing
+/// changes.
 pub fn take_pending(alloc: Global, state: &mut State, pending: Pending) -> Answer
     requires { IsNewProgram state.old pending }
     ensures taken { IsPendingTaken state.old pending result state.new }

@@ -17,8 +17,8 @@ use rv_ledger::{Key, Store};
 use std::alloc::AllocError;
 use std::sync::Arc;
 
-/// Makes the room that what is pending needs, and returns the keys that were put in for it. It fails where memory runs out, and
-/// then nothing changes.
+/// Makes the room that what is pending needs, and returns the keys that were put in for it. Fails if memory runs out, and then
+/// nothing changes.
 pub(crate) fn make_room(state: &mut State, pending: &Pending) -> Result<Option<Vec<Key>>, Failure>
     requires { IsNewProgram state.old pending.now }
     ensures ok { IfOk result (λ keys. HasRoomFor state.old pending.now keys state.new) }
@@ -38,7 +38,7 @@ pub(crate) fn make_room(state: &mut State, pending: &Pending) -> Result<Option<V
     }
 }
 
-/// Puts a shared program under its name; refused where memory ran out, and then nothing changes.
+/// Puts a shared program under its name. Refused if memory ran out, and then nothing changes.
 fn put_shared(programs: &mut ProgramTable, name: Key, image: &Arc<Image>) -> Result<(), AllocError>
     ensures ok { OnOk result (programs.new ≡ insert programs.old name (arc_value image.now)) }
     ensures err { OnErr result (programs.new ≡ programs.old) }
@@ -47,7 +47,7 @@ fn put_shared(programs: &mut ProgramTable, name: Key, image: &Arc<Image>) -> Res
     programs.insert(name, image)
 }
 
-/// Makes the room that what a run leaves needs in a storage. Refused where memory ran out, and then nothing changes.
+/// Makes the room that what a run leaves needs in a storage. Refused if memory ran out, and then nothing changes.
 fn room_for_run(store: &mut Store, run: &Option<PendingRun>) -> Result<Option<Vec<Key>>, AllocError>
     ensures ok { IfOk result (λ keys. HasRoomForRun store.old run.now keys store.new) }
     ensures err { OnErr result (store.new ≡ store.old) }
@@ -65,7 +65,7 @@ fn room_for_run(store: &mut Store, run: &Option<PendingRun>) -> Result<Option<Ve
     }
 }
 
-/// Gives the room for what a run leaves back.
+/// Frees the room for what a run leaves.
 pub(crate) fn give_back_run(store: &mut Store, run: &Option<PendingRun>, keys: Option<Vec<Key>>)
     ensures { HasRoomForRun (store_without run.now keys store.old) run.now keys store.old → store.new ≡ store_without run.now keys store.old }
 {

@@ -16,7 +16,7 @@ use receipts::receipts_text;
 use rv_ledger::{Call, Store};
 use std::alloc::{AllocError, Global};
 
-/// What a frame leaves, before it is made so.
+/// What a frame leaves, before the change is made.
 #[derive(Drop)]
 pub enum Left {
     /// Changes of the storage.
@@ -26,7 +26,7 @@ pub enum Left {
 }
 
 /// Runs calls on a storage with entries put over it, and leaves the storage as it is. Returns the text of the receipts, and what
-/// is left. In order, the cost does not grow with the storage. It fails where memory runs out.
+/// the calls leave. In order, the cost does not grow with the storage. Fails if memory runs out.
 ///
 /// Over an empty storage the calls run on the entries, which were made in one pass.
 #[tactic(auto, using(overlay::proofs::WithChanges::without_changes, crate::proofs::Entries::over_none))]
@@ -110,7 +110,7 @@ fn run_changed<C: CallRunner>(
     }
 }
 
-/// Adds the entries of a storage to changes. Refused where memory ran out.
+/// Adds the entries of a storage to changes. Refused if memory ran out.
 fn put_entries(changes: &mut Overlay, entries: &Store) -> Result<(), AllocError>
     ensures { OnOk result ((base : Storage) → with_changes base changes.new ≡ put_over (with_changes base changes.old) entries.now) }
 {

@@ -9,13 +9,13 @@ use rv_ledger::{Call, Receipt, Store};
 use seq_exec::run_over;
 use std::alloc::{AllocError, Global};
 
-/// What runs the calls of a frame. However it does, it comes to what they do in order.
+/// What runs the calls of a frame. However it runs them, the result is the same as in order.
 pub trait CallRunner {
-    /// What it needs of the types in it, as that threads may share a handle.
+    /// What it needs of the types in it, for example that threads may share a handle.
     ghost ready: { Type 0 };
 
-    /// Runs calls on a storage with changes over it, each on what the ones before it left, and adds theirs to the
-    /// changes. Refused where memory ran out, and then some of theirs may be added.
+    /// Runs calls on a storage with changes over it, each on what the ones before it left, and adds theirs to the changes.
+    /// Refused if memory ran out, and then some of theirs may be added.
     fn run_calls(
         &mut self,
         alloc: Global,

@@ -12,12 +12,12 @@ pub struct State {
     /// The rules of the last frame that ran or of the text that the session began with, rules one before any. A frame under
     /// lower ones is refused.
     pub rules: Rules,
-    /// How many frames were answered, failed ones left out: at most 9,999,999,999.
+    /// How many frames were answered, without those that failed: at most 9,999,999,999.
     pub height: u64,
-    /// The digest of their answers, where one is kept.
+    /// The digest of their answers, if one is kept.
     pub digest: Option<[u8; 32]>,
     /// The programs that were handed in, by their names.
     pub programs: ProgramTable,
-    /// What the last of those frames was answered.
+    /// The answer to the last of those frames.
     pub last: Option<KeptAnswer>,
 }

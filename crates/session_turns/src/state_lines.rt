@@ -3,10 +3,10 @@
 ghost use Rattle.std.specs.Prelude.{◌≡◌, ◌≤◌, ◌++◌, ◌∷◌, [], Some, codes, length, if◌then◌else◌};
 ghost use Rattle.std.specs.FinMap.{len};
 ghost use Rattle.receipts.specs.Buffer.{Appended};
-ghost use Rattle.receipts.specs.Text.{line_of};
-ghost use Rattle.session_turns.specs.Telling.{digest_line, number_line, number_text_or_none, rules_number, state_text};
+ghost use Rattle.receipts.specs.Text.{printed_line};
+ghost use Rattle.rv_ledger.specs.Rules.{rules_number};
+ghost use Rattle.session_turns.specs.Telling.{digest_line, number_line, number_text_or_none, state_text};
 
-use crate::accepting::number_of;
 use crate::settings::Settings;
 use crate::state::State;
 use byte_streams::Destination;
@@ -35,7 +35,7 @@ fn push_counts<W: Destination>(text: &mut TextBuffer, state: &State, out: &mut W
         ++ number_line (codes "keys") (len state.now.store)
         ++ number_line (codes "programs") (len state.now.programs)) }
 {
-    push_number(text, b"rules", u64::from(number_of(state.rules)), out);
+    push_number(text, b"rules", u64::from(state.rules.number()), out);
     push_number(text, b"height", state.height, out);
     push_number(text, b"keys", key_count(&state.store), out);
     push_number(text, b"programs", state.programs.len() as u64, out);
@@ -48,11 +48,11 @@ fn key_count(store: &Store) -> u64
     store.iter().len() as u64
 }
 
-/// Appends the settings, but whether a digest is kept.
+/// Appends the settings, except whether a digest is kept.
 fn push_settings<W: Destination>(text: &mut TextBuffer, settings: Settings, out: &mut W)
     ensures { Appended W.contents W.may_refuse text.old out.old text.new out.new (
         number_line (codes "frame-limit") settings.frame_limit
-        ++ line_of (codes "frame-gas") (number_text_or_none settings.frame_gas ∷ [])
+        ++ printed_line (codes "frame-gas") (number_text_or_none settings.frame_gas ∷ [])
         ++ number_line (codes "brief") (if settings.is_brief then 1 else 0)) }
 {
     push_number(text, b"frame-limit", settings.frame_limit, out);
@@ -60,7 +60,7 @@ fn push_settings<W: Destination>(text: &mut TextBuffer, settings: Settings, out:
     push_number(text, b"brief", one_if(settings.is_brief), out);
 }
 
-/// 1 where something holds, else 0.
+/// 1 if something holds, otherwise 0.
 fn one_if(holds: bool) -> u64
     ensures { result ≡ (if holds then 1 else 0) }
 {
@@ -80,7 +80,7 @@ fn push_number<W: Destination>(text: &mut TextBuffer, word: &[u8], number: u64, 
 
 /// Appends the line of the bound on gas.
 fn push_gas<W: Destination>(text: &mut TextBuffer, most: Option<u64>, out: &mut W)
-    ensures { Appended W.contents W.may_refuse text.old out.old text.new out.new (line_of (codes "frame-gas") (number_text_or_none most ∷ [])) }
+    ensures { Appended W.contents W.may_refuse text.old out.old text.new out.new (printed_line (codes "frame-gas") (number_text_or_none most ∷ [])) }
 {
     match most {
         Some(most) => push_number(text, b"frame-gas", most, out),
@@ -88,7 +88,7 @@ fn push_gas<W: Destination>(text: &mut TextBuffer, most: Option<u64>, out: &mut 
     }
 }
 
-/// Appends the line of the digest, where one is kept.
+/// Appends the line of the digest, if one is kept.
 #[tactic(auto, using(receipts::proofs::Buffers::nothing_appended))]
 fn push_digest<W: Destination>(text: &mut TextBuffer, digest: Option<[u8; 32]>, out: &mut W)
     ensures { Appended W.contents W.may_refuse text.old out.old text.new out.new (digest_line digest) }

@@ -1,4 +1,4 @@
-//! What a session tells of its state.
+//! What a session reports of its state.
 
 ghost use Rattle.std.specs.Prelude.{◌≡◌, IfOk, Some};
 ghost use Rattle.std.specs.FinMap.{get};
@@ -15,7 +15,7 @@ use receipts::{TextBuffer, push_bytes, push_entry};
 use rv_ledger::{Key, Store, StoredValue};
 use std::alloc::{AllocError, Global};
 
-/// The value at a key, in a line; refused where memory ran out.
+/// The value at a key, in a line. Refused if memory ran out.
 pub(crate) fn content(alloc: Global, store: &Store, key: &Key) -> Result<Vec<u8>, AllocError>
     ensures { IfOk result (λ text. text.items ≡ value_line (get store.now key.now)) }
 {
@@ -44,7 +44,7 @@ fn push_value<W: Destination>(text: &mut TextBuffer, value: &StoredValue, out: &
     text.push(b"\n", out);
 }
 
-/// The lines of the first entries from a key on; refused where memory ran out.
+/// The lines of the first entries from a key on. Refused if memory ran out.
 pub(crate) fn listed(
     alloc: Global,
     store: &Store,
@@ -79,7 +79,7 @@ fn push_listed<W: Destination>(
     }
 }
 
-/// The counts and settings of a session, a line each; refused where memory ran out.
+/// The counts and settings of a session, a line each. Refused if memory ran out.
 pub(crate) fn state_text(
     alloc: Global,
     settings: Settings,

@@ -7,7 +7,7 @@ use byte_streams::WriteFault;
 use receipts::TextBuffer;
 use std::alloc::AllocError;
 
-/// The whole of a text whose end waits in a buffer; refused where memory ran out.
+/// The whole of a text whose end waits in a buffer. Refused if memory ran out.
 pub(crate) fn finished(waiting: TextBuffer, text: Vec<u8>) -> Result<Vec<u8>, AllocError>
     ensures { IfOk result (λ whole. IsFinished waiting text whole) }
 {

@@ -25,8 +25,8 @@ use rv_ledger::Key;
 use session_requests::{Request, RequestLine};
 use std::alloc::{AllocError, Global};
 
-/// Does what a request asks for, and answers it. A request that is refused or fails changes nothing but that a refused frame
-/// counts.
+/// Does what a request asks for, and answers it. A request that is refused or fails changes nothing, except that a refused frame
+/// counts, unless as TooHigh.
 pub fn take_turn<C: CallRunner>(
     alloc: Global,
     runner: &mut C,
@@ -41,7 +41,7 @@ pub fn take_turn<C: CallRunner>(
     take_pending(alloc, state, pending)
 }
 
-/// What a request asks for, with its answer, before it is made so: the state is as it was.
+/// What a request asks for, with its answer, before the change is made: the state is as it was.
 pub fn pending_turn<C: CallRunner>(
     alloc: Global,
     runner: &mut C,
@@ -75,7 +75,7 @@ pub fn pending_turn<C: CallRunner>(
     }
 }
 
-/// The answer to a request that only tells of the state.
+/// The answer to a request that only reads the state.
 fn told(alloc: Global, settings: Settings, state: &State, request: &Request) -> Answer
     requires { IsReadRequest (ask_of request.now) }
     ensures { IsTurn settings state.now (ask_of request.now) result state.now }
@@ -104,7 +104,7 @@ fn text_answer(text: Result<Vec<u8>, AllocError>) -> Answer
     }
 }
 
-/// The answer that is the text of the storage; it fails where memory for its buffer runs out.
+/// The answer that is the text of the storage. Fails if memory for its buffer runs out.
 fn dump(alloc: Global, state: &State) -> Answer
     ensures { (settings : Settings) → IsTurn settings state.now Dump result state.now }
 {
@@ -114,7 +114,7 @@ fn dump(alloc: Global, state: &State) -> Answer
     }
 }
 
-/// The last answer again; refused before the first one.
+/// The last answer again. Refused before the first one.
 fn last(state: &State) -> Answer
     ensures { IsRequestAnswered (λ _. ⊥) state.now (told state.now (last_reply state.now.last)) result state.now }
 {
@@ -124,8 +124,8 @@ fn last(state: &State) -> Answer
     }
 }
 
-/// What is pending of a request with more bytes after its line than may be, which were passed over: it is refused, and a frame
-/// is to count.
+/// What is pending of a request with more bytes after its line than it may have. The bytes were passed over. The request is
+/// refused, and a frame counts, unless it is refused as TooHigh.
 pub fn pending_long(alloc: Global, state: &State, line: RequestLine) -> Pending
     ensures pending { (settings : Settings) (bytes : List ℕ) → length bytes ≡ body_length line → is_too_long settings.frame_limit line ≡ true
         → IsPending settings state.now (with_body line bytes) result }
@@ -139,7 +139,7 @@ pub fn pending_long(alloc: Global, state: &State, line: RequestLine) -> Pending
     }
 }
 
-/// Answers a request for whose bytes memory ran out, which were passed over. Nothing changes.
+/// Answers a request if memory for its bytes ran out. The bytes were passed over. Nothing changes.
 pub fn fail_unkept(state: &State, line: RequestLine) -> Answer
     ensures turn { (settings : Settings) (bytes : List ℕ) → length bytes ≡ body_length line → is_too_long settings.frame_limit line ≡ false → 0 < body_length line
         → IsTurn settings state.now (with_body line bytes) result state.now }

@@ -88,7 +88,7 @@ module _ (block : Block) (calls : List Invocation) (w : ℕ) (key : List ℕ) (v
 -- ---- what the core gives for a read
 
 module _ (store : Storage) (key : List ℕ) (i : ℕ) (answers : List StorageAnswer) (seen : Visible) where
-  -- where no estimate is met
+  -- if no estimate is met
   module _ (open_now : blocker seen ≡ None) (value : Option (List ℕ)) (from : Origin) (value_is : value_seen (map.get store key) seen ≡ value) (origin_is : origin_in seen ≡ from) where
     pub given_task : Running i (answers ++ record { key = key; value = value; origin = from } ∷ []) None ≡ answered_with store key i answers seen
     given_task =
@@ -96,6 +96,6 @@ module _ (store : Storage) (key : List ℕ) (i : ℕ) (answers : List StorageAns
         ∙ ap (λ o. Running i (answers ++ record { key = key; value = value_seen (map.get store key) seen; origin = o } ∷ []) None) (sym origin_is)
         ∙ ap (answered_by store key i answers seen) (sym open_now)
 
-  -- where one is met
+  -- if one is met
   pub blocked_task : (b : ℕ) → blocker seen ≡ Some b → Running i answers (Some b) ≡ answered_with store key i answers seen
   blocked_task b met = ap (answered_by store key i answers seen) (sym met)

@@ -4,7 +4,7 @@ use Rattle.std.proofs.lemmas.Bool.Decides.{nat_tests}
 use Rattle.std.proofs.lemmas.List.{drop_more}
 use Rattle.rv_ledger.specs.Key.{Storage}
 use Rattle.rv_ledger.specs.Call.{Invocation}
-use Rattle.stm_state.specs.State.{State, start, is_done}
+use Rattle.stm_state.specs.State.{State, start_state, is_done}
 use Rattle.stm_state.specs.Steps.{Limit}
 use Rattle.stm_state.specs.Drive.{BadWorker, NotDone, drive_of, driven, due_result, continue_drive}
 use Rattle.stm_state.proofs.Tests.{lt_is, not_lt_is}
@@ -14,7 +14,7 @@ use Rattle.stm_core.specs.CoreState.{CoreState}
 use Rattle.stm_core.specs.Driving.{IsRefusal, IsStepRefusal}
 
 module _ (calls : List Invocation) (store : Storage) (workers : ℕ) where
-  -- what a list comes to by its first entry
+  -- the result of a list, by its first entry
   by_entry : (w : ℕ) (ws : List ℕ) (s : State) → driven calls store workers (w ∷ ws) s ≡ cond (nat_lt w workers) (continue_drive (λ t. driven calls store workers ws t) (due_result calls store w s)) (Err BadWorker)
   unfolding driven
   by_entry w ws s = refl
@@ -59,26 +59,26 @@ used_up : (calls : List Invocation) (store : Storage) (workers : ℕ) (s : State
 unfolding driven
 used_up calls store workers s = refl
 
--- from 1 to 32 workers on it is the list from the start on
-from_start : (calls : List Invocation) (store : Storage) (workers : ℕ) (schedule : List ℕ) → 1 ≤ workers → workers ≤ 32 → drive_of calls store workers schedule ≡ driven calls store workers schedule (start (length calls) workers)
+-- with 1 to 32 workers, the list is followed from the start state on
+from_start : (calls : List Invocation) (store : Storage) (workers : ℕ) (schedule : List ℕ) → 1 ≤ workers → workers ≤ 32 → drive_of calls store workers schedule ≡ driven calls store workers schedule (start_state (length calls) workers)
 from_start calls store workers schedule low high =
     let at_least : nat_le 1 workers ≡ true = grind (arith, nat_tests) in
     let at_most : nat_le workers 32 ≡ true = grind (arith, nat_tests) in
     rw (at_least, at_most) refl
 
--- the entries lead from a core's start to a state
+-- the entries lead from a core's start state to a state
 module _ (old : CoreState) (workers : ℕ) (schedule : List ℕ) (s : State) (low : 1 ≤ workers) (high : workers ≤ 32)
-    (first : old.state ≡ start (length old.job.block) workers)
+    (first : old.state ≡ start_state (length old.job.block) workers)
     (all : driven old.job.block old.job.store workers schedule old.state ≡ driven old.job.block old.job.store workers [] s) where
   comes_to : drive_of old.job.block old.job.store workers schedule ≡ cond (is_done s) (Ok s) (Err NotDone)
   comes_to =
       from_start old.job.block old.job.store workers schedule low high ∙ ap (driven old.job.block old.job.store workers schedule) (sym first)
       ∙ all ∙ used_up old.job.block old.job.store workers s
 
-  -- where workers are done there
+  -- if workers are done there
   pub ends_done : is_done s ≡ true → drive_of old.job.block old.job.store workers schedule ≡ Ok s
   ends_done e = comes_to ∙ ap (λ b. cond b (Ok s) (Err NotDone)) e
 
-  -- and where they are not
+  -- and if they are not
   pub ends_early : is_done s ≡ false → drive_of old.job.block old.job.store workers schedule ≡ Err NotDone
   ends_early e = comes_to ∙ ap (λ b. cond b (Ok s) (Err NotDone)) e

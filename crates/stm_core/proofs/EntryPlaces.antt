@@ -40,7 +40,7 @@ module _ (places : FinSet place_cmp) where
       go None open_ there = cc
       go (Some content) open_ there = open_.0
 
-  -- places that are open stay so where there are more
+  -- open places stay open if there are more places
   pub open_grown : (more : FinSet place_cmp) → ((place : Place) → IsTrue (contains places place) → IsTrue (contains more place)) → (i : ℕ) (es : List (List ℕ × ContentChange)) → AreOpen places i es → AreOpen more i es
   open_grown more grows i [] open_ = tt
   open_grown more grows i (e ∷ es) open_ = (grows (e.0, i) open_.0, open_grown more grows i es open_.1)

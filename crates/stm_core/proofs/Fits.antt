@@ -18,12 +18,12 @@ use Rattle.stm_core.specs.declared.next_step.StepKind.TheVariants as kinds
 use Rattle.stm_core.proofs.TaskChanges.{LeavesTask}
 use Rattle.stm_core.specs.Driving.{FitsTask, HasNoAnswers, IsRunOf}
 
--- a worker's step is to let a run go on, which may end
+-- whether a worker's step continues a run, which may end
 abbrev pub is_run : NextStep → Bool
 is_run (next_step.Run i n) = true
 is_run step = false
 
--- else it owes no record
+-- if it does not, the worker owes no record
 pub no_record : (s : State) (task : Task) (step : NextStep) → step ≡ next_step_of s task → is_run step ≡ false → is_due Record task ≡ false
 no_record s (Running j answers None) step doing other = let runs = ap is_run doing in cc
 no_record s task step doing other = refl
@@ -33,7 +33,7 @@ no_run : (calls : List Invocation) (run : RunView) (task : Task) → is_due Reco
 no_run calls run (Running i answers None) e h = cc
 no_run calls run task e h = h
 
--- so that where the task owed no record there was no run, and the next task is fit where it has no answers
+-- so if the task owed no record there was no run, and the next task is fit if it has no answers
 pub next_fits : (calls : List Invocation) (run : Option RunView) (old new : Task) → is_due Record old ≡ false → FitsTask calls run old → HasNoAnswers new → FitsTask calls run new
 next_fits calls None old new e h k = k
 next_fits calls (Some run) old new e h k = absurd (no_run calls run old e h)
@@ -48,7 +48,7 @@ rests_after kinds.Decide task h = h.0
 rests_after kinds.MarkEstimate task h = h.0
 rests_after kinds.FinishAbort task h = h.0
 
--- all workers' runs fit their tasks still, where one of them has changed
+-- all workers' runs still fit their tasks if one worker's run and task have changed
 pub all_fit : (calls : List Invocation) (runs : List (Option RunView)) (s t : State) (w : ℕ) (run : Option RunView) → w < length runs → ((u : ℕ) → u ≢ w → task_at t u ≡ task_at s u)
     → ((u : ℕ) → FitsTask calls (get_or runs u None) (task_at s u)) → FitsTask calls run (task_at t w) → (u : ℕ) → FitsTask calls (get_or (set runs w run) u None) (task_at t u)
 all_fit calls runs s t w run lt others before own u = elim (cases_eq u w) [

@@ -17,9 +17,9 @@ use Rattle.stm_state.proofs.Tests.{equal_itself, equal_says}
 use Rattle.scheduler.specs.Schedule.{KeepsRooms, Schedule}
 use Rattle.stm_core.specs.CoreState.{CoreState, IsDue, IsReadyOf, Makes, PassedRoom, ValueRoom, runs}
 use Rattle.stm_core.specs.declared.ready_record.ReadyRecord.{ReadyRecord}
-use Rattle.stm_core.specs.Inner.{AreOpen, IsGrown, IsHanded, IsPromised, IsReached, KeepsPromises, core_state_of, state_in, writes_at}
+use Rattle.stm_core.specs.Inner.{AreOpen, IsGrown, IsPromised, IsReached, KeepsPromises, core_state_of, state_in, writes_at}
 use Rattle.stm_core.proofs.EntryPlaces.{Within, marked_within, moved_within}
-use Rattle.stm_core.proofs.MadeSteps.{due_at, goes_on, goes_on_quietly, invariant_at, makes, mark_has_place, mark_made, move_made, named_in, own_made}
+use Rattle.stm_core.proofs.MadeSteps.{IsHanded, due_at, goes_on, goes_on_quietly, invariant_at, makes, mark_has_place, mark_made, move_made, named_in, own_made}
 use Rattle.stm_core.proofs.Promises.{moved_kept, next_has_place, next_is_promised, recorded_kept}
 
 module _ (job : Job) (table : Table) (promised : ℕ) (schedule : Schedule) (h : IsReached job table promised schedule) {passed : PassedRoom} {values : ValueRoom} (b : CoreState) (is : core_state_of job table promised schedule passed values ≡ b) (w i : ℕ) where
@@ -45,7 +45,7 @@ module _ (job : Job) (table : Table) (promised : ℕ) (schedule : Schedule) (h :
       (λ r. same ∙ ap (λ k. (get_or schedule.calls k fresh).last) (equal_says i j (ap (λ (t : Task). runs t j) (sym at) ∙ r)))
 
   module _ (due : IsDue w Record b) (run : EndedRun) (answers : List StorageAnswer) (at : get_or schedule.tasks w Idle ≡ Running i answers None) (handed : IsHanded job.block i answers run) where
-    -- a worker's own run within the limits leads on
+    -- the state after the record of a worker's own run within the limits is reached
     pub record_reached : (after_table : Table) (more : ℕ) (after : Schedule) → IsGrown table after_table → IsPromised i run.receipt.writes after_table promised more
         → (length table.arena.records + promised + len run.receipt.writes ≤ 1048576) × ((get_or schedule.calls i fresh).incarnation < 65535)
         → state_in after_table more after ≡ counted one_execution w (after_record w i run.answers.items run.receipt (state_in table promised schedule)) → IsReached job after_table more after
@@ -62,7 +62,7 @@ module _ (job : Job) (table : Table) (promised : ℕ) (schedule : Schedule) (h :
   -- ---- move key
 
   module _ (due : IsDue w MoveKey b) (key : List ℕ) (keys : List (List ℕ)) (new : Bool) (at : get_or schedule.tasks w Idle ≡ Moving i (key ∷ keys) new) where
-    -- the next key has a place where the run wrote it, and its record is promised
+    -- the next key has a place if the run wrote it, and its record is promised
     pub key_has_place : AreOpen table.places i (writes_at (get_or schedule.calls i fresh).last (key ∷ []))
     key_has_place = next_has_place (block_of job.block job.store) (length schedule.tasks) w (state_in table promised schedule) (invariant_at job table promised schedule h) (due_at job table promised schedule h b is w MoveKey due).worker table promised h.promises i key keys new at
 
@@ -73,7 +73,7 @@ module _ (job : Job) (table : Table) (promised : ℕ) (schedule : Schedule) (h :
       move_is_made : worker_step (block_of job.block job.store) w MoveKey (state_in table promised schedule) ≡ Some (Ok (state_in after_table more after))
       move_is_made = move_made (block_of job.block job.store) w (state_in table promised schedule) i key keys new at ∙ ap (λ t. Some (Ok t)) (sym same)
 
-      -- the move leads on
+      -- the state after the move is reached
       pub move_reached : after_table.places ≡ table.places → length after_table.arena.records + more ≡ length table.arena.records + promised → more + length (writes_at (get_or schedule.calls i fresh).last (key ∷ [])) ≡ promised
           → more ≤ after_table.arena.room → more * 256 ≤ after_table.arena.bytes → IsReached job after_table more after
       move_reached places placed taken room bytes =
@@ -100,7 +100,7 @@ module _ (job : Job) (table : Table) (promised : ℕ) (schedule : Schedule) (h :
       mark_is_made : worker_step (block_of job.block job.store) w MarkEstimate (state_in table promised schedule) ≡ Some (Ok (state_in with_estimate promised after))
       mark_is_made = mark_made (block_of job.block job.store) w (state_in table promised schedule) i key keys at ∙ ap (λ t. Some (Ok t)) (sym same)
 
-      -- the mark leads on
+      -- the state after the mark is reached
       pub mark_reached : IsReached job with_estimate promised after
       mark_reached =
           goes_on_quietly job table promised schedule h b is w MarkEstimate due with_estimate after tt mark_is_made

@@ -19,7 +19,7 @@ use Rattle.mvmap.specs.Table.{Table}
 use Rattle.mvmap.specs.Versions.{Entry, Estimate, Versions, place_cmp}
 use Rattle.stm_state.specs.declared.state.Status.TheVariants.{Executing, Aborting}
 use Rattle.stm_state.specs.declared.state.Task.TheVariants.{Idle, Running, Moving, Validating, Marking}
-use Rattle.stm_state.specs.State.{State, fresh, start, call_at, task_at}
+use Rattle.stm_state.specs.State.{State, fresh, start_state, call_at, task_at}
 use Rattle.stm_state.specs.Steps.{Block, Step, Ask, ReadKey, Park, Record, MoveKey, FinishExecution, CheckRead, Decide, MarkEstimate, FinishAbort, ArenaFull, IncarnationLimit, counted, one_asking, one_step, one_execution, one_validation, after_ask, after_read_key, after_park, after_record, after_move_key, after_finish_execution, record_within, after_check_read, after_decide, after_mark_estimate, after_finish_abort, step_with, worker_step}
 use Rattle.stm_state.specs.Done.{Reached, started, stepped, block_of, borne_out_by}
 use Rattle.stm_state.specs.Parts.{has_key}
@@ -29,7 +29,7 @@ use Rattle.stm_state.proofs.Counted.{counts_within}
 use Rattle.scheduler.specs.Schedule.{KeepsRooms, Schedule, MayCount, state_of}
 use Rattle.scheduler.specs.Workers.{NobodyMoves}
 use Rattle.stm_core.specs.CoreState.{CoreState, IsDue, Makes, PassedRoom, ValueRoom, is_due, is_read}
-use Rattle.stm_core.specs.Inner.{HasPlaces, IsGrown, IsHanded, IsReached, KeepsPromises, core_state_of, state_in}
+use Rattle.stm_core.specs.Inner.{AreVersionsPlaced, IsGrown, IsReached, KeepsPromises, core_state_of, state_in}
 use Rattle.stm_core.proofs.TaskChanges.{turn}
 use Rattle.stm_core.proofs.Promises.{IsQuiet, grown_kept, none_promised, quiet_kept}
 
@@ -90,7 +90,7 @@ module _ (job : Job) (table : Table) (promised : ℕ) (schedule : Schedule) (h :
   pub placed_within : length table.arena.records + promised ≤ 1048576
   placed_within = h.promises.limit
 
-  -- the same state is reached with a schedule that is the same but for its rooms
+  -- the same state is reached with a schedule that is the same except for its rooms
   pub same_reached : (after : Schedule) → state_in table promised after ≡ state_in table promised schedule → IsReached job table promised after
   same_reached after same = record {
     reached = subst (λ (s : State). Reached (block_of job.block job.store) (length s.tasks) s) (sym same) h.reached;
@@ -132,7 +132,7 @@ module _ (job : Job) (table : Table) (promised : ℕ) (schedule : Schedule) (h :
 
     module _ (after_table : Table) (more : ℕ) (after : Schedule) (made : worker_step (block_of job.block job.store) w step (state_in table promised schedule) ≡ Some (Ok (state_in after_table more after))) where
       -- the state after a step is reached
-      pub goes_on : HasPlaces after_table → KeepsPromises after_table more (state_in after_table more after) → IsReached job after_table more after
+      pub goes_on : AreVersionsPlaced after_table → KeepsPromises after_table more (state_in after_table more after) → IsReached job after_table more after
       goes_on places promises =
           let next = stepped w step h.reached due_at.worker made in
           let same = (invariant_kept (block_of job.block job.store) (length schedule.tasks) (state_in after_table more after) next).sized.tasks in
@@ -150,29 +150,29 @@ module _ (job : Job) (table : Table) (promised : ℕ) (schedule : Schedule) (h :
       pub makes_read : (left : PassedRoom) (left_values : ValueRoom) → is_read step ≡ true → KeepsRooms w schedule.rooms after.rooms → Makes w step b (core_state_of job after_table more after left left_values)
       makes_read left left_values reads rooms = subst (λ x. Makes w step x (core_state_of job after_table more after left left_values)) is (made, refl, rooms, λ other. absurd (both reads other))
 
-    -- so it is where the step neither hands a run in nor moves a key
+    -- so it is if the step neither hands a run in nor moves a key
     pub goes_on_quietly : (after_table : Table) (after : Schedule) → IsQuiet step → worker_step (block_of job.block job.store) w step (state_in table promised schedule) ≡ Some (Ok (state_in after_table promised after))
-        → HasPlaces after_table → after_table.places ≡ table.places → after_table.arena ≡ table.arena → IsReached job after_table promised after
+        → AreVersionsPlaced after_table → after_table.places ≡ table.places → after_table.arena ≡ table.arena → IsReached job after_table promised after
     goes_on_quietly after_table after quiet made places same_places same_arena =
         goes_on after_table promised after made places
         (quiet_kept (block_of job.block job.store) (length schedule.tasks) w (state_in table promised schedule) invariant_at due_at.worker table promised h.promises (state_in after_table promised after) step after_table quiet due_at.due_step
         (turn (block_of job.block job.store) w (state_in table promised schedule) (state_in after_table promised after) step made) same_places same_arena)
 
--- ---- the start
+-- ---- the start state
 
--- the parts of a run at its start are the start of its block
-pub start_is : (n workers : ℕ) (table : Table) (schedule : Schedule) → table.versions ≡ empty → table.arena.records ≡ [] → ((v : Versions) (p : ℕ) → state_of v p schedule ≡ record (start n workers) { versions = v; record_count = p })
-    → state_in table 0 schedule ≡ start n workers
+-- the parts of a run at its start are the start state of its block
+pub start_is : (n workers : ℕ) (table : Table) (schedule : Schedule) → table.versions ≡ empty → table.arena.records ≡ [] → ((v : Versions) (p : ℕ) → state_of v p schedule ≡ record (start_state n workers) { versions = v; record_count = p })
+    → state_in table 0 schedule ≡ start_state n workers
 start_is n workers table schedule none records is =
     is table.versions (length table.arena.records + 0)
-    ∙ ap (λ v. record (start n workers) { versions = v; record_count = length table.arena.records + 0 }) none
-    ∙ ap (λ (rs : List Placing). record (start n workers) { record_count = length rs + 0 }) records
+    ∙ ap (λ v. record (start_state n workers) { versions = v; record_count = length table.arena.records + 0 }) none
+    ∙ ap (λ (rs : List Placing). record (start_state n workers) { record_count = length rs + 0 }) records
 
 -- it is reached
-pub start_reached : (job : Job) (n workers : ℕ) (table : Table) (schedule : Schedule) → n ≡ length job.block → table.versions ≡ empty → table.arena.records ≡ [] → ((v : Versions) (p : ℕ) → state_of v p schedule ≡ record (start n workers) { versions = v; record_count = p })
+pub start_reached : (job : Job) (n workers : ℕ) (table : Table) (schedule : Schedule) → n ≡ length job.block → table.versions ≡ empty → table.arena.records ≡ [] → ((v : Versions) (p : ℕ) → state_of v p schedule ≡ record (start_state n workers) { versions = v; record_count = p })
     → IsReached job table 0 schedule
 start_reached job n workers table schedule count none records is =
-    let same : state_in table 0 schedule ≡ start (length job.block) workers = start_is n workers table schedule none records is ∙ ap (λ x. start x workers) count in
+    let same : state_in table 0 schedule ≡ start_state (length job.block) workers = start_is n workers table schedule none records is ∙ ap (λ x. start_state x workers) count in
     let size : length schedule.tasks ≡ workers = ap (λ (s : State). length s.tasks) same ∙ length-replicate workers Idle in
     record {
       reached = subst (λ m. Reached (block_of job.block job.store) m (state_in table 0 schedule)) (sym size)
@@ -237,6 +237,10 @@ module _ (block : Block) (w i : ℕ) (answers : List StorageAnswer) (s : State) 
       ∙ ap (λ o. record_within i answers w o s) bears
       ∙ ap (λ b. cond b (Some (Err ArenaFull)) (cond (nat_le 65535 (call_at s i).incarnation) (Some (Err IncarnationLimit)) (Some (Ok (counted one_execution w (after_record w i answers receipt s)))))) (not_lt 1048576 (s.record_count + len receipt.writes) room)
       ∙ ap (λ b. cond b (Some (Err IncarnationLimit)) (Some (Ok (counted one_execution w (after_record w i answers receipt s))))) (not_le 65535 (call_at s i).incarnation low)
+
+-- a run is a run of the call at an index, and was given these answers
+abbrev pub IsHanded : List Invocation → ℕ → List StorageAnswer → EndedRun → Type 0
+IsHanded calls i answers run = (slice_get calls i ≡ Some run.call) × (run.answers.items ≡ answers)
 
 -- a worker's own run that is handed in, within the limits, and refused
 module _ (calls : List Invocation) (store : Storage) (w i : ℕ) (answers : List StorageAnswer) (run : EndedRun) (s : State) (runs : task_at s w ≡ Running i answers None) (handed : IsHanded calls i answers run) where

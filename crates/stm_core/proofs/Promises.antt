@@ -29,7 +29,7 @@ use Rattle.stm_core.proofs.TaskChanges.{KeepsLasts, LeavesTask, Turn, has_moved,
 
 -- ---- sums
 
--- sums of what is the same at each index are one
+-- sums are equal if the summands are equal at each index
 same_sums : {X : Type 0} (f g : X → ℕ) (xs : List X) (d : X) → ((u : ℕ) → f (get_or xs u d) ≡ g (get_or xs u d)) → sum_by f xs ≡ sum_by g xs
 same_sums f g [] d same = refl
 same_sums f g (x ∷ xs) d same =
@@ -37,7 +37,7 @@ same_sums f g (x ∷ xs) d same =
     let rest = same_sums f g xs d (λ u. same (suc u)) in
     omega (arith, first, rest, sum_by-cons f x xs, sum_by-cons g x xs)
 
--- a sum where one element becomes another, and what is summed stays the same at all the others
+-- a sum if one element becomes another, and the summands of all the others stay the same
 sum_changed : {X : Type 0} (f g : X → ℕ) (xs : List X) (w : ℕ) (y d : X) → w < length xs → ((u : ℕ) → u ≢ w → f (get_or xs u d) ≡ g (get_or xs u d)) → sum_by g (set xs w y) + f (get_or xs w d) ≡ sum_by f xs + g y
 sum_changed f g [] w y d within same = absurd (omega (arith, within))
 sum_changed f g (x ∷ xs) zero y d within same =
@@ -76,7 +76,7 @@ at_left run (e ∷ es) = go (get run.receipt.writes e.0) refl (at_left run es)
     go None found none = ap (λ o. with_write e.0 o (writes_at (Some run) (keys_of (filter (λ write. not (contains_key run.receipt.writes write.0)) es)))) found ∙ none
     go (Some content) found none = none
 
--- at the keys that a run is to move they are what it wrote
+-- at the keys that a run must move they are what it wrote
 at_moved : (run : Recorded) (last : Option Recorded) → writes_at (Some run) (keys_to_move last run.receipt.writes) ≡ entries run.receipt.writes
 at_moved run last =
     let es = entries run.receipt.writes in
@@ -99,7 +99,7 @@ module _ (places : FinSet place_cmp) (i : ℕ) (key : List ℕ) (writes : List (
   rest_open None open_ = open_
   rest_open (Some content) open_ = open_.1
 
--- tasks that move keys are one where their calls and keys are
+-- equal tasks that move keys have the same call and the same keys
 at_same_keys : (P : ℕ → List (List ℕ) → Type 0) (i j : ℕ) (keys ks : List (List ℕ)) (new b : Bool) → Moving i keys new ≡ Moving j ks b → P i keys → P j ks
 at_same_keys P i j keys ks new b e h =
     let call : i ≡ j = cc in
@@ -151,7 +151,7 @@ module _ (block : Block) (n w : ℕ) (s : State) (h : Invariant block n s) (with
         ap (λ l. sum_by (λ x. length (unpublished t.calls x)) l + length (unpublished s.calls (task_at s w))) tasks
         ∙ sum_changed (λ x. length (unpublished s.calls x)) (λ x. length (unpublished t.calls x)) s.tasks w task Idle within (λ u ne. ap length (same_writes u ne))
 
-    -- places are kept at the writes of the others, and so at all where they are at the worker's own
+    -- places are kept at the writes of the others; so at all writes, if they are kept at the worker's own
     places_kept : (old new : FinSet place_cmp) → ((place : Place) → IsTrue (contains old place) → IsTrue (contains new place))
         → ((u i : ℕ) (keys : List (List ℕ)) (b : Bool) → task_at s u ≡ Moving i keys b → AreOpen old i (writes_at (call_at s i).last keys))
         → ((i : ℕ) (keys : List (List ℕ)) (b : Bool) → task ≡ Moving i keys b → AreOpen new i (writes_at (call_at t i).last keys))
@@ -204,7 +204,7 @@ module _ (block : Block) (n w : ℕ) (s : State) (h : Invariant block n s) (with
           bytes = promises.bytes;
         }
 
-    -- a key that is moved takes its record of the room that was promised
+    -- a key that is moved takes its record from the room that was promised
     pub moved_kept : (i rest : ℕ) (key : List ℕ) (keys : List (List ℕ)) (new : Bool) (after : Table) → task_at s w ≡ Moving i (key ∷ keys) new → after.places ≡ table.places
         → length after.arena.records + rest ≡ length table.arena.records + promised → rest + length (writes_at (call_at s i).last (key ∷ [])) ≡ promised → rest ≤ after.arena.room → rest * 256 ≤ after.arena.bytes
         → KeepsPromises after rest (counted one_step w (after_move_key w i key keys new s))
@@ -242,7 +242,7 @@ module _ (block : Block) (n w : ℕ) (s : State) (h : Invariant block n s) (with
           let k = kept.count in
           omega (arith, c, k, own, before)
 
--- all is kept where there is more room
+-- all is kept if there is more room
 pub grown_kept : (table : Table) (promised : ℕ) (s : State) → KeepsPromises table promised s → (after : Table) → IsGrown table after → KeepsPromises after promised s
 grown_kept table promised s kept after grown = record {
   places = λ u i keys b at. open_grown table.places after.places grown.places i (writes_at (call_at s i).last keys) (kept.places u i keys b at);

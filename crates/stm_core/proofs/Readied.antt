@@ -7,6 +7,6 @@ use Rattle.stm_core.specs.CoreState.{IsReadyOf}
 use Rattle.stm_core.specs.declared.ready_record.ReadyRecord.{ReadyRecord}
 
 module _ (run : EndedRun) (ready : ReadyRecord) (is : IsReadyOf run ready) (kept : Recorded) (has : ready.recorded ≡ Some kept) where
-  -- what is to be kept of it
+  -- the run that the record will keep
   pub kept_is : kept ≡ recorded_run run.answers.items run.receipt
   kept_is = let both : Some kept ≡ Some (recorded_run run.answers.items run.receipt) = sym has ∙ is.recorded in cc

@@ -1,5 +1,6 @@
--- The parts of steps come to the steps, and what a worker's duty says of its task.
+-- How the parts of a step make the step, and what the step that a worker owes says about its task.
 use Rattle.std.proofs.Common.{◌≡◌, ◌<◌, ℕ, zero, suc, Bool, true, false, List, [], ◌∷◌, slice_get, Option, None, Some, refl, sym, subst, ap, ◌∙◌}
+use Rattle.std.specs.Option.{option_map}
 use Rattle.rv_step.specs.declared.answer.StorageAnswer.{StorageAnswer}
 use Rattle.mvmap.specs.Versions.{Versions, Estimate, changed}
 use Rattle.stm_state.specs.declared.state.Task.{Task}
@@ -12,8 +13,9 @@ use Rattle.scheduler.specs.Workers.{HasKeys, IsRunning, task_kind_of}
 use Rattle.stm_core.specs.declared.next_step.NextStep.TheVariants as next_step
 use Rattle.stm_core.specs.declared.next_step.StepKind.TheVariants as kinds
 use Rattle.stm_core.specs.CoreState.{IsWithin, next_step_of, is_due}
+use Rattle.stm_core.specs.Passed.{check_of}
 
--- ---- what a worker's duty says of its task
+-- ---- what the step that a worker owes says about its task
 
 pub asks_idle : (task : Task) → is_due Ask task ≡ true → task ≡ Idle
 asks_idle Idle h = refl
@@ -55,17 +57,17 @@ pub checks_next : (task : Task) (i n left : ℕ) (failed : Bool) → is_due Chec
 checks_next (Validating j m (suc l) false) i n left failed h d = (l, cc, cc)
 checks_next task i n left failed h d = cc
 
--- what a validation is of
+-- a task that has the kind of a validation is that validation
 pub validates_at : (task : Task) (i n left : ℕ) (failed : Bool) → task_kind.Validating i n left failed ≡ task_kind_of task → task ≡ Validating i n left failed
 validates_at (Validating j m l f) i n left failed d = cc
 validates_at task i n left failed d = cc
 
--- the answers that a run was given
+-- a task that has the kind of a run is a run, which was given some answers
 pub running_at : (task : Task) (i : ℕ) (blocked : Option ℕ) → task_kind.Running i blocked ≡ task_kind_of task → (answers : List StorageAnswer) × (task ≡ Running i answers blocked)
 running_at (Running j answers b) i blocked d = (answers, cc)
 running_at task i blocked d = cc
 
--- the keys that a task moves, and those that it marks
+-- a task that has the kind of a move moves some keys, and one that has the kind of a mark marks some
 pub moving_at : (task : Task) (i : ℕ) (new : Bool) → task_kind.Moving i new ≡ task_kind_of task → (keys : List (List ℕ)) × (task ≡ Moving i keys new)
 moving_at (Moving j keys c) i new d = (keys, cc)
 moving_at task i new d = cc
@@ -74,7 +76,7 @@ pub marking_at : (task : Task) (i : ℕ) → task_kind.Marking i ≡ task_kind_o
 marking_at (Marking j keys) i d = (keys, cc)
 marking_at task i d = cc
 
--- a task names a call as its duty does
+-- a task names the call that its kind names
 pub names_running : (task : Task) (i : ℕ) (blocked : Option ℕ) → task_kind.Running i blocked ≡ task_kind_of task → named_by task ≡ Some i
 names_running task i blocked d = let at = running_at task i blocked d in ap named_by at.1
 
@@ -91,14 +93,18 @@ marking_has_keys task i d = let at = marking_at task i d in subst HasKeys (sym a
 pub names_validating : (task : Task) (i n left : ℕ) (failed : Bool) → task_kind.Validating i n left failed ≡ task_kind_of task → named_by task ≡ Some i
 names_validating task i n left failed d = ap named_by (validates_at task i n left failed d)
 
+pub checks_named : (task : Task) (i left : ℕ) → check_of task ≡ Some (i, left) → named_by task ≡ Some i
+checks_named (Validating j n l f) i left d = ap (option_map (λ (c : ℕ × ℕ). c.0)) d
+checks_named task i left d = cc
+
 pub names_marking : (task : Task) (i : ℕ) → task_kind.Marking i ≡ task_kind_of task → named_by task ≡ Some i
 names_marking task i d = let at = marking_at task i d in ap named_by at.1
 
--- a task runs a call where its duty does
+-- a task runs a call if its kind does
 pub runs_one : (task : Task) (i : ℕ) (blocked : Option ℕ) → task_kind.Running i blocked ≡ task_kind_of task → IsRunning task
 runs_one task i blocked d = let at = running_at task i blocked d in subst IsRunning (sym at.1) tt
 
--- what a worker is about is within the calls where its task is
+-- the call of the step that a worker owes is one of the calls if the call of its task is
 pub within_doing : (count : ℕ) (s : State) (task : Task) → ((i : ℕ) → named_by task ≡ Some i → i < count) → IsWithin count (next_step_of s task)
 within_doing count s Idle h = tt
 within_doing count s (Running j answers None) h = h j refl
@@ -111,7 +117,7 @@ within_doing count s (Validating j m (suc l) false) h = h j refl
 within_doing count s (Marking j (k ∷ keys)) h = h j refl
 within_doing count s (Marking j []) h = h j refl
 
--- the step of a task that moves keys: the next key, where there is one
+-- the step of a task that moves keys: the next key, if there is one
 pub moves_next : (s : State) (i : ℕ) (key : List ℕ) (keys : List (List ℕ)) (new : Bool) → Some key ≡ slice_get keys 0 → next_step.Make kinds.MoveKey i (call_at s i).incarnation ≡ next_step_of s (Moving i keys new)
 moves_next s i key [] new h = cc
 moves_next s i key (k ∷ keys) new h = refl
@@ -129,7 +135,7 @@ pub marks_none : (s : State) (i : ℕ) (keys : List (List ℕ)) → None ≡ sli
 marks_none s i [] h = refl
 marks_none s i (k ∷ keys) h = cc
 
--- a key is moved where its version is set and the worker goes on to the next key
+-- a key is moved if its version is set and the worker continues with the next key
 pub moved_is : (w i : ℕ) (key : List ℕ) (keys : List (List ℕ)) (new : Bool) (s : State) (versions : Versions) (placed : ℕ) → versions ≡ changed s.versions (key, i) (version_of (call_at s i) key) → placed ≡ s.record_count
     → with_task w (Moving i keys new) (record s { versions = versions; record_count = placed }) ≡ after_move_key w i key keys new s
 moved_is w i key keys new s versions placed v p =

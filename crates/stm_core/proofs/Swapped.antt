@@ -35,7 +35,7 @@ swapped_back s s1 s2 w spare own first last within h there back =
     ∙ ap (λ (tasks : List Task). record s { tasks = tasks; rooms = set (set s.rooms w first) w last }) (tasks_back s.tasks w spare own within h)
     ∙ ap (λ (rooms : List ℕ). record s { rooms = rooms }) (set-set s.rooms w first last)
 
--- and where no room was made, so are the rooms
+-- and if no room was made, so are the rooms
 pub all_back : (s s2 : Schedule) (w last : ℕ) → s2 ≡ record s { rooms = set s.rooms w last } → last ≡ get_or s.rooms w 0 → s2 ≡ s
 all_back s s2 w last back same =
     back ∙ ap (λ (n : ℕ). record s { rooms = set s.rooms w n }) same

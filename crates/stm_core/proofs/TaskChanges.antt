@@ -17,11 +17,11 @@ use Rattle.stm_state.proofs.Invariant.{owned_by}
 use Rattle.stm_state.proofs.InvariantKept.{same_state, none_ok, err_ok}
 use Rattle.stm_core.specs.Driving.{HasNoAnswers}
 
--- each call but the one that worker w has keeps its last recorded run
+-- each call except the one that worker w has keeps its last recorded run
 abbrev pub KeepsLasts : ℕ → State → State → Type 0
 KeepsLasts w s t = (i : ℕ) → owned_by (task_at s w) ≢ Some i → (call_at t i).last ≡ (call_at s i).last
 
--- worker w's task becomes one of which P holds, and no other task changes; and no counts
+-- worker w's task becomes one for which P holds; no other task changes, and no counts
 pub record TaskTurn (w : ℕ) (P : Task → Type 0) (s t : State) : Type 0 where
   pub task : Task
   pub fits : P task
@@ -44,11 +44,11 @@ abbrev pub moved_by : Task → Option ℕ
 moved_by (Moving i keys new) = Some i
 moved_by task = None
 
--- a task moves no keys, and its run, where it is not blocked, has no answers
+-- a task moves no keys, and its run, if it is not blocked, has no answers
 abbrev pub Rests : Task → Type 0
 Rests task = HasNoAnswers task × (moved_by task ≡ None)
 
--- what a step leaves of a task: keys to move where it is a record or a move, answers where it is a read, and else neither
+-- what a step leaves of a task: keys to move if it is a record or a move, answers if it is a read, otherwise neither
 abbrev pub LeavesTask : Step → Task → Type 0
 LeavesTask (ReadKey key) task = moved_by task ≡ None
 LeavesTask Record task = HasNoAnswers task
@@ -57,7 +57,7 @@ LeavesTask step task = Rests task
 
 -- ---- last recorded runs
 
--- where a call is changed that keeps its last recorded run, all calls keep it
+-- if a changed call keeps its last recorded run, all calls keep theirs
 set_last : (calls : List CallState) (j i : ℕ) (call : CallState) → call.last ≡ (get_or calls j fresh).last → (get_or (set calls j call) i fresh).last ≡ (get_or calls i fresh).last
 set_last [] j i call e = refl
 set_last (x ∷ xs) zero zero call e = e
@@ -65,7 +65,7 @@ set_last (x ∷ xs) zero (suc i) call e = refl
 set_last (x ∷ xs) (suc j) zero call e = refl
 set_last (x ∷ xs) (suc j) (suc i) call e = set_last xs j i call e
 
--- so do they where those that are parked on a call are readied
+-- so do they if the calls that are parked on a call are readied
 resumed_last : (k : ℕ) (calls : List CallState) (i : ℕ) → (get_or (map (resume_if_parked k) calls) i fresh).last ≡ (get_or calls i fresh).last
 resumed_last k [] i = refl
 resumed_last k (call ∷ calls) zero = go (is_parked_on k call)
@@ -114,7 +114,7 @@ module _ (w : ℕ) (s : State) where
       go true e = rw e (given Rests _ _ (refl, refl) refl refl (λ i _. set_last s.calls s.execution i _ refl))
       go false e = rw e (same _ at refl refl (λ i _. refl))
 
-  -- what an asking comes to by its tests
+  -- what an asking does, by its tests
   asked_by_tests : (done late more : Bool) → task_at s w ≡ Idle
       → TaskTurn w Rests s (cond done (count_done w s) (cond late (ask_validation w s) (cond more (ask_execution w s) s)))
   asked_by_tests true late more at = same _ at refl refl (λ i _. refl)
@@ -259,7 +259,7 @@ module _ (block : Block) (w : ℕ) (s t : State) where
 
 -- ---- what a turn says
 
--- one worker's step more is at most one step more of each
+-- one more step of one worker is at most one more step of each
 one_more_at : (counts : List Counts) (w u : ℕ) (c : Counts) → c.steps ≡ (get_or counts w no_counts).steps + 1 → (get_or (set counts w c) u no_counts).steps ≤ (get_or counts u no_counts).steps + 1
 one_more_at [] w u c e = omega arith
 one_more_at (x ∷ xs) zero zero c e = omega (arith, e)
@@ -268,7 +268,7 @@ one_more_at (x ∷ xs) (suc w) zero c e = omega arith
 one_more_at (x ∷ xs) (suc w) (suc u) c e = one_more_at xs w u c e
 
 module _ (block : Block) (w : ℕ) (step : Step) (s t : State) (k : worker_step block w step s ≡ Some (Ok t)) where
-  -- how many workers there are stays
+  -- the number of workers stays
   pub turn_workers : length t.tasks ≡ length s.tasks
   turn_workers = let h = turn block w s t step k in ap length h.tasks ∙ length-set s.tasks w h.task
 

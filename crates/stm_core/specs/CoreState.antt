@@ -122,7 +122,7 @@ ask_result_of true task = ask_result.Done
 ask_result_of false Idle = ask_result.Nothing
 ask_result_of false task = ask_result.Task
 
--- the answer to a read of a key, by what is seen of it: the value and its origin, where no estimate is met
+-- the answer to a read of a key, by what is seen of it: the value and its origin, if no estimate is met
 abbrev pub read_result_by : Storage → List ℕ → Visible → Option ℕ → ReadResult
 read_result_by base key seen None = read_result.Given (value_seen (map.get base key) seen) (origin_in seen)
 read_result_by base key seen (Some writer) = read_result.Blocked
@@ -130,7 +130,7 @@ read_result_by base key seen (Some writer) = read_result.Blocked
 abbrev pub read_result_of : Storage → List ℕ → Visible → ReadResult
 read_result_of base key seen = read_result_by base key seen (blocker seen)
 
--- the answers that a task's run was given; none where the task runs no call
+-- the answers that a task's run was given; none if the task runs no call
 abbrev pub answers_of : Task → List StorageAnswer
 answers_of (Running i answers blocked) = answers
 answers_of task = []
@@ -140,7 +140,7 @@ abbrev pub runs : Task → ℕ → Bool
 runs (Running j answers blocked) i = j == i
 runs task i = false
 
--- the index of the call that a task runs; 0 where it runs none
+-- the index of the call that a task runs; 0 if it runs none
 abbrev pub index_run : Task → ℕ
 index_run (Running i answers blocked) = i
 index_run task = 0

@@ -1,4 +1,5 @@
--- What the refusals of a run along a list of worker numbers say of the list, and how a run under way fits its worker's task.
+-- What the refusals of a run along a list of worker numbers say about the list, and how a run under way fits its worker's
+-- task.
 use Rattle.std.specs.Prelude.{◌≡◌, List, [], Option, None, Some, Result, Err, slice_get}
 use Rattle.rv_ledger.specs.Call.{Invocation}
 use Rattle.rv_step.specs.Run.{RunView}
@@ -10,7 +11,7 @@ use Rattle.stm_state.specs.Drive.{DriveRefusal, NotDone, BadWorker, Limited}
 use Rattle.stm_core.specs.declared.driving.DriveFault.{DriveFault}
 use Rattle.stm_core.specs.declared.driving.DriveFault.TheVariants as fault
 
--- what a list comes to, by its refusal; where memory ran out nothing is said of it
+-- the result of a list, by its refusal; if memory ran out, nothing is said about it
 abbrev pub IsRefusal : DriveFault → Result State DriveRefusal → Type 0
 IsRefusal fault.NotDone r = r ≡ Err NotDone
 IsRefusal fault.BadWorker r = r ≡ Err BadWorker
@@ -18,7 +19,7 @@ IsRefusal fault.ArenaFull r = r ≡ Err (Limited ArenaFull)
 IsRefusal fault.IncarnationLimit r = r ≡ Err (Limited IncarnationLimit)
 IsRefusal fault.Memory r = Unit {0}
 
--- what the step that a worker owes comes to, by its refusal; NotDone and BadWorker never refuse a step
+-- the result of the step that a worker owes, by its refusal; NotDone and BadWorker never refuse a step
 abbrev pub IsStepRefusal : DriveFault → Option (Result State Limit) → Type 0
 IsStepRefusal fault.NotDone r = ⊥
 IsStepRefusal fault.BadWorker r = ⊥
@@ -36,7 +37,7 @@ abbrev pub IsRunOf : List Invocation → RunView → Task → Type 0
 IsRunOf calls run (Running i answers None) = (slice_get calls i ≡ Some run.call) × (run.answers ≡ answers)
 IsRunOf calls run task = ⊥
 
--- a worker's run under way is the run of its task; where there is none, the task's run has no answers yet or is blocked
+-- a worker's run under way is the run of its task; if there is none, the task's run has no answers yet or is blocked
 abbrev pub FitsTask : List Invocation → Option RunView → Task → Type 0
 FitsTask calls None task = HasNoAnswers task
 FitsTask calls (Some run) task = IsRunOf calls run task

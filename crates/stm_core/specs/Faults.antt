@@ -14,7 +14,6 @@ number_of ArenaFull = 3
 number_of IncarnationLimit = 4
 number_of Memory = 5
 
--- its name
 abbrev pub name_of : DriveFault → List ℕ
 name_of NotDone = codes "NotDone"
 name_of BadWorker = codes "BadWorker"
@@ -22,7 +21,7 @@ name_of ArenaFull = codes "ArenaFull"
 name_of IncarnationLimit = codes "IncarnationLimit"
 name_of Memory = codes "Memory"
 
--- both, as they are printed
+-- the name and the number, as they are printed
 abbrev pub fault_text : DriveFault → List ℕ
 fault_text fault = name_of fault ++ codes " " ++ decimal (number_of fault)
 
@@ -33,13 +32,12 @@ record_number record_fault.ArenaFull = 2
 record_number record_fault.Memory = 3
 record_number record_fault.IncarnationLimit = 4
 
--- its name
 abbrev pub record_name : RecordFault → List ℕ
 record_name record_fault.Foreign = codes "Foreign"
 record_name record_fault.ArenaFull = codes "ArenaFull"
 record_name record_fault.Memory = codes "Memory"
 record_name record_fault.IncarnationLimit = codes "IncarnationLimit"
 
--- both, as they are printed
+-- the name and the number, as they are printed
 abbrev pub record_text : RecordFault → List ℕ
 record_text fault = record_name fault ++ codes " " ++ decimal (record_number fault)

@@ -1,6 +1,6 @@
 -- The parts of a job's run, for the invariant and the private functions: what runs wrote, the places of the versions, what is
 -- promised to runs whose keys are moved, and the state.
-use Rattle.std.specs.Prelude.{◌≡◌, ◌≤◌, ◌+◌, ◌*◌, ℕ, Bool, List, [], ◌∷◌, Option, None, Some, get_or, length, map, slice_get, sum_by, vec_capacity, IsSome, IsTrue}
+use Rattle.std.specs.Prelude.{◌≡◌, ◌≤◌, ◌+◌, ◌*◌, ℕ, Bool, List, [], ◌∷◌, Option, None, Some, get_or, length, sum_by, vec_capacity, IsSome, IsTrue}
 use Rattle.std.specs.List.{AllByRecursion}
 use Rattle.std.specs.FinMap.{entries, get, len}
 use Rattle.std.specs.FinSet.{FinSet, contains}
@@ -8,18 +8,14 @@ use Rattle.rv_ledger.specs.Change.{ContentChange}
 use Rattle.mvmap.specs.Versions.{Place, place_cmp}
 use Rattle.mvmap.specs.Table.{Table}
 use Rattle.rv_ledger.specs.Key.{WriteMap}
-use Rattle.rv_ledger.specs.Call.{Invocation}
 use Rattle.rv_ledger.specs.declared.job.Job.{Job}
-use Rattle.rv_step.specs.declared.answer.StorageAnswer.{StorageAnswer}
-use Rattle.rv_step.specs.declared.ended_run.EndedRun.{EndedRun}
-use Rattle.read_set.specs.declared.Read.{Read}
 use Rattle.stm_state.specs.declared.state.CallState.{CallState}
 use Rattle.stm_state.specs.declared.state.Recorded.{Recorded}
 use Rattle.stm_state.specs.declared.state.Task.{Task}
 use Rattle.stm_state.specs.declared.state.Task.TheVariants.{Moving}
 use Rattle.stm_state.specs.Limits.{record_limit}
 use Rattle.stm_state.specs.State.{State, fresh, call_at, task_at}
-use Rattle.stm_state.specs.Steps.{read_of, write_of}
+use Rattle.stm_state.specs.Steps.{write_of}
 use Rattle.stm_state.specs.Done.{Reached, block_of}
 use Rattle.scheduler.specs.Schedule.{Schedule, state_of}
 use Rattle.stm_core.specs.CoreState.{CoreState, PassedRoom, ValueRoom}
@@ -31,8 +27,8 @@ abbrev pub AreOpen : FinSet place_cmp → ℕ → List (List ℕ × ContentChang
 AreOpen places i writes = AllByRecursion (λ write. IsTrue (contains places (write.0, i))) writes
 
 -- each entry of the versions has a place
-abbrev pub HasPlaces : Table → Type 0
-HasPlaces table = (place : Place) → IsSome (get table.versions place) → IsTrue (contains table.places place)
+abbrev pub AreVersionsPlaced : Table → Type 0
+AreVersionsPlaced table = (place : Place) → IsSome (get table.versions place) → IsTrue (contains table.places place)
 
 -- a table has the same versions and records as an older one, all of its places, and no less room
 pub record IsGrown (old new : Table) : Type 0 where
@@ -41,10 +37,6 @@ pub record IsGrown (old new : Table) : Type 0 where
   pub places : (place : Place) → IsTrue (contains old.places place) → IsTrue (contains new.places place)
   pub room : old.arena.room ≤ new.arena.room
   pub bytes : old.arena.bytes ≤ new.arena.bytes
-
--- a run is a run of the call at an index, and was given these answers
-abbrev pub IsHanded : List Invocation → ℕ → List StorageAnswer → EndedRun → Type 0
-IsHanded calls i answers run = (slice_get calls i ≡ Some run.call) × (run.answers.items ≡ answers)
 
 -- what a recorded run wrote at some keys, in the order of the keys; a key that it did not write is left out
 abbrev pub with_write : List ℕ → Option ContentChange → List (List ℕ × ContentChange) → List (List ℕ × ContentChange)
@@ -55,13 +47,13 @@ abbrev pub writes_at : Option Recorded → List (List ℕ) → List (List ℕ ×
 writes_at last [] = []
 writes_at last (key ∷ keys) = with_write key (write_of last key) (writes_at last keys)
 
--- the writes that a task is yet to publish
+-- the writes that a task has not published yet
 abbrev pub unpublished : List CallState → Task → List (List ℕ × ContentChange)
 unpublished calls (Moving i keys new) = writes_at (get_or calls i fresh).last keys
 unpublished calls task = []
 
--- the promises to the tasks are kept: each write that is yet to be published has a place, `promised` is the number of
--- these writes, and there is room for that number of records, however long their values are
+-- the promises to the tasks are kept: each write that is not published yet has a place, `promised` is the number of these
+-- writes, and there is room for that number of records, however long their values are
 pub record KeepsPromises (table : Table) (promised : ℕ) (s : State) : Type 0 where
   pub places : (w i : ℕ) (keys : List (List ℕ)) (new : Bool) → task_at s w ≡ Moving i keys new → AreOpen table.places i (writes_at (call_at s i).last keys)
   pub count : sum_by (λ task. length (unpublished s.calls task)) s.tasks ≡ promised
@@ -94,9 +86,5 @@ value_room_of lists = record { kept = vec_capacity lists.kept; lent = vec_capaci
 -- some list of worker steps leads to the state, each version has a place, and the promises are kept
 pub record IsReached (job : Job) (table : Table) (promised : ℕ) (schedule : Schedule) : Type 0 where
   pub reached : Reached (block_of job.block job.store) (length schedule.tasks) (state_in table promised schedule)
-  pub places : HasPlaces table
+  pub places : AreVersionsPlaced table
   pub promises : KeepsPromises table promised (state_in table promised schedule)
-
--- the reads of a run that was given these answers
-abbrev pub reads_in : List StorageAnswer → List Read
-reads_in answers = map read_of answers

@@ -4,7 +4,7 @@ ghost use Rattle.std.specs.Prelude.{◌≡◌, ◌<◌, ◌≤◌, None, Ok, Som
 ghost use Rattle.rv_step.specs.Fold.{receipts_of, store_after};
 ghost use Rattle.rv_step.specs.Run.{IsEnded};
 ghost use Rattle.rv_step.specs.declared.stage.Stage.TheVariants.{Asked};
-ghost use Rattle.stm_state.specs.State.{State, no_counts, start, task_at};
+ghost use Rattle.stm_state.specs.State.{State, no_counts, start_state, task_at};
 ghost use Rattle.stm_state.specs.Steps.{IncarnationLimit, ReadKey, Record, worker_step};
 ghost use Rattle.stm_state.specs.Drive.{drive_of, driven, due_result};
 ghost use Rattle.stm_state.specs.declared.state.Task.TheVariants.{Running};
@@ -26,7 +26,7 @@ use thiserror::Error;
 /// The greatest number of workers.
 pub const WORKER_LIMIT: usize = 32;
 
-/// Why a list of worker numbers comes to no outcome.
+/// Why a run along a list of worker numbers has no outcome.
 #[derive(Clone, Copy, Debug, PartialEq, Eq, Error)]
 pub enum DriveFault {
     /// The schedule ends before the workers are done.
@@ -94,11 +94,10 @@ impl<T: Drop> From<AllocFailed<T>> for DriveFault {
     }
 }
 
-/// Runs a job on 1 to 32 workers along a list of worker numbers. Each entry makes the one step that
-/// this worker owes. Refused as BadWorker where the number of workers is not 1 to 32; this is tested
-/// first. Otherwise the first entry that fails decides: BadWorker where it is not a worker, ArenaFull
-/// or IncarnationLimit where its step meets that limit. Refused as NotDone where the list is used up
-/// and workers are not done. Refused as Memory where memory runs out before any of these.
+/// Runs a job on 1 to 32 workers along a list of worker numbers. Each entry makes the one step that this worker owes.
+/// Refused as BadWorker if the number of workers is not 1 to 32; this is tested first. Otherwise the first entry that
+/// fails decides: BadWorker if it is not a worker, ArenaFull or IncarnationLimit if its step meets that limit. Refused as
+/// NotDone if the list is used up and workers are not done. Refused as Memory if memory runs out before any of these.
 pub fn drive(
     alloc: Global,
     job: &Job,
@@ -121,11 +120,11 @@ pub fn drive(
     }
 }
 
-/// The state at the start of a copy of a job; refused where memory ran out.
+/// The state at the start of a copy of a job; refused if memory ran out.
 fn core_of(alloc: Global, job: &Job, workers: usize) -> Result<Core, AllocError>
     requires { (1 ≤ workers) × (workers ≤ 32) }
     ensures job { IfOk result (λ c. c.job ≡ job.now) }
-    ensures state { IfOk result (λ c. c.state ≡ start (length job.now.block) workers) }
+    ensures state { IfOk result (λ c. c.state ≡ start_state (length job.now.block) workers) }
 {
     Core::new(alloc, job.copy()?, workers)
 }
@@ -138,7 +137,7 @@ fn drive_core(
     schedule: &[u16],
 ) -> Result<Outcome, DriveFault>
     requires workers { (1 ≤ workers) × (workers ≤ 32) }
-    requires start { core.old.state ≡ start (length core.old.job.block) workers }
+    requires start { core.old.state ≡ start_state (length core.old.job.block) workers }
     ensures counts { IfOk result (λ o. (s : State) × (drive_of core.old.job.block core.old.job.store workers schedule.now ≡ Ok s) × (o.counts.items ≡ s.counts)) }
     ensures job { IfOk result (λ o. o.job ≡ core.old.job) }
     ensures receipts { IfOk result (λ o. o.receipts.items ≡ receipts_of core.old.job.block core.old.job.store) }
@@ -152,7 +151,7 @@ fn drive_core(
     Ok(core.outcome(alloc)?)
 }
 
-/// A list without a run under way, one entry per worker; refused where memory ran out.
+/// A list without a run under way, one entry per worker; refused if memory ran out.
 fn no_runs(alloc: Global, workers: usize) -> Result<Vec<Option<Run>>, AllocError>
     ensures { IfOk result (λ v. v.items ≡ replicate workers None) }
 {
@@ -170,7 +169,7 @@ fn follow(
     workers: usize,
     schedule: &[u16],
 ) -> Result<(), DriveFault>
-    requires start { core.old.state ≡ start (length core.old.job.block) workers }
+    requires start { core.old.state ≡ start_state (length core.old.job.block) workers }
     ensures job { OnOk result (core.new.job ≡ core.old.job) }
     ensures driven { OnOk result (driven core.old.job.block core.old.job.store workers schedule.now core.old.state ≡ driven core.old.job.block core.old.job.store workers [] core.new.state) }
     ensures refused { IfErr result (λ e. IsRefusal e (driven core.old.job.block core.old.job.store workers schedule.now core.old.state)) }
@@ -179,7 +178,7 @@ fn follow(
     step_along(alloc, core, &mut runs, workers, schedule)
 }
 
-/// The same. `runs` holds each worker's run under way.
+/// Like `follow`; `runs` holds each worker's run under way.
 fn step_along(
     alloc: Global,
     core: &mut Core,
@@ -187,7 +186,7 @@ fn step_along(
     workers: usize,
     schedule: &[u16],
 ) -> Result<(), DriveFault>
-    requires start { core.old.state ≡ start (length core.old.job.block) workers }
+    requires start { core.old.state ≡ start_state (length core.old.job.block) workers }
     requires runs { runs.old.items ≡ replicate workers None }
     ensures job { OnOk result (core.new.job ≡ core.old.job) }
     ensures driven { OnOk result (driven core.old.job.block core.old.job.store workers schedule.now core.old.state ≡ driven core.old.job.block core.old.job.store workers [] core.new.state) }
@@ -240,8 +239,8 @@ fn make(core: &mut Core, worker: usize, kind: StepKind) -> Result<(), DriveFault
     }
 }
 
-/// Takes a worker's run on to its next read or its end, and makes that step. Starts the run where
-/// none is under way. Returns the run that is under way after the step.
+/// Continues a worker's run to its next read or its end, and makes that step. Starts the run if none is under way.
+/// Returns the run that is under way after the step.
 fn continue_run(
     alloc: Global,
     core: &mut Core,
@@ -269,7 +268,7 @@ fn continue_run(
     }
 }
 
-/// A worker's run of its call: the one that is under way, or else a run before its first instruction.
+/// A worker's run of its call: the one that is under way, otherwise a run before its first instruction.
 fn run_of(
     alloc: Global,
     core: &Core,
@@ -288,8 +287,8 @@ fn run_of(
     }
 }
 
-/// Reads the key that a worker's run asks for. Returns the run with its answer, or None where it met
-/// an estimate. Refused where memory ran out.
+/// Reads the key that a worker's run asks for. Returns the run with its answer, or None if it met an estimate. Refused if
+/// memory ran out.
 fn read(core: &mut Core, worker: usize, mut run: Run, key: &Key) -> Result<Option<Run>, DriveFault>
     requires due { IsDue worker (ReadKey key.now) core.old }
     requires asked { run.stage ≡ Asked key.now }

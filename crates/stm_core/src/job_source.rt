@@ -16,7 +16,7 @@ pub trait JobSource: Drop {
         ensures value { result.now ≡ (job self.now).block }
         ensures count { length (job self.now).block ≤ 1024 };
 
-    /// What the storage before the first call has at a key, or None where the key is absent.
+    /// What the storage before the first call has at a key, or None if the key is absent.
     fn content(&self, key: &Key) -> Option<&StoredValue>
         ensures { option_copied result ≡ map.get (job self.now).store key.now };
 }

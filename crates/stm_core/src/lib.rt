@@ -9,6 +9,7 @@ mod next_step;
 mod outcome;
 mod owned_job;
 mod passed_lists;
+mod read_steps;
 mod reading;
 mod reads;
 mod ready_record;

@@ -3,12 +3,12 @@
 use read_set::Origin;
 use rv_ledger::StoredValue;
 
-/// The step that a worker owes, with its call's index and incarnation where it has a task.
+/// The step that a worker owes, with its call's index and incarnation if it has a task.
 #[derive(Clone, Copy, Debug, PartialEq, Eq)]
 pub enum NextStep {
     /// `ask`.
     Ask,
-    /// `read` where its run asks for a key, `record` where it has ended.
+    /// `read` if its run asks for a key, `record` if it has ended.
     Run {
         /// The call's index.
         call: u16,
@@ -59,7 +59,7 @@ pub enum AskResult {
 /// The answer to a read of a key.
 #[derive(Drop)]
 pub enum ReadResult {
-    /// The key's value, or None where it is absent, and where the answer came from.
+    /// The key's value, or None if it is absent, and the origin of the answer.
     Given(Option<StoredValue>, Origin),
     /// Nothing yet: the run met an estimate.
     Blocked,

@@ -22,8 +22,8 @@ pub struct Finished {
     pub counts: Vec<Counts>,
 }
 
-/// What the run of a job leaves: the job, its receipts, the storage after it and the workers'
-/// counts. No entry may be an estimate. Refused where memory ran out.
+/// What the run of a job leaves: the job, its receipts, the storage after it and the workers' counts. No entry may be an
+/// estimate. Refused if memory ran out.
 pub(crate) fn outcome_of(
     alloc: Global,
     job: &Job,
@@ -47,7 +47,7 @@ pub(crate) fn outcome_of(
     })
 }
 
-/// The same, but the job and the receipts are moved.
+/// Like `outcome_of`, but the job and the receipts are moved.
 pub(crate) fn moved_outcome(
     alloc: Global,
     job: Job,
@@ -72,7 +72,7 @@ pub(crate) fn moved_outcome(
     })
 }
 
-/// The receipts, moved out, and the workers' counts; refused where memory ran out.
+/// The receipts, moved out, and the workers' counts; refused if memory ran out.
 pub(crate) fn finished_of(alloc: Global, scheduler: Scheduler) -> Result<Finished, AllocError>
     requires { length scheduler.counts ≡ length scheduler.tasks }
     ensures receipts { IfOk result (λ f. f.receipts.items ≡ filter_map last_receipt scheduler.calls) }
@@ -83,7 +83,7 @@ pub(crate) fn finished_of(alloc: Global, scheduler: Scheduler) -> Result<Finishe
     Ok(Finished { receipts, counts })
 }
 
-/// The receipts of the calls' last recorded runs, moved out of them; refused where memory ran out.
+/// The receipts of the calls' last recorded runs, moved out of them; refused if memory ran out.
 fn moved_receipts(alloc: Global, calls: Vec<CallState>) -> Result<Vec<Receipt>, AllocError>
     ensures { IfOk result (λ receipts. receipts.items ≡ filter_map last_receipt calls.items) }
 {
@@ -98,7 +98,7 @@ fn moved_receipts(alloc: Global, calls: Vec<CallState>) -> Result<Vec<Receipt>, 
     Ok(receipts)
 }
 
-/// The receipts of the calls' last recorded runs; refused where memory ran out.
+/// The receipts of the calls' last recorded runs; refused if memory ran out.
 fn receipts_in(alloc: Global, calls: &[CallState]) -> Result<Vec<Receipt>, AllocError>
     ensures { IfOk result (λ receipts. receipts.items ≡ filter_map last_receipt calls.now) }
 {
@@ -111,7 +111,7 @@ fn receipts_in(alloc: Global, calls: &[CallState]) -> Result<Vec<Receipt>, Alloc
     Ok(receipts)
 }
 
-/// What each worker did; refused where memory ran out.
+/// What each worker did; refused if memory ran out.
 fn counts_in(alloc: Global, scheduler: &Scheduler) -> Result<Vec<Counts>, AllocError>
     requires { length scheduler.now.counts ≡ length scheduler.now.tasks }
     ensures { IfOk result (λ counts. counts.items ≡ scheduler.now.counts) }

@@ -10,13 +10,13 @@ impl Core {
     ghost use Rattle.std.specs.Prelude.{◌≡◌, ◌≤◌, true, length, [], IfOk, IfErr};
     ghost use Rattle.version_arena.specs.ArenaState.{emptied};
     ghost use Rattle.rv_step.specs.Fold.{receipts_of, store_after};
-    ghost use Rattle.stm_state.specs.State.{is_done, start};
+    ghost use Rattle.stm_state.specs.State.{is_done, start_state};
 
-    /// The state at the start of a job; refused where memory ran out.
+    /// The state at the start of a job; refused if memory ran out.
     pub fn new(alloc: Global, job: Job, workers: usize) -> Result<Core, AllocError>
         requires { (1 ≤ workers) × (workers ≤ 32) }
         ensures job { IfOk result (λ c. c.job ≡ job) }
-        ensures state { IfOk result (λ c. c.state ≡ start (length job.block) workers) }
+        ensures state { IfOk result (λ c. c.state ≡ start_state (length job.block) workers) }
     {
         let Ok(core) = Core::over(alloc, Arena::new(alloc), job, workers) else {
             return Err(AllocError);
@@ -24,12 +24,12 @@ impl Core {
         Ok(core)
     }
 
-    /// The same over an arena that is used again: its records are dropped. Where memory ran out the arena
-    /// is handed back, without records.
+    /// Like `new`, over an arena that is used again: its records are dropped. If memory ran out, the arena is returned
+    /// without records.
     pub fn over(alloc: Global, arena: Arena, job: Job, workers: usize) -> Result<Core, Arena>
         requires { (1 ≤ workers) × (workers ≤ 32) }
         ensures job { IfOk result (λ c. c.job ≡ job) }
-        ensures state { IfOk result (λ c. c.state ≡ start (length job.block) workers) }
+        ensures state { IfOk result (λ c. c.state ≡ start_state (length job.block) workers) }
         ensures back { IfErr result (λ a. a ≡ emptied arena) }
     {
         Core::of(alloc, arena, job, workers)
@@ -42,7 +42,7 @@ impl Core {
         &self.job
     }
 
-    /// What the run of the job leaves, once all is done; refused where memory ran out.
+    /// What the run of the job leaves, once all is done; refused if memory ran out.
     pub fn outcome(&self, alloc: Global) -> Result<Outcome, AllocError>
         requires { is_done self.now.state ≡ true }
         ensures job { IfOk result (λ o. o.job ≡ self.now.job) }

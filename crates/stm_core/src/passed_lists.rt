@@ -8,9 +8,9 @@ use std::alloc::{AllocError, Global};
 use std::collections::BTreeMap;
 use std::mem;
 
-/// Two lists for the versions that a read passes: one for the origin that the core keeps, and one for the
-/// origin that it hands out. A read that passes nothing leaves them their room. And the versions that each worker's last
-/// read of a key passed, which later reads may share.
+/// Two lists for the versions that a read passes: one for the origin that the core keeps, and one for the origin that it
+/// hands out. A read that passes nothing leaves them their room. Besides, the versions that each worker's last read of a
+/// key passed, which later reads may share.
 #[derive(Drop)]
 pub(crate) struct PassedLists {
     /// The list for the origin that is kept; the map writes into it.
@@ -42,8 +42,8 @@ impl PassedLists {
         count <= self.kept.capacity() && count <= self.lent.capacity()
     }
 
-    /// The two origins of a read that wrote the versions that it passed into the list that is kept, and found
-    /// this version below them. The lists go with them, unless nothing was passed. Takes no memory.
+    /// The two origins of a read that wrote the versions that it passed into the list that is kept, and found this
+    /// version below them. The origins take the lists, unless nothing was passed. Takes no memory.
     pub(crate) fn origins(&mut self, bottom: Option<Version>) -> (Origin, Origin)
         requires { length self.old.kept.items ≤ vec_capacity self.old.lent }
         ensures kept { result.0 ≡ record { passed = self.old.kept.items; bottom = bottom } }
@@ -63,8 +63,9 @@ impl PassedLists {
         (Origin::new(kept, bottom), Origin::new(lent, bottom))
     }
 
-    /// A list of the versions that a worker's read of a key passed: the one that its last read of the key had, if it
-    /// has the same versions, and else a new one, which its next read may share. None where memory ran out.
+    /// A list of the versions that a worker's read of a key passed. If the worker's last read of the key passed the same
+    /// versions, it is that read's list. Otherwise it is a new one, which the next read may share. None if memory ran out
+    /// or that list has too many owners.
     pub(crate) fn shared(
         &mut self,
         worker: usize,
@@ -95,7 +96,7 @@ impl PassedLists {
     }
 }
 
-/// The same list for one more owner; None where it has too many.
+/// The same list for one more owner; None if it has too many.
 fn owner_of(list: &SharedVersions) -> Option<SharedVersions>
     ensures { IfSome result (λ owner. owner ≡ list.now) }
 {
@@ -105,8 +106,8 @@ fn owner_of(list: &SharedVersions) -> Option<SharedVersions>
     }
 }
 
-/// A list with room for `count` items in place of one that has less, or None where that one has it. The room
-/// at least doubles, so that calls of ascending indices seldom make a list. Refused where memory ran out.
+/// A list with room for `count` items, to replace one that has less; None if that one has the room. The room at least
+/// doubles, so that calls of ascending indices seldom make a list. Refused if memory ran out.
 pub(crate) fn larger<T>(list: &Vec<T>, count: usize) -> Result<Option<Vec<T>>, AllocError>
     ensures made { IfOk result (λ made. IfSome made (λ more. (count ≤ vec_capacity more) × (vec_capacity list.now < count))) }
     ensures enough { IfOk result (λ made. made ≡ None → count ≤ vec_capacity list.now) }
@@ -119,7 +120,7 @@ pub(crate) fn larger<T>(list: &Vec<T>, count: usize) -> Result<Option<Vec<T>>, A
     Ok(Some(Vec::with_capacity(*list.allocator(), room)?))
 }
 
-/// Puts a list in the place of another, if there is one.
+/// Replaces a list by a larger one, if there is one.
 pub(crate) fn replace<T: Drop>(list: &mut Vec<T>, larger: Option<Vec<T>>)
     ensures some { IfSome larger (λ more. list.new ≡ more) }
     ensures none { larger ≡ None → list.new ≡ list.old }
@@ -129,7 +130,7 @@ pub(crate) fn replace<T: Drop>(list: &mut Vec<T>, larger: Option<Vec<T>>)
     }
 }
 
-/// Takes a list back in the place of another, if it has more room.
+/// Replaces a list by one that comes back, if that has more room.
 pub(crate) fn take_back(list: &mut Vec<Version>, back: Option<Vec<Version>>)
     ensures back { IfSome back (λ back. vec_capacity back ≤ vec_capacity list.new) }
     ensures kept { vec_capacity list.old ≤ vec_capacity list.new }

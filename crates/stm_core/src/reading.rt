@@ -16,6 +16,7 @@ ghost use Rattle.scheduler.specs.Workers.{HasKeys, IsTaskKindOf, with_answer};
 ghost use Rattle.stm_core.specs.declared.next_step.ReadResult.TheVariants as read_result;
 ghost use Rattle.stm_core.specs.CoreState.{GivesInPlace, HasValueRoom, IsNoLess, IsNoLessForValues, IsRoomFor, index_run, next_step_of, read_result_of};
 ghost use Rattle.stm_core.specs.Inner.{room_of, value_room_of};
+ghost use Rattle.stm_core.specs.Passed.{check_of};
 
 use crate::next_step::{NextStep, ReadResult, StepKind};
 use crate::passed_lists::{PassedLists, larger, replace, take_back};
@@ -117,8 +118,8 @@ fn marking_step(scheduler: &Scheduler, worker: usize, call: u16) -> NextStep
     }
 }
 
-/// Makes room for one more answer to a worker's run, which is in `spare` meanwhile. Refused where memory ran
-/// out, and then nothing changes.
+/// Makes room for one more answer to a worker's run; the answers are in `spare` meanwhile. Refused if memory ran out, and
+/// then nothing changes.
 pub(crate) fn make_answer_room(
     scheduler: &mut Scheduler,
     worker: usize,
@@ -141,8 +142,8 @@ pub(crate) fn make_answer_room(
     made
 }
 
-/// Makes room for one more answer to a worker's run, and for a read of its call that passes as many versions as
-/// the call's index and finds any value. Refused where memory ran out, and then nothing changes.
+/// Makes room for one more answer to a worker's run, and for a read of its call that passes as many versions as the
+/// call's index and finds any value. Refused if memory ran out, and then nothing changes.
 #[cold]
 #[inline(never)]
 pub(crate) fn make_read_room(
@@ -195,7 +196,18 @@ pub(crate) fn has_read_room(
     scheduler.has_answer_room(worker) && lists.have_room(count) && values.have_room()
 }
 
-/// The index of the call that a worker runs; 0 where it runs none.
+/// The call that a worker validates, and the number of its reads that are left to check; None if it validates none.
+#[inline(always)]
+pub(crate) fn check_of(kind: TaskKind) -> Option<(u16, usize)>
+    ensures { (t : Task) → IsTaskKindOf kind t → result ≡ check_of t }
+{
+    match kind {
+        TaskKind::Validating { call, left, .. } => Some((call, left)),
+        _ => None,
+    }
+}
+
+/// The index of the call that a worker runs; 0 if it runs none.
 fn index_run(kind: TaskKind) -> usize
     ensures { (t : Task) → IsTaskKindOf kind t → result ≡ index_run t }
 {
@@ -205,10 +217,10 @@ fn index_run(kind: TaskKind) -> usize
     }
 }
 
-/// A worker's run reads a key for its call, in room that was made; the storage before the block has `base`
-/// at the key, which is lent. From the highest call below downwards the read passes the versions that
-/// add an amount. What it then finds decides: the run is given the value that this version or the storage has,
-/// with the amounts added, or is blocked where it is an estimate. Takes no memory.
+/// A worker's run reads a key for its call, in room that was made; the storage before the block has `base` at the key,
+/// which is lent. From the highest call below downwards the read passes the versions that add an amount. What it then
+/// finds decides. If that is an estimate, the run is blocked. Otherwise the run gets the value that this version or the
+/// storage has, with the amounts added. Takes no memory.
 pub(crate) fn read_at(
     base: Option<LentValue>,
     map: &MvMap,
@@ -248,8 +260,8 @@ pub(crate) fn read_at(
     }
 }
 
-/// Keeps an answer to a worker's run, in room that was made, and returns it. Its origin has the versions that
-/// stand in the list that is kept, and the one that was found below them.
+/// Keeps an answer to a worker's run, in room that was made, and returns it. Its origin has the versions in the list that
+/// is kept, and the one that was found below them.
 #[inline(always)]
 fn give(
     scheduler: &mut Scheduler,
@@ -278,9 +290,9 @@ fn give(
     ReadResult::Given(contents.lent, lent)
 }
 
-/// The same. Then the two origins share a list of the versions that they passed with the worker's last read of the key, if
-/// that passed the same, and else with its next one. So it may take memory; where that ran out they keep lists of
-/// their own. `spare` holds the answers meanwhile.
+/// Like `read_at`. Then the two origins share a list of the versions that they passed. They share it with the worker's
+/// last read of the key if that passed the same versions, otherwise with its next one. So it may take memory; if that ran
+/// out, they keep lists of their own. `spare` holds the answers meanwhile.
 pub(crate) fn read_sharing_at(
     base: Option<LentValue>,
     map: &MvMap,
@@ -313,7 +325,7 @@ pub(crate) fn read_sharing_at(
 }
 
 /// Lets the last answer of a worker's run and an equal origin that is handed out share a list of the versions that they
-/// passed. Where memory ran out they keep lists of their own. `spare` holds the answers meanwhile.
+/// passed. If memory ran out, they keep lists of their own. `spare` holds the answers meanwhile.
 #[cold]
 #[inline(never)]
 fn share_passed(
@@ -338,7 +350,7 @@ fn share_passed(
     scheduler.swap_answers(worker, spare);
 }
 
-/// Lets the last of some answers share a list of versions, if it passed the same, and hands out the list that it had.
+/// Lets the last of some answers share a list of versions, if it passed the same, and returns the list that it had.
 fn share_last(answers: &mut Vec<StorageAnswer>, list: &SharedVersions) -> Option<Vec<Version>>
     ensures items { answers.new.items ≡ answers.old.items }
     ensures room { vec_capacity answers.new ≡ vec_capacity answers.old }

@@ -1,7 +1,8 @@
 //! The reads of a run, as its answers give them, and whether the next one stands.
 
 ghost use Rattle.std.specs.Prelude.{◌≡◌, ◌-◌, length, map, slice_get, IfOk};
-ghost use Rattle.stm_state.specs.Steps.{read_of, read_stands, reads_of};
+ghost use Rattle.stm_state.specs.Steps.{read_of, read_stands, recorded_reads};
+ghost use Rattle.stm_core.specs.Passed.{passed_by_read};
 
 use mvmap::MvMap;
 use read_set::{Read, ReadSet};
@@ -10,8 +11,8 @@ use std::alloc::{AllocError, Global};
 use stm_state::Recorded;
 use validate::next_read;
 
-/// The reads of a run that was given these answers; refused where memory ran out. One or two take only what their
-/// origins do.
+/// The reads of a run that was given these answers; refused if memory ran out. One or two take only the memory of their
+/// origins.
 #[inline(always)]
 pub(crate) fn reads_in(alloc: Global, answers: &[StorageAnswer]) -> Result<ReadSet, AllocError>
     ensures { IfOk result (λ reads. reads ≡ map read_of answers.now) }
@@ -23,7 +24,7 @@ pub(crate) fn reads_in(alloc: Global, answers: &[StorageAnswer]) -> Result<ReadS
     }
 }
 
-/// The same, in memory of their own.
+/// Like `reads_in`, in memory of their own.
 fn many_reads_in(alloc: Global, answers: &[StorageAnswer]) -> Result<ReadSet, AllocError>
     ensures { IfOk result (λ reads. reads ≡ map read_of answers.now) }
 {
@@ -34,7 +35,7 @@ fn many_reads_in(alloc: Global, answers: &[StorageAnswer]) -> Result<ReadSet, Al
     Ok(reads)
 }
 
-/// The read that was given an answer; refused where memory ran out.
+/// The read that was given an answer; refused if memory ran out.
 fn read_of(answer: &StorageAnswer) -> Result<Read, AllocError>
     ensures { IfOk result (λ read. read ≡ read_of answer.now) }
 {
@@ -44,12 +45,11 @@ fn read_of(answer: &StorageAnswer) -> Result<Read, AllocError>
     })
 }
 
-/// Whether the first of the last `left` reads of the call's last recorded run stands. A run that was
-/// recorded since may have fewer reads; then the first of all is checked. True where there is no run
-/// and where there is no such read. Takes no memory.
+/// Whether the first of the last `left` reads of the call's last recorded run stands. A run that was recorded since may
+/// have fewer reads; then the first of all is checked. True if there is no run or no such read. Takes no memory.
 #[inline(always)]
 pub(crate) fn next_stands(map: &MvMap, call: u16, last: &Option<Recorded>, left: usize) -> bool
-    ensures { result ≡ read_stands map.now.versions call (slice_get (reads_of last.now) (length (reads_of last.now) - left)) }
+    ensures { result ≡ read_stands map.now.versions call (slice_get (recorded_reads last.now) (length (recorded_reads last.now) - left)) }
 {
     match last {
         Some(run) => {
@@ -57,5 +57,21 @@ pub(crate) fn next_stands(map: &MvMap, call: u16, last: &Option<Recorded>, left:
             next_read(map, call, reads, reads.len().saturating_sub(left)).unwrap_or(true)
         }
         None => true,
+    }
+}
+
+/// How many versions the first of the last `left` reads of the call's last recorded run passed. 0 if there is no run or no
+/// such read. Takes no memory.
+#[inline(always)]
+pub(crate) fn next_passed(last: &Option<Recorded>, left: usize) -> usize
+    ensures { result ≡ passed_by_read (slice_get (recorded_reads last.now) (length (recorded_reads last.now) - left)) }
+{
+    let Some(run) = last else {
+        return 0;
+    };
+    let reads = run.reads.reads();
+    match reads.get(reads.len().saturating_sub(left)) {
+        Some(read) => read.origin.passed().len(),
+        None => 0,
     }
 }

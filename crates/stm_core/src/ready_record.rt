@@ -11,7 +11,7 @@ use std::alloc::{AllocError, Global};
 use std::mem::replace;
 use stm_state::Recorded;
 
-/// The reads that an ended run made, as its record keeps them; refused where memory ran out.
+/// The reads that an ended run made, as its record keeps them; refused if memory ran out.
 #[inline(always)]
 pub fn reads_made(alloc: Global, run: &EndedRun) -> Result<ReadSet, AllocError>
     ensures { IfOk result (λ reads. reads ≡ map read_of run.now.answers.items) }
@@ -19,13 +19,13 @@ pub fn reads_made(alloc: Global, run: &EndedRun) -> Result<ReadSet, AllocError>
     reads_in(alloc, run.answers.as_slice())
 }
 
-/// An ended run that is ready to be recorded. A worker makes it before it takes the lock, and lends it to the record,
-/// which swaps what it keeps with what the call had before. So that is dropped after the lock.
+/// An ended run that is ready to be recorded. A worker makes it before it takes the lock, and lends it to the record. The
+/// record swaps what it keeps with what the call had before, so that is dropped after the lock.
 #[derive(Drop)]
 pub struct ReadyRecord {
     pub(crate) call: Call,
     pub(crate) answers: Vec<StorageAnswer>,
-    /// The run that is to be kept; after the record, the one that was kept before, or None.
+    /// The run that the record will keep; after the record, the one that was kept before, or None.
     pub(crate) recorded: Option<Recorded>,
 }
 
@@ -61,7 +61,7 @@ impl ReadyRecord {
         replace(&mut self.answers, Vec::new(alloc))
     }
 
-    /// The run, where it was not recorded. Takes no memory.
+    /// The run, if it was not recorded. Takes no memory.
     pub(crate) fn into_run(self) -> EndedRun
         requires { (run : EndedRun) × IsReadyOf run self }
         ensures { (run : EndedRun) → IsReadyOf run self → result ≡ run }

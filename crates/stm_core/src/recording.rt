@@ -55,11 +55,10 @@ pub(crate) fn has_own_answers(
     same_answers(given.as_slice(), scheduler.answers(worker))
 }
 
-/// Records a worker's own run of a call: the run is kept, its keys are to be moved, and room for what it
-/// wrote is promised. `promised` is the number of records that are promised. The run that the call had before
-/// is handed out. Refused as ArenaFull, IncarnationLimit or Memory, tested in this order. All that takes memory
-/// comes before any change. After a refusal the run is ready still, and nothing has changed, except that the map
-/// may have more room.
+/// Records a worker's own run of a call: the run is kept, its keys must be moved next, and room for what it wrote is
+/// promised. `promised` is the number of records that are promised. The run that the call had before goes into `ready`.
+/// Refused as ArenaFull, IncarnationLimit or Memory, tested in this order. All that takes memory comes before any change.
+/// After a refusal the run is still ready, and nothing has changed, except that the map may have more room.
 pub(crate) fn record_run(
     map: &mut MvMap,
     promised: &mut usize,
@@ -104,7 +103,7 @@ pub(crate) fn record_run(
     Ok(())
 }
 
-/// Whether the record of a run keeps within the limits. Refused as ArenaFull, which is tested first, or as
+/// Checks that the record of a run stays within the limits. Refused as ArenaFull, which is tested first, or as
 /// IncarnationLimit. Takes no memory.
 pub(crate) fn check_limits(
     map: &MvMap,
@@ -127,7 +126,7 @@ pub(crate) fn check_limits(
     Ok(())
 }
 
-/// Makes room for `records` records, places for what a run wrote, and room for `keys` keys to move. Refused where memory ran
+/// Makes room for `records` records, places for what a run wrote, and room for `keys` keys to move. Refused if memory ran
 /// out; then only the map may have more room. The versions stay.
 fn make_record_room(
     map: &mut MvMap,

@@ -7,17 +7,17 @@ ghost use Rattle.stm_core.specs.CoreState.{ask_result_of};
 
 use crate::fault::{IncarnationLimit, RecordFault, Refused};
 use crate::job_source::JobSource;
-use crate::next_step::{AskResult, NextStep, ReadResult, StepKind};
+use crate::next_step::{AskResult, NextStep, StepKind};
 use crate::outcome::{Finished, finished_of};
 use crate::passed_lists::PassedLists;
-use crate::reading::{has_read_room, make_read_room, next_step_of, read_at, read_sharing_at};
-use crate::reads::next_stands;
+use crate::reading::{check_of, next_step_of};
+use crate::reads::{next_passed, next_stands};
 use crate::ready_record::{ReadyRecord, reads_made};
 use crate::recording::{SpentRun, check_limits, has_own_answers, is_run_of, record_run};
 use crate::value_lists::ValueLists;
 use crate::versions::{mark_key, move_key};
 use mvmap::MvMap;
-use rv_ledger::{Counts, Job, Key, LentValue, StoredValue};
+use rv_ledger::{Counts, Job};
 use rv_step::{EndedRun, StorageAnswer};
 use scheduler::{INCARNATION_LIMIT, Scheduler, TaskKind};
 use std::alloc::{AllocError, Global};
@@ -35,11 +35,11 @@ pub struct Core<H: JobSource = Job> {
     promised: usize,
     pub(crate) map: MvMap,
     /// The lists of the versions that a read passes.
-    passed: PassedLists,
+    pub(crate) passed: PassedLists,
     /// The lists of the bytes of a value that a read finds.
-    values: ValueLists,
+    pub(crate) values: ValueLists,
     /// A list that takes the place of a run's answers while room is made for one more.
-    spare_answers: Vec<StorageAnswer>,
+    pub(crate) spare_answers: Vec<StorageAnswer>,
     pub(crate) job: H,
 }
 
@@ -65,26 +65,23 @@ impl<H: JobSource> Model for Core<H> {
 
 impl<H: JobSource> Core<H> {
     ghost use Rattle.std.specs.Prelude.{◌≡◌, ◌≢◌, ◌<◌, ◌≤◌, ◌↔◌, ℕ, Some, true, length, get_or, slice_get, [], IfOk, IfErr, OnOk, OnErr, Ok};
-    ghost use Rattle.std.specs.FinMap as finite;
-    ghost use Rattle.rv_ledger.specs.Lent.{lent_content};
     ghost use Rattle.version_arena.specs.ArenaState.{emptied};
-    ghost use Rattle.mvmap.specs.Reading.{passed_in, reading};
     ghost use Rattle.rv_step.specs.Fold.{receipts_of, store_after};
     ghost use Rattle.rv_step.specs.declared.ended_run.EndedRun.{EndedRun};
-    ghost use Rattle.stm_state.specs.State.{call_at, is_done, no_counts, start, task_at};
+    ghost use Rattle.stm_state.specs.State.{call_at, is_done, no_counts, start_state, task_at};
     ghost use Rattle.stm_state.specs.Steps as steps;
     ghost use Rattle.stm_state.specs.Done.{Reached};
-    ghost use Rattle.stm_state.specs.Parts.{CallsAreAttended, IsSized, OthersHaveEstimates, ReadsAreWatched, RunsAreBorneOut};
-    ghost use Rattle.scheduler.specs.Schedule.{KeepsRooms};
+    ghost use Rattle.stm_state.specs.Parts.{CallsAreAttended, IsStateSized, OthersHaveEstimates, ReadsAreWatched, RunsAreBorneOut};
     ghost use Rattle.stm_core.specs.declared.fault.RecordFault.TheVariants as fault;
-    ghost use Rattle.stm_core.specs.CoreState.{ask_result_of, GivesInPlace, HasReadRoom, IsDue, IsNoLess, IsNoLessForValues, IsOwn, IsReadyOf, IsRefused, IsTaken, IsWithin, Makes, block_in, next_step_of, runs, read_result_of, step_of};
+    ghost use Rattle.stm_core.specs.CoreState.{IsDue, IsOwn, IsReadyOf, IsRefused, IsTaken, IsWithin, Makes, ask_result_of, block_in, next_step_of, runs, step_of};
+    ghost use Rattle.stm_core.specs.Passed.{passed_by_check};
 
-    /// The state at the start of a job, whoever has it, over an arena that is used again: its records are dropped.
-    /// Where memory ran out the arena is handed back, without records.
+    /// The state at the start of a job, from any source, over an arena that is used again: its records are dropped. If
+    /// memory ran out, the arena is returned without records.
     pub fn of(alloc: Global, arena: Arena, job: H, workers: usize) -> Result<Core<H>, Arena>
         requires { (1 ≤ workers) × (workers ≤ 32) }
         ensures job { IfOk result (λ c. c.job ≡ H.job job) }
-        ensures state { IfOk result (λ c. c.state ≡ start (length (H.job job).block) workers) }
+        ensures state { IfOk result (λ c. c.state ≡ start_state (length (H.job job).block) workers) }
         ensures back { IfErr result (λ a. a ≡ emptied arena) }
     {
         let map = MvMap::over(alloc, arena);
@@ -114,7 +111,7 @@ impl<H: JobSource> Core<H> {
     /// runs.
     pub fn holds(&self)
         ensures reached { Reached (block_in self.now) (length self.now.state.tasks) self.now.state }
-        ensures sized { IsSized (length self.now.job.block) (length self.now.state.tasks) self.now.state }
+        ensures sized { IsStateSized (length self.now.job.block) (length self.now.state.tasks) self.now.state }
         ensures attended { CallsAreAttended (block_in self.now) self.now.state }
         ensures estimates { OthersHaveEstimates (block_in self.now) self.now.state }
         ensures watched { ReadsAreWatched (block_in self.now) self.now.state }
@@ -146,6 +143,18 @@ impl<H: JobSource> Core<H> {
         self.scheduler.dones(worker)
     }
 
+    /// How many versions were passed by the read that a worker checks next; 0 if its next step is no check. Takes no memory.
+    #[inline(always)]
+    pub fn passed_by_check(&self, worker: usize) -> usize
+        requires { worker < length self.now.state.tasks }
+        ensures { result ≡ passed_by_check self.now.state (task_at self.now.state worker) }
+    {
+        match check_of(self.scheduler.task_kind(worker)) {
+            Some((call, left)) => next_passed(&self.scheduler.call(call).last, left),
+            None => 0,
+        }
+    }
+
     /// What holds the job.
     pub fn source(&self) -> &H
         ensures { H.job result.now ≡ self.now.job }
@@ -162,33 +171,6 @@ impl<H: JobSource> Core<H> {
         next_step_of(&self.scheduler, worker)
     }
 
-    /// Makes room for the next read of a worker's run: for one more answer, for as many passed versions as the
-    /// index of its call, and for any value, both in the answer that is kept and in the one that `read` hands out.
-    /// Succeeds where the room is there. Refused where memory ran out, and then nothing changes. This is not a step.
-    pub fn room_for_read(&mut self, worker: usize) -> Result<(), AllocError>
-        requires { worker < length self.old.state.tasks }
-        ensures room { OnOk result (HasReadRoom worker self.new) }
-        ensures kept { get_or self.old.rooms worker 0 ≤ get_or self.new.rooms worker 0 }
-        ensures rooms { KeepsRooms worker self.old.rooms self.new.rooms }
-        ensures passed { IsNoLess self.old.passed self.new.passed }
-        ensures values { IsNoLessForValues self.old.values self.new.values }
-        ensures job { self.new.job ≡ self.old.job }
-        ensures state { self.new.state ≡ self.old.state }
-        ensures unchanged { OnErr result (self.new ≡ self.old) }
-        ensures succeeds { HasReadRoom worker self.old → result ≡ Ok tt }
-    {
-        if has_read_room(&self.scheduler, worker, &self.passed, &self.values) {
-            return Ok(());
-        }
-        make_read_room(
-            &mut self.scheduler,
-            worker,
-            &mut self.spare_answers,
-            &mut self.passed,
-            &mut self.values,
-        )
-    }
-
     /// A worker without a task asks for work. Takes no memory.
     pub fn ask(&mut self, worker: usize) -> AskResult
         requires { IsDue worker steps.Ask self.old }
@@ -198,71 +180,6 @@ impl<H: JobSource> Core<H> {
         let done = self.scheduler.done();
         self.scheduler.ask(worker);
         ask_result(done, self.scheduler.task_kind(worker))
-    }
-
-    /// A worker's run reads the key that it asks for, in room that `room_for_read` made. Takes no memory.
-    pub fn read(&mut self, worker: usize, key: &Key) -> ReadResult
-        requires due { IsDue worker (steps.ReadKey key.now) self.old }
-        requires room { HasReadRoom worker self.old }
-        ensures makes { Makes worker (steps.ReadKey key.now) self.old self.new }
-        ensures answers { (i : ℕ) → runs (task_at self.old.state worker) i ≡ true → result ≡ read_result_of self.old.job.store key.now (reading self.old.state.versions key.now i) }
-        ensures passed { (i : ℕ) → runs (task_at self.old.state worker) i ≡ true → passed_in (reading self.old.state.versions key.now i) ≡ [] → self.new.passed ≡ self.old.passed }
-        ensures values { GivesInPlace result → self.new.values ≡ self.old.values }
-    {
-        let base = StoredValue::value_of(self.job.content(key));
-        self.read_over(worker, key, base.as_ref().map(|base| base.lend()))
-    }
-
-    /// The same, where the caller lends what the storage before the block has at the key.
-    pub fn read_over(&mut self, worker: usize, key: &Key, base: Option<LentValue>) -> ReadResult
-        requires due { IsDue worker (steps.ReadKey key.now) self.old }
-        requires room { HasReadRoom worker self.old }
-        requires base { lent_content base ≡ finite.get self.old.job.store key.now }
-        ensures makes { Makes worker (steps.ReadKey key.now) self.old self.new }
-        ensures answers { (i : ℕ) → runs (task_at self.old.state worker) i ≡ true → result ≡ read_result_of self.old.job.store key.now (reading self.old.state.versions key.now i) }
-        ensures passed { (i : ℕ) → runs (task_at self.old.state worker) i ≡ true → passed_in (reading self.old.state.versions key.now i) ≡ [] → self.new.passed ≡ self.old.passed }
-        ensures values { GivesInPlace result → self.new.values ≡ self.old.values }
-    {
-        let TaskKind::Running { call, .. } = self.scheduler.task_kind(worker) else {
-            unreachable!();
-        };
-        read_at(
-            base,
-            &self.map,
-            &mut self.scheduler,
-            &mut self.passed,
-            &mut self.values,
-            worker,
-            call,
-            key,
-        )
-    }
-
-    /// The same. Then the answer that is kept and the one that is handed out share a list of the versions that the read
-    /// passed with the worker's last read of the key, if that passed the same, and else with its next one. So it may take
-    /// memory, but it does not refuse: where memory ran out, they keep lists of their own.
-    pub fn read_sharing(&mut self, worker: usize, key: &Key, base: Option<LentValue>) -> ReadResult
-        requires due { IsDue worker (steps.ReadKey key.now) self.old }
-        requires room { HasReadRoom worker self.old }
-        requires base { lent_content base ≡ finite.get self.old.job.store key.now }
-        ensures makes { Makes worker (steps.ReadKey key.now) self.old self.new }
-        ensures answers { (i : ℕ) → runs (task_at self.old.state worker) i ≡ true → result ≡ read_result_of self.old.job.store key.now (reading self.old.state.versions key.now i) }
-        ensures values { GivesInPlace result → self.new.values ≡ self.old.values }
-    {
-        let TaskKind::Running { call, .. } = self.scheduler.task_kind(worker) else {
-            unreachable!();
-        };
-        read_sharing_at(
-            base,
-            &self.map,
-            &mut self.scheduler,
-            &mut self.spare_answers,
-            &mut self.passed,
-            &mut self.values,
-            worker,
-            call,
-            key,
-        )
     }
 
     /// A worker makes a step of its task that takes nothing else: `park`, `move_key`, `finish_execution`,
@@ -285,8 +202,8 @@ impl<H: JobSource> Core<H> {
         Ok(())
     }
 
-    /// A worker's run that met an estimate is parked, or starts again where the call that it waits for is
-    /// EXECUTED by now. Refused at incarnation 65,535, and then nothing changes. Takes no memory.
+    /// A worker's run that met an estimate is parked. If the call that it waits for is EXECUTED by now, the run starts
+    /// again instead. Refused at incarnation 65,535, and then nothing changes. Takes no memory.
     pub fn park(&mut self, worker: usize) -> Result<(), IncarnationLimit>
         requires { IsDue worker steps.Park self.old }
         ensures makes { OnOk result (Makes worker steps.Park self.old self.new) }
@@ -306,11 +223,10 @@ impl<H: JobSource> Core<H> {
         Ok(())
     }
 
-    /// A worker hands in its ended run, and next moves its keys. Refused as Foreign exactly where the
-    /// run's call is not the job's call at that index or its answers are not those that were given.
-    /// Otherwise refused as ArenaFull, IncarnationLimit or Memory, tested in this order. A refusal hands
-    /// the run back and changes nothing. What the record leaves over is handed out, so that it can be dropped
-    /// after a lock.
+    /// A worker hands in its ended run, and next moves its keys. Refused as Foreign exactly if the run's call is not the
+    /// job's call at that index or its answers are not those that were given. Otherwise refused as ArenaFull,
+    /// IncarnationLimit or Memory, tested in this order. A refusal returns the run and changes nothing. What the record
+    /// leaves over is returned, so that it can be dropped after a lock.
     pub fn record(
         &mut self,
         alloc: Global,
@@ -357,9 +273,9 @@ impl<H: JobSource> Core<H> {
         }
     }
 
-    /// The same, where the run is ready to be recorded, and known to be a run of the job's call at that index. Refused as
-    /// `record` is, but the calls are not compared; then the run is ready still. Else the run that was kept of the call
-    /// before is handed out in its place.
+    /// Like `record`, for a run that is ready to be recorded and is known to be a run of the job's call at that index.
+    /// Refused as `record` is, but the calls are not compared; then the run is still ready. Otherwise `ready` gets the
+    /// run of the call that was kept before.
     pub fn record_ready(
         &mut self,
         worker: usize,
@@ -415,10 +331,9 @@ impl<H: JobSource> Core<H> {
         self.scheduler.drop_key(worker);
     }
 
-    /// The call whose keys a worker has moved becomes EXECUTED, and all calls that are parked on it are
-    /// readied. Where the validation index is past the call, it goes back to the call if the run wrote a
-    /// new key; otherwise the worker validates the call next (Block-STM, `finish_execution`). Takes no
-    /// memory.
+    /// The call whose keys a worker has moved becomes EXECUTED, and all calls that are parked on it are readied. If the
+    /// validation index is past the call and the run wrote a new key, the index goes back to the call. If it is past the
+    /// call and there is no new key, the worker validates the call next (Block-STM, `finish_execution`). Takes no memory.
     pub fn finish_execution(&mut self, worker: usize)
         requires { IsDue worker steps.FinishExecution self.old }
         ensures { Makes worker steps.FinishExecution self.old self.new }
@@ -429,9 +344,9 @@ impl<H: JobSource> Core<H> {
         self.scheduler.finish_execution(worker, call, new_key);
     }
 
-    /// A worker checks the next read of the run that it validates. The check fails where the map now
-    /// answers the read differently. Where the call is no longer EXECUTED at that incarnation the task
-    /// ends (Block-STM, a read of `validate_read_set`). Takes no memory.
+    /// A worker checks the next read of the run that it validates. The check fails if the map now answers the read
+    /// differently. If the call is no longer EXECUTED at that incarnation, the task ends (Block-STM, a read of
+    /// `validate_read_set`). Takes no memory.
     pub fn check_read(&mut self, worker: usize)
         requires { IsDue worker steps.CheckRead self.old }
         ensures { Makes worker steps.CheckRead self.old self.new }
@@ -450,10 +365,9 @@ impl<H: JobSource> Core<H> {
             .finish_validation(worker, call, incarnation, left - 1, stands);
     }
 
-    /// A worker decides the validation whose reads it has checked. Where a read did not stand and the
-    /// call is still EXECUTED at that incarnation, the call becomes ABORTING, and the worker next marks
-    /// the keys that the call wrote (Block-STM, `try_validation_abort`). Otherwise the task ends. Takes
-    /// no memory.
+    /// A worker decides the validation whose reads it has checked. If a read did not stand and the call is still EXECUTED
+    /// at that incarnation, the call becomes ABORTING, and the worker next marks the keys that the call wrote (Block-STM,
+    /// `try_validation_abort`). Otherwise the task ends. Takes no memory.
     pub fn decide(&mut self, worker: usize)
         requires { IsDue worker steps.Decide self.old }
         ensures { Makes worker steps.Decide self.old self.new }
@@ -486,9 +400,8 @@ impl<H: JobSource> Core<H> {
         self.scheduler.drop_key(worker);
     }
 
-    /// The call whose keys a worker has marked is readied, and the calls behind it are validated again.
-    /// Where the execution index is past the call, the worker runs it next (Block-STM,
-    /// `finish_validation`). Takes no memory.
+    /// The call whose keys a worker has marked is readied, and the calls after it are validated again. If the execution
+    /// index is past the call, the worker runs it next (Block-STM, `finish_validation`). Takes no memory.
     pub fn finish_abort(&mut self, worker: usize)
         requires { IsDue worker steps.FinishAbort self.old }
         ensures { Makes worker steps.FinishAbort self.old self.new }
@@ -500,7 +413,7 @@ impl<H: JobSource> Core<H> {
     }
 
     /// What the run of the job leaves beside the storage, once all is done, moved out; and the arena, without records.
-    /// Refused where memory ran out.
+    /// Refused if memory ran out.
     pub fn into_finished(self, alloc: Global) -> (Result<Finished, AllocError>, Arena)
         requires { is_done self.state ≡ true }
         ensures receipts { IfOk result.0 (λ f. f.receipts.items ≡ receipts_of self.job.block self.job.store) }

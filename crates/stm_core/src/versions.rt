@@ -1,12 +1,11 @@
-//! The keys that a run moves or that an abort marks, and what is put at them: a version, an estimate or
-//! nothing.
+//! The keys that a run moves or that an abort marks, and what is put at them: a version, an estimate or nothing.
 
 ghost use Rattle.std.specs.Prelude.{◌≡◌, ◌≤◌, ◌+◌, ◌*◌, ◌∷◌, [], length, IsTrue, Some};
 ghost use Rattle.std.specs.Option.{option_copied};
 ghost use Rattle.std.specs.FinMap.{entries};
 ghost use Rattle.std.specs.FinSet.{contains};
 ghost use Rattle.rv_ledger.specs.Lent.{lent_change};
-ghost use Rattle.version_arena.specs.ArenaState.{bytes_of};
+ghost use Rattle.version_arena.specs.ArenaState.{change_size};
 ghost use Rattle.mvmap.specs.Versions.{Estimate, changed};
 ghost use Rattle.stm_state.specs.Steps.{version_of, write_of, written_by};
 ghost use Rattle.stm_core.specs.Inner.{AreOpen, writes_at};
@@ -24,7 +23,7 @@ pub(crate) fn written_count(writes: &Writes) -> usize
     writes.len()
 }
 
-/// The number of keys that a call's last recorded run wrote; 0 where there is none.
+/// The number of keys that a call's last recorded run wrote; 0 if there is none.
 pub(crate) fn recorded_count(last: &Option<Recorded>) -> usize
     ensures count { result ≡ length (written_by last.now) }
     ensures limit { result ≤ 256 }
@@ -35,9 +34,8 @@ pub(crate) fn recorded_count(last: &Option<Recorded>) -> usize
     }
 }
 
-/// Publishes what a call's run wrote at a key, in room that was promised, or withdraws the key where the
-/// run did not write it. `promised` is the number of records that are promised; a publication lowers it
-/// by one. Takes no memory.
+/// Publishes what a call's run wrote at a key, in room that was promised, or withdraws the key if the run did not write
+/// it. `promised` is the number of records that are promised; a publication lowers it by one. Takes no memory.
 #[inline(always)]
 pub(crate) fn move_key(
     map: &mut MvMap,
@@ -66,7 +64,7 @@ pub(crate) fn move_key(
     }
 }
 
-/// The change of a key that a run made; None where it did not write the key, and where there is no run.
+/// The change of a key that a run made; None if it did not write the key, or if there is no run.
 fn write_at<'a>(last: &'a Option<Recorded>, key: &Key) -> Option<&'a Change<StoredValue>>
     ensures { option_copied result ≡ write_of last.now key.now }
 {
@@ -79,7 +77,7 @@ fn write_at<'a>(last: &'a Option<Recorded>, key: &Key) -> Option<&'a Change<Stor
 /// The same change with its value lent.
 fn lend_stored(change: &Change<StoredValue>) -> Change<LentValue<'_>>
     ensures value { lent_change result ≡ change.now }
-    ensures limit { bytes_of (lent_change result) ≤ VALUE_LIMIT }
+    ensures limit { change_size (lent_change result) ≤ VALUE_LIMIT }
 {
     match change {
         Change::Value(value) => Change::Value(value.lend()),
@@ -88,7 +86,7 @@ fn lend_stored(change: &Change<StoredValue>) -> Change<LentValue<'_>>
     }
 }
 
-/// Marks a key of a call that is aborted: what stands there becomes an estimate. Takes no memory.
+/// Marks a key of a call that is aborted: the version there becomes an estimate. Takes no memory.
 pub(crate) fn mark_key(map: &mut MvMap, key: &Key, call: u16)
     requires { IsTrue (contains map.old.places (key.now, call)) }
     ensures { map.new ≡ record map.old { versions = changed map.old.versions (key.now, call) (Some Estimate) } }

@@ -11,7 +11,7 @@ use Rattle.stm_state.specs.declared.state.Task.TheVariants.{Idle, Running, Valid
 use Rattle.stm_state.specs.Limits.{incarnation_limit}
 use Rattle.stm_state.specs.State.{State, fresh, call_at, task_at, with_call, with_task, is_executed}
 use Rattle.stm_state.specs.Steps.{Block, written_by, keys_of, next_incarnation, is_executed_at, after_decide, after_finish_abort, write_of}
-use Rattle.stm_state.specs.Parts.{IsSized, has_key}
+use Rattle.stm_state.specs.Parts.{IsStateSized, has_key}
 use Rattle.stm_state.proofs.Invariant.{view_of, ViewInvariant, Invariant, IsMarked, IsUnmarkedEntry, entry_by, estimate_of, lowered_by, named_by, owned_by}
 use Rattle.stm_state.proofs.Lists.{set_at}
 use Rattle.stm_state.proofs.OneCallChanges.{StatusOwes, TaskOwes, entries_stay}
@@ -22,12 +22,12 @@ use Rattle.stm_state.proofs.KeyTargets.{amid_end}
 use Rattle.stm_state.proofs.Tests.{not_lt_says, resized}
 use Rattle.stm_state.proofs.Writes.{at_key_last}
 
--- an entry before the first key is marked: none where the run wrote nothing, else a version that is to be marked
+-- an entry before the first key is marked: none if the run wrote nothing there, otherwise a version that must be marked
 amid_first : (n : ℕ) (o : Option ContentChange) (entry : Option Entry) (there : Bool) → entry ≡ option_map (λ c. Stands n c) o → there ≡ is_some o → (entry ≡ option_map (λ c. Estimate) o) ⊎ ((there ≡ true) × IsUnmarkedEntry n entry)
 amid_first n None entry there at is = inl at
 amid_first n (Some x) entry there at is = inr (is, (x, at))
 
--- what is there is some change
+-- an optional change that is there is Some of a change
 change_of : (o : Option ContentChange) → is_some o ≡ true → (c : ContentChange) × (o ≡ Some c)
 change_of None h = cc
 change_of (Some x) h = (x, refl)
@@ -35,18 +35,16 @@ change_of (Some x) h = (x, refl)
 -- ---- deciding
 
 module _ (block : Block) (s : State) (w i n left : ℕ) (failed : Bool) (f : ViewInvariant block (view_of s)) (checks : task_at s w ≡ Validating i n left failed) (w_in : w < length s.tasks) (i_in : i < length s.calls) (done : (call_at s i).status ≡ Executed) where
-  -- the call that is taken back, and its keys
+  -- the call that is aborted, and the keys that it wrote
   abbrev taken : CallState
   taken = record (call_at s i) { status = Aborting }
 
   abbrev keys : List (List ℕ)
   keys = keys_of (written_by (call_at s i).last)
 
-  -- the state afterwards
   abbrev after : State
   after = with_task w (Marking i keys) (with_call i taken s)
 
-  -- the call is parked on nothing
   is_unparked : (call_at s i).parked ≡ None
   is_unparked = f.unparked i (λ h. cc)
 
@@ -59,7 +57,7 @@ module _ (block : Block) (s : State) (w i n left : ℕ) (failed : Bool) (f : Vie
     amid = λ key. amid_first (call_at s i).incarnation (write_of (call_at s i).last key) (entry_at s.versions key i) (has_key key keys) (executed_entries block (view_of s) f i done key) (at_key_last key (call_at s i).last);
   }
 
-  -- taking a call back keeps the invariant: what others have to meet stays
+  -- aborting a call keeps the invariant: what other tasks must still meet stays
   taken_facts : ViewInvariant block (view_of (with_task w (Marking i keys) (with_call i taken s)))
   taken_facts = others_kept block (view_of s) (view_of after) i w taken (Marking i keys) (record {
     calls = set_at s.calls i taken fresh i_in;
@@ -102,11 +100,11 @@ module _ (block : Block) (s : State) (w i : ℕ) (f : ViewInvariant block (view_
   has_estimates : (key : List ℕ) → entry_at s.versions key i ≡ estimate_of (call_at s i) key
   has_estimates key = amid_end (estimate_of (call_at s i)) (λ k entry. IsUnmarkedEntry (call_at s i).incarnation entry) (λ k. entry_at s.versions k i) all_marked.amid key
 
-  -- the call that is readied, or is run again
+  -- the call at its next incarnation, with this status
   abbrev again : Status → CallState
   again status = record (next_incarnation (call_at s i)) { status = status }
 
-  -- the state where the call is readied or run again
+  -- the state in which the call is READY or run again
   abbrev resumed : Task → Status → State
   resumed task status = with_task w task (with_call i (again status) (record s { validation = min s.validation (i + 1) }))
 
@@ -114,7 +112,7 @@ module _ (block : Block) (s : State) (w i : ℕ) (f : ViewInvariant block (view_
   below : (call_at s i).incarnation + 1 ≤ incarnation_limit
   below = let low = f.aborting_limit i all_marked.aborting in omega (arith, low)
 
-  -- finishing an abort keeps the invariant: calls above are above the validation index
+  -- finishing an abort keeps the invariant, since higher calls are at or above the validation index
   resumes : (task : Task) (status : Status) → is_executed status ≡ false → TaskOwes block (view_of s) (entry_at s.versions) i (again status) task → StatusOwes (view_of s) s.execution i (again status) task status
       → ViewInvariant block (view_of (resumed task status))
   resumes task status open_ by_task by_status = others_kept block (view_of s) (view_of (resumed task status)) i w (again status) task (record {
@@ -132,7 +130,7 @@ module _ (block : Block) (s : State) (w i : ℕ) (f : ViewInvariant block (view_
     recorded = f.recorded i;
   }) f (λ h. let r : is_executed status ≡ true = ap is_executed h in cc) (λ j k b ne h. cc) (inr (omega arith)) (λ j read k. k)
 
-  -- finishing an abort keeps the invariant, whether the call is run again at once or readied
+  -- finishing an abort keeps the invariant, whether the call is run again at once or becomes READY
   aborted_facts : ViewInvariant block (view_of (after_finish_abort w i s))
   unfolding after_finish_abort
   aborted_facts = cond_both (nat_lt i s.execution) _ _ (λ t. ViewInvariant block (view_of t))
@@ -140,9 +138,9 @@ module _ (block : Block) (s : State) (w i : ℕ) (f : ViewInvariant block (view_
       (λ l. resumes Idle Ready refl (λ h. cc) (not_lt_says i s.execution l, refl, below))
 
 -- finishing an abort keeps the sizes
-aborted_sized : (count workers w i : ℕ) (s : State) → IsSized count workers s → IsSized count workers (after_finish_abort w i s)
+aborted_sized : (count workers w i : ℕ) (s : State) → IsStateSized count workers s → IsStateSized count workers (after_finish_abort w i s)
 unfolding after_finish_abort
-aborted_sized count workers w i s h = cond_both (nat_lt i s.execution) _ _ (λ t. IsSized count workers t)
+aborted_sized count workers w i s h = cond_both (nat_lt i s.execution) _ _ (λ t. IsStateSized count workers t)
     (λ _. resized count workers s _ (length-set s.calls i _) (length-set s.tasks w _) refl refl h)
     (λ _. resized count workers s _ (length-set s.calls i _) (length-set s.tasks w _) refl refl h)
 

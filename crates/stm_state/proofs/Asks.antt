@@ -6,8 +6,8 @@ use Rattle.stm_state.specs.declared.state.CallState.{CallState}
 use Rattle.stm_state.specs.declared.state.Task.{Task}
 use Rattle.stm_state.specs.declared.state.Task.TheVariants.{Idle, Running, Validating}
 use Rattle.stm_state.specs.State.{State, fresh, call_at, task_at, with_call, with_task, is_ready, is_executed, is_done}
-use Rattle.stm_state.specs.Steps.{Block, reads_of, count_done, ask_validation, ask_execution, after_ask, version_of, write_of}
-use Rattle.stm_state.specs.Parts.{IsSized}
+use Rattle.stm_state.specs.Steps.{Block, recorded_reads, count_done, ask_validation, ask_execution, after_ask, version_of, write_of}
+use Rattle.stm_state.specs.Parts.{IsStateSized}
 use Rattle.stm_state.proofs.Invariant.{View, view_of, ViewInvariant, Invariant, IsUnturned, entry_by, lowered_by, owned_by}
 use Rattle.stm_state.proofs.Lists.{stays_at, set_at}
 use Rattle.stm_state.proofs.OneCallChanges.{Frame, entries_stay, keeps_itself, keeps_unchecked, still_executed, unturned}
@@ -15,7 +15,7 @@ use Rattle.stm_state.proofs.IndexChanges.{rested_facts}
 use Rattle.stm_state.proofs.SafeReads.{cover_same, others_kept, safe_begun, safe_still}
 use Rattle.stm_state.proofs.Tests.{is_ready_says, not_ready_says, is_executed_says, not_executed_says, lt_says, resized}
 
--- what a call that isn't EXECUTED has as entries, where nobody turns its keys, stays where only its status changes
+-- if a call is not EXECUTED and no worker turns its keys, its entries are estimates at the keys that its last run wrote
 pub same_entries : (block : Block) (v : View) (f : ViewInvariant block v) (i : ℕ) → (v.calls i).status ≢ Executed → IsUnturned v i → (key : List ℕ) → v.entries key i ≡ entry_by false (v.calls i).incarnation (write_of (v.calls i).last key)
 same_entries block v f i ne free key = f.entries i key free ∙ ap (λ b. entry_by b (v.calls i).incarnation (write_of (v.calls i).last key)) (go (is_executed (v.calls i).status) refl)
   where
@@ -29,11 +29,11 @@ executed_entries block v f i done key =
     f.entries i key (unturned block v f i (λ h. cc) (λ h. cc)) ∙ ap (λ st. entry_by (is_executed st) (v.calls i).incarnation (write_of (v.calls i).last key)) done
 
 module _ (block : Block) (s : State) (w : ℕ) (f : ViewInvariant block (view_of s)) (idle : task_at s w ≡ Idle) (w_in : w < length s.tasks) where
-  -- a call to validate
+  -- the task to validate call i
   abbrev to_check : ℕ → Task
-  to_check i = Validating i (call_at s i).incarnation (length (reads_of (call_at s i).last)) false
+  to_check i = Validating i (call_at s i).incarnation (length (recorded_reads (call_at s i).last)) false
 
-  -- what a validation that begins changes
+  -- what changes when a validation begins
   validation_move : (i : ℕ) → i ≡ s.validation → i < s.execution → (call_at s i).status ≡ Executed
       → Frame block (view_of s) (view_of (with_task w (to_check i) (record s { validation = i + 1 }))) i w (call_at s i) (to_check i)
   validation_move i at below done = record {
@@ -51,7 +51,7 @@ module _ (block : Block) (s : State) (w : ℕ) (f : ViewInvariant block (view_of
     recorded = f.recorded i;
   }
 
-  -- a validation may begin: it covers all reads of its call
+  -- a validation may begin, since it covers all reads of its call
   validation_begun : (i : ℕ) → i ≡ s.validation → i < s.execution → (call_at s i).status ≡ Executed → ViewInvariant block (view_of (with_task w (to_check i) (record s { validation = i + 1 })))
   validation_begun i at below done =
       let m = validation_move i at below done in
@@ -59,7 +59,7 @@ module _ (block : Block) (s : State) (w : ℕ) (f : ViewInvariant block (view_of
       others_kept block (view_of s) u i w (call_at s i) (to_check i) m f (λ _ _. safe_begun u i w m.tasks.there)
       (λ j left failed ne h. cc) (inl (ap lowered_by idle)) (λ j read k. k)
 
-  -- the validation index passes a call that is not EXECUTED
+  -- the validation index may pass a call that is not EXECUTED
   validation_passed : (i : ℕ) → i ≡ s.validation → i < s.execution → (call_at s i).status ≢ Executed → ViewInvariant block (view_of (record s { validation = i + 1 }))
   validation_passed i at below ne = rested_facts block (view_of s) (task_at s) s.execution (i + 1) f (λ x. inl refl) f.execution_within (let within = f.execution_within in omega (arith, within)) f.ready
       (λ j h l. elim (cases_eq j i) [
@@ -74,11 +74,10 @@ module _ (block : Block) (s : State) (w : ℕ) (f : ViewInvariant block (view_of
       (λ h. validation_begun s.validation refl below (is_executed_says (call_at s s.validation).status h))
       (λ h. validation_passed s.validation refl below (not_executed_says (call_at s s.validation).status h))
 
-  -- a call that is begun
+  -- call i once a worker runs it
   abbrev begun : ℕ → CallState
   begun i = record (call_at s i) { status = Executing }
 
-  -- the state after a call is begun
   abbrev after_begin : ℕ → State
   after_begin i = with_task w (Running i [] None) (with_call i (begun i) (record s { execution = i + 1 }))
 
@@ -99,7 +98,7 @@ module _ (block : Block) (s : State) (w : ℕ) (f : ViewInvariant block (view_of
     recorded = f.recorded i;
   }) f (λ h. cc) (λ j left failed ne h. cc) (inl (ap lowered_by idle)) (λ j read k. k)
 
-  -- the execution index passes a call that is not READY
+  -- the execution index may pass a call that is not READY
   execution_passed : (i : ℕ) → i ≡ s.execution → i < block.count → (call_at s i).status ≢ Ready → ViewInvariant block (view_of (record s { execution = i + 1 }))
   execution_passed i at within ne = rested_facts block (view_of s) (task_at s) (i + 1) s.validation f (λ x. inl refl) (omega (arith, within)) f.validation_within
       (λ j h. let low = f.ready j h in let other : j ≢ i = λ e. ne (ap (λ x. (call_at s x).status) (sym e) ∙ h) in omega (arith, low, at, other))
@@ -113,18 +112,18 @@ module _ (block : Block) (s : State) (w : ℕ) (f : ViewInvariant block (view_of
       (λ h. execution_passed s.execution refl within (not_ready_says (call_at s s.execution).status h))
 
 -- asking for a validation keeps the sizes
-validation_sized : (count workers w : ℕ) (s : State) → IsSized count workers s → IsSized count workers (ask_validation w s)
+validation_sized : (count workers w : ℕ) (s : State) → IsStateSized count workers s → IsStateSized count workers (ask_validation w s)
 unfolding ask_validation
-validation_sized count workers w s h = cond_both (is_executed (call_at s s.validation).status) _ _ (λ t. IsSized count workers t)
+validation_sized count workers w s h = cond_both (is_executed (call_at s s.validation).status) _ _ (λ t. IsStateSized count workers t)
     (λ _. resized count workers s _ refl (length-set s.tasks w _) refl refl h) (λ _. resized count workers s _ refl refl refl refl h)
 
 -- asking for an execution keeps the sizes
-execution_sized : (count workers w : ℕ) (s : State) → IsSized count workers s → IsSized count workers (ask_execution w s)
+execution_sized : (count workers w : ℕ) (s : State) → IsStateSized count workers s → IsStateSized count workers (ask_execution w s)
 unfolding ask_execution
-execution_sized count workers w s h = cond_both (is_ready (call_at s s.execution).status) _ _ (λ t. IsSized count workers t)
+execution_sized count workers w s h = cond_both (is_ready (call_at s s.execution).status) _ _ (λ t. IsStateSized count workers t)
     (λ _. resized count workers s _ (length-set s.calls s.execution _) (length-set s.tasks w _) refl refl h) (λ _. resized count workers s _ refl refl refl refl h)
 
--- being told that all is done keeps the invariant
+-- the answer Done keeps the invariant
 told : (block : Block) (workers w : ℕ) (s : State) → Invariant block workers s → Invariant block workers (count_done w s)
 told block workers w s h = record { sized = resized block.count workers s _ refl refl refl (length-set s.dones w _) h.sized; facts = h.facts }
 

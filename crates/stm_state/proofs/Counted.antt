@@ -1,28 +1,28 @@
--- What a worker's counts say of each other.
+-- How a worker's counts bound each other.
 use Rattle.std.proofs.Common.{◌≡◌, ◌<◌, ◌≤◌, ◌+◌, ◌&&◌, nat_lt, ℕ, suc, Bool, length, replicate, get_or, set, arith, refl, sym, subst, inl, inr}
 use Rattle.std.proofs.lemmas.Bool.{cases_eq, cond_both}
 use Rattle.std.proofs.lemmas.List.{get_or-set_same, get_or-set_other}
 use Rattle.rv_ledger.specs.declared.outcome.Counts.{Counts}
 use Rattle.stm_state.specs.declared.state.Task.{Task}
-use Rattle.stm_state.specs.State.{State, no_counts, start, call_at, is_executed, is_ready, is_done}
+use Rattle.stm_state.specs.State.{State, no_counts, start_state, call_at, is_executed, is_ready, is_done}
 use Rattle.stm_state.specs.Steps.{Block, Step, counted, one_step, one_asking, one_execution, one_validation, ask_validation, ask_execution, after_ask, count_done, after_read_key, after_park, resume_dependents, to_validate, after_record, after_move_key, after_finish_execution, after_check_read, after_decide, after_mark_estimate, after_finish_abort, is_executed_at, next_stands}
 use Rattle.stm_state.specs.Done.{Reached, started, stepped}
 use Rattle.stm_state.proofs.StepsByTask.{IsMade, by_ask, by_read, by_park, by_record, by_move, by_finish, by_check, by_decide, by_mark, by_abort, made}
 use Rattle.stm_state.proofs.Lists.{replicated}
 use Rattle.stm_state.proofs.InvariantKept.{invariant_kept}
 
--- each asking, execution and decision is a step, and only an asking is told that all is done
+-- each `Ask` step, execution and decision is a step, and only an `Ask` step is answered Done
 pub record Within (c : Counts) (told : ℕ) : Type 0 where
   pub asks : c.asks ≤ c.steps
   pub executions : c.executions ≤ c.steps
   pub validations : c.validations ≤ c.steps
   pub dones : told ≤ c.asks
 
--- what each worker was told, too
+-- `Within` holds of each worker's counts
 abbrev CountsWithin : State → Type 0
 CountsWithin s = (x : ℕ) → Within (get_or s.counts x no_counts) (get_or s.dones x 0)
 
--- a step leaves what the workers did as it was
+-- a step changes neither the counts nor the numbers of `Ask` steps answered Done
 abbrev pub IsSilent : State → State → Type 0
 IsSilent s t = (t.counts ≡ s.counts) × (t.dones ≡ s.dones)
 
@@ -62,7 +62,7 @@ aborted_silent w i s = cond_both (nat_lt i s.execution) _ _ (λ t. IsSilent s t)
 
 -- ---- counting
 
--- what a step adds keeps the counts
+-- counting a step keeps `Within`
 abbrev Keeps : (Counts → Counts) → Type 0
 Keeps add = (c : Counts) (d : ℕ) → Within c d → Within (add c) d
 
@@ -79,7 +79,7 @@ validation_keeps : Keeps one_validation
 validation_keeps c d h = record { asks = omega (arith, h.asks); executions = omega (arith, h.executions); validations = omega (arith, h.validations); dones = h.dones }
 
 module _ (s : State) (w : ℕ) (h : CountsWithin s) (w_in : w < length s.counts) where
-  -- a silent step that is counted
+  -- a silent step keeps the counts right when it is counted
   silent_kept : (add : Counts → Counts) (t : State) → Keeps add → IsSilent s t → CountsWithin (counted add w t)
   silent_kept add t keeps silent x = subst (λ c. Within (get_or (set c w (add (get_or c w no_counts))) x no_counts) (get_or t.dones x 0)) (sym silent.0)
       (subst (λ d. Within (get_or (set s.counts w (add (get_or s.counts w no_counts))) x no_counts) (get_or d x 0)) (sym silent.1) (elim (cases_eq x w) [
@@ -88,7 +88,7 @@ module _ (s : State) (w : ℕ) (h : CountsWithin s) (w_in : w < length s.counts)
         | inr ne ↦ subst (λ c. Within c (get_or s.dones x 0)) (sym (get_or-set_other s.counts w x (add (get_or s.counts w no_counts)) no_counts ne)) (h x)
       ]))
 
-  -- an asking that is told that all is done
+  -- an `Ask` step that is answered Done
   told_kept : w < length s.dones → CountsWithin (counted one_asking w (count_done w s))
   told_kept w_told x = elim (cases_eq x w) [
     | inl e ↦ subst (λ y. Within (get_or (set s.counts w (one_asking (get_or s.counts w no_counts))) y no_counts) (get_or (set s.dones w (get_or s.dones w 0 + 1)) y 0)) (sym e)
@@ -99,7 +99,7 @@ module _ (s : State) (w : ℕ) (h : CountsWithin s) (w_in : w < length s.counts)
         (subst (λ d. Within (get_or s.counts x no_counts) d) (sym (get_or-set_other s.dones w x (get_or s.dones w 0 + 1) 0 ne)) (h x))
   ]
 
-  -- an asking
+  -- any `Ask` step
   asked_kept : w < length s.dones → CountsWithin (counted one_asking w (after_ask w s))
   asked_kept w_told = cond_both (is_done s) _ _ (λ t. CountsWithin (counted one_asking w t))
       (λ _. told_kept w_told)
@@ -112,7 +112,7 @@ module _ (s : State) (w : ℕ) (h : CountsWithin s) (w_in : w < length s.counts)
 -- ---- one step
 
 module _ (block : Block) (w : ℕ) (s : State) (h : CountsWithin s) (w_in : w < length s.counts) (w_told : w < length s.dones) where
-  -- each step that is made
+  -- each step that is made keeps the counts right
   made_keeps : (step : Step) (t : State) → IsMade block w s step t → CountsWithin t
   made_keeps step t (by_ask at) = asked_kept s w h w_in w_told
   made_keeps step t (by_read i answers key at) = silent_kept s w h w_in one_step (after_read_key block.base key w i answers s) step_keeps (refl, refl)
@@ -127,12 +127,12 @@ module _ (block : Block) (w : ℕ) (s : State) (h : CountsWithin s) (w_in : w < 
 
 -- ---- all states
 
--- at the start nobody did anything
-first_within : (block : Block) (workers : ℕ) → CountsWithin (start block.count workers)
+-- in the start state no worker has done anything
+first_within : (block : Block) (workers : ℕ) → CountsWithin (start_state block.count workers)
 first_within block workers x = subst (λ c. Within c (get_or (replicate workers 0) x 0)) (sym (replicated workers x no_counts))
     (subst (λ d. Within no_counts d) (sym (replicated workers x 0)) (record { asks = omega arith; executions = omega arith; validations = omega arith; dones = omega arith }))
 
--- in each state that is reached a worker's counts are within its steps, and its askings told Done within its askings
+-- in each state that is reached, `Within` holds of a worker's counts and its `Ask` steps answered Done
 pub counts_within : (block : Block) (workers : ℕ) (s : State) → Reached block workers s → (w : ℕ) → Within (get_or s.counts w no_counts) (get_or s.dones w 0)
 counts_within block workers s started = first_within block workers
 counts_within block workers t (stepped {s} w step before w_in k) =

@@ -1,4 +1,4 @@
--- In each state that a list of worker numbers leads through, the step that a worker owes is due.
+-- In each state that a list of worker numbers leads to, the step that a worker owes is due.
 use Rattle.std.proofs.Common.{◌≡◌, ◌<◌, ℕ, ◌+◌, ◌++◌, ◌&&◌, nat_lt, nat_le, zero, suc, Bool, true, false, List, [], ◌∷◌, length, set, slice_get, Option, None, Some, IsSome, arith, refl, sym, ap, subst, ◌∙◌}
 use Rattle.std.specs.FinMap.{get, len}
 use Rattle.std.specs.List.{All}
@@ -25,12 +25,12 @@ use Rattle.stm_state.proofs.InvariantKept.{invariant_kept}
 use Rattle.stm_state.proofs.OneWorkerPhases.{call_there}
 use Rattle.stm_state.proofs.FurtherAsks.{GoesOn, goes_first, goes_next, goes_last}
 
--- the states of lists are reached
+-- each state that a list of worker numbers leads to is reached
 pub reached_where_led : (calls : List Invocation) (store : Storage) (workers : ℕ) (s : State) → DrivenTo calls store workers s → Reached (block_of calls store) workers s
 reached_where_led calls store workers s at_start = started
 reached_where_led calls store workers t (made_step {s} w before w_in k) = stepped w (due_step calls (task_at s w)) (reached_where_led calls store workers s before) w_in k
 
--- the call that a task runs goes on after the task's answers
+-- the call that a task runs continues after the task's answers
 abbrev pub Goes : List Invocation → Task → Type 0
 Goes calls Idle = Unit {0}
 Goes calls (Running i answers waits) = (call : Invocation) → slice_get calls i ≡ Some call → GoesOn call (replies_of answers)
@@ -38,19 +38,19 @@ Goes calls (Moving i keys new) = Unit {0}
 Goes calls (Validating i n left failed) = Unit {0}
 Goes calls (Marking i keys) = Unit {0}
 
--- so with each task
+-- each task's call continues
 abbrev pub AllGo : List Invocation → State → Type 0
 AllGo calls s = All (Goes calls) s.tasks
 
 -- ---- what is owed is due
 
 module _ (calls : List Invocation) (store : Storage) (w : ℕ) (s : State) where
-  -- what is handed in is made or refused
+  -- a record is made or refused
   record_due : (i : ℕ) (answers : List StorageAnswer) (receipt : Receipt) → IsSome (record_within i answers w (Some receipt) s)
   record_due i answers receipt = cond_both (nat_lt record_limit (s.record_count + len receipt.writes)) _ _ (λ o. IsSome o) (λ _. refl)
       (λ _. cond_both (nat_le incarnation_limit (call_at s i).incarnation) _ _ (λ o. IsSome o) (λ _. refl) (λ _. refl))
 
-  -- a run of a call reads, or has ended
+  -- the step of a run is due, whether it is a read or a record
   run_due : (i : ℕ) (answers : List StorageAnswer) → i < length calls → Goes calls (Running i answers None) → (o : Option (List ℕ)) → asked_at (slice_get calls i) (replies_of answers) ≡ o
       → IsSome (step_with (block_of calls store) w (Running i answers None) (due_step_of_run o) s)
   run_due i answers within g (Some key) asks = refl
@@ -72,18 +72,18 @@ module _ (calls : List Invocation) (store : Storage) (w : ℕ) (s : State) where
   owed_due (Marking i (key ∷ keys)) named g = refl
   owed_due (Marking i []) named g = refl
 
--- ---- what a step changes leaves each task's call going on
+-- ---- each task's call continues after a step
 
 module _ (calls : List Invocation) (store : Storage) (w : ℕ) (s : State) (h : AllGo calls s) where
   -- the worker takes another task
   takes : (task : Task) → Goes calls task → All (Goes calls) (set s.tasks w task)
   takes task g = All-set (Goes calls) s.tasks w task g h
 
-  -- a run that begins
+  -- a run that begins continues
   begins : (i : ℕ) → Goes calls (Running i [] None)
   begins i call there = goes_first call
 
-  -- an asking
+  -- an `Ask` step
   ask_validation_goes : AllGo calls (ask_validation w s)
   unfolding ask_validation
   ask_validation_goes = cond_both (is_executed (call_at s s.validation).status) _ _ (λ t. AllGo calls t) (λ _. takes _ tt) (λ _. h)
@@ -97,7 +97,7 @@ module _ (calls : List Invocation) (store : Storage) (w : ℕ) (s : State) (h : 
       (λ _. cond_both (nat_lt s.validation s.execution) _ _ (λ t. AllGo calls t) (λ _. ask_validation_goes)
       (λ _. cond_both (nat_lt s.execution (length s.calls)) _ _ (λ t. AllGo calls t) (λ _. ask_execution_goes) (λ _. h)))
 
-  -- a run that is parked or starts again
+  -- parking a call or starting its run again
   parked_goes : (i b : ℕ) → AllGo calls (after_park w i b s)
   unfolding after_park
   parked_goes i b = cond_both (is_executed (call_at s b).status) _ _ (λ t. AllGo calls t) (λ _. takes _ (begins i)) (λ _. takes _ tt)
@@ -121,7 +121,7 @@ module _ (calls : List Invocation) (store : Storage) (w : ℕ) (s : State) (h : 
   to_validate_goes i n left new = cond_both (nat_lt i s.validation) _ _ (λ t. AllGo calls t)
       (λ _. cond_both new _ _ (λ t. AllGo calls t) (λ _. takes _ tt) (λ _. takes _ tt)) (λ _. takes _ tt)
 
-  -- one answer more
+  -- one more answer
   answered_goes : (i : ℕ) (answers : List StorageAnswer) (key : List ℕ) (content : Option (List ℕ)) (from : Origin) → asked_at (slice_get calls i) (replies_of answers) ≡ Some key
       → Goes calls (Running i (answers ++ record { key = key; value = content; origin = from } ∷ []) None)
   answered_goes i answers key content from asks call there =
@@ -136,20 +136,20 @@ module _ (calls : List Invocation) (store : Storage) (w : ℕ) (s : State) (h : 
       go None = answered_goes i answers key (value_seen (get store key) seen) (origin_in seen) asks
       go (Some b) = g
 
--- an execution that is finished
+-- the end of an execution
 executed_goes : (calls : List Invocation) (store : Storage) (w : ℕ) (s : State) → AllGo calls s → (i : ℕ) (new : Bool) → AllGo calls (after_finish_execution w i new s)
 unfolding resume_dependents
 executed_goes calls store w s h i new = to_validate_goes calls store w _ h i (call_at s i).incarnation _ new
 
 -- ---- a due step
 
--- a run that reads a key asks for it
+-- if the due step of a run reads a key, the run asks for that key
 asks_for : (o : Option (List ℕ)) (key : List ℕ) → ReadKey key ≡ due_step_of_run o → o ≡ Some key
 asks_for (Some other) key h = cc
 asks_for None key h = cc
 
 module _ (calls : List Invocation) (store : Storage) (w : ℕ) (s : State) (h : AllGo calls s) (own : Goes calls (task_at s w)) where
-  -- the due step leaves each task's call going on
+  -- each task's call continues after the due step
   pub made_goes : (step : Step) (t : State) → IsMade (block_of calls store) w s step t → step ≡ due_step calls (task_at s w) → AllGo calls t
   made_goes step t (by_ask at) due = asked_goes calls store w s h
   made_goes step t (by_read i answers key at) due = takes calls store w s h _
@@ -166,21 +166,21 @@ module _ (calls : List Invocation) (store : Storage) (w : ℕ) (s : State) (h : 
 -- ---- all states
 
 module _ (calls : List Invocation) (store : Storage) (workers : ℕ) where
-  -- the invariant where lists lead
+  -- the invariant holds in each state that lists lead to
   holds : (s : State) → DrivenTo calls store workers s → Invariant (block_of calls store) workers s
   holds s led = invariant_kept (block_of calls store) workers s (reached_where_led calls store workers s led)
 
-  -- a worker has a task
+  -- each worker's index is in range
   within : (s : State) (w : ℕ) → DrivenTo calls store workers s → w < workers → w < length s.tasks
   within s w led w_in = let e = (holds s led).sized.tasks in omega (arith, e, w_in)
 
-  -- each task's run goes on
+  -- each task's call continues
   pub all_go : (s : State) → DrivenTo calls store workers s → AllGo calls s
   all_go s at_start = All-replicate (Goes calls) workers Idle tt
   all_go t (made_step {s} w before w_in k) = made_goes calls store w s (all_go s before) (All-get_or (Goes calls) s.tasks w Idle (within s w before w_in) (all_go s before)) (due_step calls (task_at s w)) t
       (made (block_of calls store) w s t (due_step calls (task_at s w)) k) refl
 
--- in each state that lists lead through, the step that is owed is due
+-- in each state that lists lead to, the step that is owed is due
 pub due_where_led : DueStepHasResult
 due_where_led calls store workers s w led w_in =
     owed_due calls store w s (task_at s w) ((holds calls store workers s led).facts.named w)

@@ -1,4 +1,4 @@
--- A call that asks for a key goes on after each answer to it: it asks again, or it has ended.
+-- A call that asks for a key continues after each answer to it: it asks again, or it has ended.
 use Rattle.std.proofs.Common.{◌≡◌, ℕ, suc, List, [], ◌∷◌, ◌++◌, Option, Some, None, refl, sym, ap, ◌∙◌, arith, append_assoc, append-nil}
 use Rattle.std.specs.FinMap as map
 use Rattle.rv_ledger.specs.Call.{Invocation}
@@ -12,17 +12,17 @@ use Rattle.rv_step.proofs.Moments.{advance_told, joined, one_more}
 use Rattle.rv_step.proofs.Receipts.{led_to, one_receipt_lem, over_bears, over_from, reply_told, with_more}
 use Rattle.rv_step.proofs.Askings.{chain_asks}
 
--- some replies come to a receipt
+-- some replies lead to a receipt
 abbrev pub Completes : (List Reply → Option Receipt) → Type 0
 Completes f = (rest : List Reply) × (receipt : Receipt) × (f rest ≡ Some receipt)
 
--- some replies after these bear a receipt of the call out
+-- a call continues after these replies: some further replies bear a receipt of it out
 abbrev pub GoesOn : Invocation → List Reply → Type 0
 GoesOn call replies = Completes (λ rest. borne_out call (replies ++ rest))
 
 -- ---- one more answer
 
--- the machine that asks for a key
+-- all replies are used up, and the machine asks for this key
 abbrev IsAsking : List ℕ → Progress × List Reply → Type 0
 IsAsking key at = (s : Machine) × (at ≡ (Going s, [])) × (step s ≡ Asks key)
 
@@ -37,11 +37,11 @@ asking (Over end out s) left key asks = cc
 
 -- ---- what a call does
 
--- a call goes on from its start
+-- a call continues from its start
 pub goes_first : (call : Invocation) → GoesOn call []
 goes_first call = let some = (one_receipt_lem call map.empty).some_answers in (some.0, ends call map.empty, some.2)
 
--- and after one more answer, where it asks for its key
+-- a call continues after one more answer, if it asks for the key of that answer
 pub goes_next : (call : Invocation) (replies : List Reply) (key : List ℕ) (content : Option (List ℕ)) → asked_by call replies ≡ Some key → GoesOn call (replies ++ (key, content) ∷ [])
 goes_next call replies key content e =
     let at : Progress × List Reply = moment_with call replies (enough_steps call) in
@@ -62,7 +62,7 @@ goes_next call replies key content e =
     let over : moment_with call all both.0 ≡ (last, []) = sym both.1 ∙ ap (λ (x : Progress × List Reply). moment_from from_replies led.count x) told ∙ led.comes in
     (rest, receipt_at call.gas last, ap (borne_out call) (append_assoc replies ((key, content) ∷ []) rest) ∙ over_bears call all both.0 last over (over_from map.empty (machine_of next).gas next (omega arith)))
 
--- where it goes on and asks for nothing it has ended
+-- a call that continues and asks for nothing has ended
 pub goes_last : (call : Invocation) (replies : List Reply) → GoesOn call replies → asked_by call replies ≡ None → (receipt : Receipt) × (borne_out call replies ≡ Some receipt)
 goes_last call replies ([], receipt, e) none = (receipt, ap (borne_out call) (sym (append-nil replies)) ∙ e)
 goes_last call replies (reply ∷ rest, receipt, e) none =

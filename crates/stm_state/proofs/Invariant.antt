@@ -1,5 +1,5 @@
--- What holds of each state that worker steps lead to (Block-STM), over functions of indices: a call past the
--- last one is as at the start, and a worker past the last one has no task.
+-- What holds of each state that worker steps lead to (Block-STM), stated for functions of indices. A call past the last one is as
+-- at the start, and a worker past the last one has no task.
 use Rattle.std.specs.Prelude.{◌≡◌, ◌<◌, ◌≤◌, ◌+◌, ◌-◌, ◌≢◌, ◌⊎◌, ℕ, Bool, true, false, List, [], ◌∷◌, length, map, slice_get, Option, None, Some}
 use Rattle.std.specs.List.{AllByRecursion}
 use Rattle.std.specs.Option.{option_map}
@@ -19,8 +19,8 @@ use Rattle.stm_state.specs.declared.state.Task.{Task}
 use Rattle.stm_state.specs.declared.state.Task.TheVariants.{Idle, Running, Moving, Validating, Marking}
 use Rattle.stm_state.specs.Limits.{incarnation_limit}
 use Rattle.stm_state.specs.State.{State, call_at, task_at, is_executed}
-use Rattle.stm_state.specs.Steps.{Block, read_of, reads_of, version_of, write_of}
-use Rattle.stm_state.specs.Parts.{IsPast, IsSized, StandWith, apply_all, has_key}
+use Rattle.stm_state.specs.Steps.{Block, read_of, recorded_reads, version_of, write_of}
+use Rattle.stm_state.specs.Parts.{IsPast, IsStateSized, StandWith, apply_all, has_key}
 
 -- a state as functions of indices: each call, each worker's task, and the entry of each writer at each key
 pub record View : Type 0 where
@@ -55,7 +55,7 @@ marked_by (Moving i keys new) = None
 marked_by (Validating i n left failed) = None
 marked_by (Marking i keys) = Some i
 
--- the call that a task has for itself: it runs the call, moves its keys or marks its keys
+-- the call that a task owns: it runs the call, moves its keys or marks its keys
 abbrev pub owned_by : Task → Option ℕ
 owned_by Idle = None
 owned_by (Running i answers blocked) = Some i
@@ -71,8 +71,8 @@ turned_by (Moving i keys new) = Some i
 turned_by (Validating i n left failed) = None
 turned_by (Marking i keys) = Some i
 
--- the call of an unfinished record with a new key or of an unfinished abort: at its end the validation index is lowered, so
--- that it is at most the next call
+-- the call of an unfinished record with a new key or of an unfinished abort. At the end of such a task the validation index is
+-- lowered to at most the next call
 abbrev pub lowered_by : Task → Option ℕ
 lowered_by Idle = None
 lowered_by (Running i answers blocked) = None
@@ -81,7 +81,6 @@ lowered_by (Moving i keys false) = None
 lowered_by (Validating i n left failed) = None
 lowered_by (Marking i keys) = Some i
 
--- the call that a task names
 abbrev pub named_by : Task → Option ℕ
 named_by Idle = None
 named_by (Running i answers blocked) = Some i
@@ -89,7 +88,7 @@ named_by (Moving i keys new) = Some i
 named_by (Validating i n left failed) = Some i
 named_by (Marking i keys) = Some i
 
--- the entry for what a call wrote: a version at its incarnation if the call is EXECUTED, and else an estimate
+-- the entry for what a call wrote: a version at its incarnation if the call is EXECUTED, and an estimate otherwise
 abbrev pub entry_by : Bool → ℕ → Option ContentChange → Option Entry
 entry_by true n change = option_map (λ c. Stands n c) change
 entry_by false n change = option_map (λ c. Estimate) change
@@ -109,8 +108,8 @@ abbrev pub IsKnown : View → ℕ → List ℕ → Version → Type 0
 IsKnown v i key version = (version.writer < i)
     × (((c : ContentChange) × (v.entries key version.writer ≡ Some (Stands version.incarnation c))) ⊎ IsPast (v.calls version.writer) version.incarnation)
 
--- an answer to call i is right: the versions that it names are known, and where all of them stand its value is what their
--- changes make of the storage before the block
+-- an answer to call i is right. The versions that it names are known. If all of them stand, its value is what their changes make
+-- of the storage before the block
 pub record IsRight (block : Block) (v : View) (i : ℕ) (key : List ℕ) (value : Content) (origin : Origin) : Type 0 where
   pub known : AllByRecursion (IsKnown v i key) (named origin)
   pub value_is : (changes : List ContentChange) → StandWith (v.entries key) (named origin) changes → value ≡ apply_all changes (get block.base key)
@@ -118,20 +117,20 @@ pub record IsRight (block : Block) (v : View) (i : ℕ) (key : List ℕ) (value 
 abbrev pub IsRightAnswer : Block → View → ℕ → StorageAnswer → Type 0
 IsRightAnswer block v i answer = IsRight block v i answer.key answer.value answer.origin
 
--- a recorded run is borne out by right answers to its reads
+-- right answers to the reads of a recorded run bear it out
 pub record IsBorneOut (block : Block) (v : View) (i : ℕ) (run : Recorded) : Type 0 where
   pub answers : List StorageAnswer
   pub reads : map read_of answers ≡ run.reads
   pub borne_out : block.borne_out i (replies_of answers) ≡ Some run.receipt
   pub right : AllByRecursion (IsRightAnswer block v i) answers
 
--- no key is there twice
+-- no key is in the list twice
 abbrev pub AreDistinct : List (List ℕ) → Type 0
 AreDistinct [] = Unit {0}
 AreDistinct (key ∷ keys) = (has_key key keys ≡ false) × AreDistinct keys
 
--- the entries of a call amid a task that takes them to their targets, one key after another: each is at its target, or its
--- key is still to come and its entry is one that may be there until then
+-- the entries of a call during a task that takes them to their targets, one key after another. Each entry is at its target, or
+-- its key is still to come and the entry is one that may be there until then
 abbrev pub AreUnderWay : (target : List ℕ → Option Entry) (before : List ℕ → Option Entry → Type 0) (entries : List ℕ → Option Entry) (keys : List (List ℕ)) → Type 0
 AreUnderWay target before entries keys = (key : List ℕ) → (entries key ≡ target key) ⊎ ((has_key key keys ≡ true) × before key (entries key))
 
@@ -139,8 +138,8 @@ AreUnderWay target before entries keys = (key : List ℕ) → (entries key ≡ t
 abbrev pub IsUnmovedEntry : Bool → Option Entry → Type 0
 IsUnmovedEntry new entry = (entry ≡ Some Estimate) ⊎ ((entry ≡ None) × (new ≡ true))
 
--- a call whose keys a worker moves: it has a recorded run, its incarnation is below the limit, and its entries are on their
--- way to that run's versions; no key that is left has been moved
+-- a call whose keys a worker moves: it has a recorded run, and its incarnation is below the limit. Its entries are on their way
+-- to that run's versions, and no key that is left has been moved
 pub record IsMoved (call : CallState) (entries : List ℕ → Option Entry) (keys : List (List ℕ)) (new : Bool) : Type 0 where
   pub run : (run : Recorded) × (call.last ≡ Some run)
   pub below : call.incarnation ≤ incarnation_limit - 1
@@ -148,7 +147,7 @@ pub record IsMoved (call : CallState) (entries : List ℕ → Option Entry) (key
   pub distinct : AreDistinct keys
   pub unmoved : (key : List ℕ) → has_key key keys ≡ true → IsUnmovedEntry new (entries key)
 
--- an estimate where a call's recorded run wrote the key
+-- an estimate if a call's recorded run wrote the key, and no entry otherwise
 abbrev pub estimate_of : CallState → List ℕ → Option Entry
 estimate_of call key = option_map (λ change. Estimate) (write_of call.last key)
 
@@ -168,8 +167,8 @@ pub record IsMarked (call : CallState) (entries : List ℕ → Option Entry) (ke
 abbrev pub IsUnturned : View → ℕ → Type 0
 IsUnturned v i = (w : ℕ) → turned_by (v.tasks w) ≢ Some i
 
--- a worker moves the keys of a lower call's run that wrote a new key, or marks the keys of a lower call. At the end of that
--- task the validation index is at most the call after the lower one
+-- a worker moves the keys of a lower call's run that wrote a new key, or marks the keys of a lower call. When that task ends, the
+-- validation index is at most the call after the lower one
 pub record IsToBeLowered (tasks : ℕ → Task) (i : ℕ) : Type 0 where
   pub worker : ℕ
   pub call : ℕ
@@ -179,17 +178,18 @@ pub record IsToBeLowered (tasks : ℕ → Task) (i : ℕ) : Type 0 where
 -- a validation of a call's incarnation, with `left` reads left to check: the call is EXECUTED and has at least that many
 -- reads, or it is ABORTING and not parked
 abbrev pub IsChecked : CallState → ℕ → Type 0
-IsChecked call left = ((call.status ≡ Executed) × (left ≤ length (reads_of call.last))) ⊎ ((call.status ≡ Aborting) × (call.parked ≡ None))
+IsChecked call left = ((call.status ≡ Executed) × (left ≤ length (recorded_reads call.last))) ⊎ ((call.status ≡ Aborting) × (call.parked ≡ None))
 
--- a read of a call, by its place, is still to be met: a validation of the call at its incarnation failed or has not checked it
--- yet, or an unfinished record with a new key or an unfinished abort of a lower call will have the call validated again
+-- a read of a call, by its place, must still be met in two cases. A validation of the call at its incarnation failed or has not
+-- checked the read yet. Or an unfinished record with a new key, or an unfinished abort, of a lower call will have the call
+-- validated again
 pub data IsCovered (v : View) (i place : ℕ) : Type 0 where
-  validated : (w left : ℕ) (failed : Bool) → v.tasks w ≡ Validating i (v.calls i).incarnation left failed → (failed ≡ true) ⊎ (length (reads_of (v.calls i).last) ≤ place + left) → IsCovered v i place
+  validated : (w left : ℕ) (failed : Bool) → v.tasks w ≡ Validating i (v.calls i).incarnation left failed → (failed ≡ true) ⊎ (length (recorded_reads (v.calls i).last) ≤ place + left) → IsCovered v i place
   ahead : IsToBeLowered v.tasks i → IsCovered v i place
 
--- each read of a call stands, or is still to be met
+-- each read of a call stands, or must still be met
 abbrev pub AreSafe : View → ℕ → Type 0
-AreSafe v i = (place : ℕ) (read : Read) → slice_get (reads_of (v.calls i).last) place ≡ Some read → (stands_among v.entries i read ≡ true) ⊎ IsCovered v i place
+AreSafe v i = (place : ℕ) (read : Read) → slice_get (recorded_reads (v.calls i).last) place ≡ Some read → (stands_among v.entries i read ≡ true) ⊎ IsCovered v i place
 
 pub record ViewInvariant (block : Block) (v : View) : Type 0 where
   -- the indices are at most the number of calls
@@ -199,8 +199,8 @@ pub record ViewInvariant (block : Block) (v : View) : Type 0 where
   pub named : (w i : ℕ) → named_by (v.tasks w) ≡ Some i → i < block.count
   -- a READY call is at or above the execution index
   pub ready : (i : ℕ) → (v.calls i).status ≡ Ready → v.execution ≤ i
-  -- some worker runs an EXECUTING call or moves its keys; a call that a worker runs or whose keys it moves is EXECUTING; at
-  -- most one worker runs a call, moves its keys or marks its keys
+  -- some worker runs an EXECUTING call or moves its keys. A call that a worker runs or whose keys it moves is EXECUTING. At most
+  -- one worker runs a call, moves its keys or marks its keys
   pub executing : (i : ℕ) → (v.calls i).status ≡ Executing → (w : ℕ) × (run_by (v.tasks w) ≡ Some i)
   pub running : (w i : ℕ) → run_by (v.tasks w) ≡ Some i → (v.calls i).status ≡ Executing
   pub alone : (w u i : ℕ) → owned_by (v.tasks w) ≡ Some i → owned_by (v.tasks u) ≡ Some i → w ≡ u
@@ -209,30 +209,30 @@ pub record ViewInvariant (block : Block) (v : View) : Type 0 where
   -- an ABORTING call waits for a lower call that is not EXECUTED, or a worker marks its keys; no other call is parked
   pub aborting : (i : ℕ) → (v.calls i).status ≡ Aborting → IsWaiting v i ⊎ ((w : ℕ) × (marked_by (v.tasks w) ≡ Some i))
   pub unparked : (i : ℕ) → (v.calls i).status ≢ Aborting → (v.calls i).parked ≡ None
-  -- no incarnation is above the limit; that of an EXECUTED or ABORTING call is below it, since the call may be readied again
+  -- no incarnation is above the limit; that of an EXECUTED or ABORTING call is below it, since the call may become READY again
   pub limit : (i : ℕ) → (v.calls i).incarnation ≤ incarnation_limit
   pub executed_limit : (i : ℕ) → (v.calls i).status ≡ Executed → (v.calls i).incarnation ≤ incarnation_limit - 1
   pub aborting_limit : (i : ℕ) → (v.calls i).status ≡ Aborting → (v.calls i).incarnation ≤ incarnation_limit - 1
-  -- where no worker moves or marks a call's keys: the entries of an EXECUTED call are the writes of its receipt at its
-  -- incarnation; any other call has estimates, at exactly the keys that its last recorded run wrote
+  -- these hold if no worker moves or marks a call's keys. The entries of an EXECUTED call are the writes of its receipt at its
+  -- incarnation. Any other call has estimates, at exactly the keys that its last recorded run wrote
   pub entries : (i : ℕ) (key : List ℕ) → IsUnturned v i → v.entries key i ≡ entry_of (v.calls i) key
-  -- where a worker moves the keys, the entries are on their way to the run's versions; where one marks them, to its estimates
+  -- if a worker moves the keys, the entries are on their way to the run's versions; if a worker marks them, to its estimates
   pub moving : (w i : ℕ) (keys : List (List ℕ)) (new : Bool) → v.tasks w ≡ Moving i keys new → IsMoved (v.calls i) (λ key. v.entries key i) keys new
   pub marking : (w i : ℕ) (keys : List (List ℕ)) → v.tasks w ≡ Marking i keys → IsMarked (v.calls i) (λ key. v.entries key i) keys
   -- an EXECUTED call has a recorded run
   pub executed : (i : ℕ) → (v.calls i).status ≡ Executed → (run : Recorded) × ((v.calls i).last ≡ Some run)
   -- each recorded run is borne out by right answers
   pub recorded : (i : ℕ) (run : Recorded) → (v.calls i).last ≡ Some run → IsBorneOut block v i run
-  -- each answer that a run was given is right
+  -- each answer that a run got is right
   pub answered : (w i : ℕ) (answers : List StorageAnswer) (waits : Option ℕ) → v.tasks w ≡ Running i answers waits → AllByRecursion (IsRightAnswer block v i) answers
-  -- a validation is of an incarnation that the call had or has; where the call still has it, the call is EXECUTED and has at
-  -- least as many reads as are left to check, or it is ABORTING and not parked
+  -- a validation is of an incarnation that the call had or has. If the call still has it, the call is EXECUTED and has at least
+  -- as many reads as are left to check, or it is ABORTING and not parked
   pub validating : (w i n left : ℕ) (failed : Bool) → v.tasks w ≡ Validating i n left failed → n ≤ (v.calls i).incarnation
   pub current : (w i left : ℕ) (failed : Bool) → v.tasks w ≡ Validating i (v.calls i).incarnation left failed → IsChecked (v.calls i) left
-  -- each read of an EXECUTED call below the validation index stands, or is still to be met
+  -- each read of an EXECUTED call below the validation index stands, or must still be met
   pub safe : (i : ℕ) → (v.calls i).status ≡ Executed → i < v.validation → AreSafe v i
 
 -- the invariant of a block's run
 pub record Invariant (block : Block) (workers : ℕ) (s : State) : Type 0 where
-  pub sized : IsSized block.count workers s
+  pub sized : IsStateSized block.count workers s
   pub facts : ViewInvariant block (view_of s)

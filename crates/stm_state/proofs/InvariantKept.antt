@@ -1,4 +1,4 @@
--- Each state that worker steps lead to keeps the invariant.
+-- The invariant holds of each state that worker steps lead to.
 use Rattle.std.proofs.Common.{◌≡◌, ◌<◌, ℕ, Some, Ok, arith, refl, sym, ap, subst, length-set}
 use Rattle.std.specs.FinMap.{get, get-empty}
 use Rattle.std.proofs.lemmas.List.{length-replicate}
@@ -7,7 +7,7 @@ use Rattle.mvmap.specs.Versions.{place_cmp}
 use Rattle.stm_state.specs.declared.state.Status.TheVariants.{Ready}
 use Rattle.stm_state.specs.declared.state.CallState.{CallState}
 use Rattle.stm_state.specs.declared.state.Task.TheVariants.{Idle}
-use Rattle.stm_state.specs.State.{State, fresh, no_counts, start, call_at, task_at}
+use Rattle.stm_state.specs.State.{State, fresh, no_counts, start_state, call_at, task_at}
 use Rattle.stm_state.specs.Steps.{Block, Step, counted, one_step, one_asking, one_execution, one_validation, worker_step}
 use Rattle.stm_state.specs.Done.{Reached, started, stepped}
 use Rattle.stm_state.proofs.Invariant.{entry_of, Invariant}
@@ -24,18 +24,15 @@ use Rattle.stm_state.proofs.Checks.{check_kept}
 use Rattle.stm_state.proofs.Aborts.{decide_kept, abort_kept}
 use Rattle.stm_state.proofs.Marks.{mark_kept}
 
--- ---- the start
+-- ---- the start state
 
 module _ (block : Block) (workers : ℕ) where
-  -- the state at the start
   abbrev first : State
-  first = start block.count workers
+  first = start_state block.count workers
 
-  -- each call is as at the start
   all_fresh : (i : ℕ) → call_at first i ≡ fresh
   all_fresh i = replicated block.count i fresh
 
-  -- nobody has a task
   all_idle : (w : ℕ) → task_at first w ≡ Idle
   all_idle w = replicated workers w Idle
 
@@ -43,8 +40,8 @@ module _ (block : Block) (workers : ℕ) where
   ready_at : (i : ℕ) → (call_at first i).status ≡ Ready
   ready_at i = ap (λ (c : CallState). c.status) (all_fresh i)
 
-  -- the invariant holds at the start
-  pub start_kept : Invariant block workers (start block.count workers)
+  -- the invariant holds in the start state
+  pub start_kept : Invariant block workers (start_state block.count workers)
   start_kept = record {
     sized = record { calls = length-replicate block.count fresh; tasks = length-replicate workers Idle; counts = length-replicate workers no_counts; dones = length-replicate workers 0 };
     facts = record {
@@ -75,7 +72,7 @@ module _ (block : Block) (workers : ℕ) where
 
 -- ---- one step
 
--- counting keeps the invariant
+-- counting a step keeps the invariant
 counted_kept : (block : Block) (workers w : ℕ) (add : Counts → Counts) (s : State) → Invariant block workers s → Invariant block workers (counted add w s)
 counted_kept block workers w add s h = record { sized = resized block.count workers s _ refl refl (length-set s.counts w _) refl h.sized; facts = h.facts }
 

@@ -12,7 +12,7 @@ module _ (target : List ℕ → Option Entry) (before : List ℕ → Option Entr
   abbrev turned : Versions
   turned = changed v (key, i) (target key)
 
-  -- one key is turned, and is no more among those that are yet to be
+  -- a key that is turned is no longer among those that are left
   pub amid_step : AreUnderWay target before (λ k. entry_at (changed v (key, i) (target key)) k i) keys
   amid_step k = go (eq_by_cmp key_cmp k key) refl (amid k)
     where
@@ -25,7 +25,7 @@ module _ (target : List ℕ → Option Entry) (before : List ℕ → Option Entr
             | inr q ↦ inr (ap (λ b. b || has_key k keys) (sym h) ∙ q.0, subst (before k) (sym stays) q.1)
           ]
 
-  -- each entry stays as it was, or was one that might stand until it is turned
+  -- each entry stays as it was, or was one that may be there until its key is turned
   pub amid_cases : (k : List ℕ) → (entry_at (changed v (key, i) (target key)) k i ≡ entry_at v k i) ⊎ before k (entry_at v k i)
   amid_cases k = go (eq_by_cmp key_cmp k key) refl (amid k)
     where
@@ -34,7 +34,7 @@ module _ (target : List ℕ → Option Entry) (before : List ℕ → Option Entr
       go true h (inr q) = inr q.1
       go false h was = inl (changed_at v key i (target key) k ∙ ap (λ b. cond b (target key) (entry_at v k i)) h)
 
--- of distinct keys the first is turned, and what stands at the others stays
+-- turning the first of distinct keys leaves the entries at the others
 pub left_stays : (v : Versions) (i : ℕ) (key : List ℕ) (keys : List (List ℕ)) (o : Option Entry) → has_key key keys ≡ false → (k : List ℕ) → has_key k keys ≡ true → entry_at (changed v (key, i) o) k i ≡ entry_at v k i
 left_stays v i key keys o gone k left = go (eq_by_cmp key_cmp k key) refl
   where
@@ -42,6 +42,6 @@ left_stays v i key keys o gone k left = go (eq_by_cmp key_cmp k key) refl
     go true h = let not_left : has_key k keys ≡ false = ap (λ q. has_key q keys) (same_key k key h) ∙ gone in cc
     go false h = changed_at v key i o k ∙ ap (λ b. cond b o (entry_at v k i)) h
 
--- where no key is left, all are turned
+-- if no key is left, all are turned
 pub amid_end : (target : List ℕ → Option Entry) (before : List ℕ → Option Entry → Type 0) (entries : List ℕ → Option Entry) → AreUnderWay target before entries [] → (key : List ℕ) → entries key ≡ target key
 amid_end target before entries amid key = elim (amid key) [ inl there ↦ there | inr q ↦ let none = q.0 in cc ]

@@ -1,4 +1,4 @@
--- Marking a key of a call that is taken back keeps the invariant.
+-- Marking a key of a call that a worker aborts keeps the invariant.
 use Rattle.std.proofs.Common.{◌≡◌, ◌<◌, ◌≢◌, ◌⊎◌, ◌||◌, cond, ℕ, Bool, true, false, option_map, List, ◌∷◌, length, Some, arith, refl, sym, ap, subst, ◌∙◌, inl, inr, length-set}
 use Rattle.std.specs.Ordering.{eq_by_cmp, is_eq}
 use Rattle.std.specs.Cmp.{tied_itself}
@@ -20,11 +20,10 @@ use Rattle.stm_state.proofs.KeyTargets.{amid_step, amid_cases}
 use Rattle.stm_state.proofs.Writes.{changed_at, changed_other, or_true}
 
 module _ (block : Block) (s : State) (w i : ℕ) (key : List ℕ) (keys : List (List ℕ)) (f : ViewInvariant block (view_of s)) (marks : task_at s w ≡ Marking i (key ∷ keys)) (w_in : w < length s.tasks) where
-  -- the entries of call i are on their way
+  -- the entries of call i are on their way to estimates
   is_marked : IsMarked (call_at s i) (λ k. entry_at s.versions k i) (key ∷ keys)
   is_marked = f.marking w i (key ∷ keys) marks
 
-  -- call i is ABORTING
   is_aborting : (call_at s i).status ≡ Aborting
   is_aborting = is_marked.aborting
 
@@ -40,7 +39,7 @@ module _ (block : Block) (s : State) (w i : ℕ) (key : List ℕ) (keys : List (
   entry_other : (k : List ℕ) (j : ℕ) → j ≢ i → entry_at after.versions k j ≡ entry_at s.versions k j
   entry_other k j ne = changed_other s.versions key i (Some Estimate) k j ne
 
-  -- an entry of call i stays, or was yet to be marked
+  -- an entry of call i stays, or its key was still to be marked
   entry_cases : (k : List ℕ) → (entry_at after.versions k i ≡ entry_at s.versions k i) ⊎ IsUnmarkedEntry (call_at s i).incarnation (entry_at s.versions k i)
   entry_cases k = subst (λ o. (entry_at (changed s.versions (key, i) o) k i ≡ entry_at s.versions k i) ⊎ IsUnmarkedEntry (call_at s i).incarnation (entry_at s.versions k i)) is_target
       (amid_cases (estimate_of (call_at s i)) (λ k entry. IsUnmarkedEntry (call_at s i).incarnation entry) s.versions i key keys is_marked.amid k)
@@ -84,11 +83,11 @@ module _ (block : Block) (s : State) (w i : ℕ) (key : List ℕ) (keys : List (
     recorded = f.recorded i;
   }
 
-  -- the calls above are seen to by this very task
+  -- this task covers the calls above call i
   is_ahead : (j : ℕ) → i < j → IsToBeLowered (task_at after) j
   is_ahead j l = record { worker = w; call = i; task = ap lowered_by mark_frame.tasks.there; lower = l }
 
-  -- marking a key keeps the invariant: calls below see nothing of it, and calls above are validated again
+  -- marking a key keeps the invariant: calls below do not see it, and calls above are validated again
   pub marked_facts : ViewInvariant block (view_of (after_mark_estimate w i key keys s))
   marked_facts = frame_kept block (view_of s) (view_of after) i w (call_at s i) (Marking i keys) mark_frame f (λ h. let r = is_aborting in cc) (λ j ne h l. elim (cases_lt j i) [
     | inl below ↦ safe_other block (view_of s) (view_of after) i w (call_at s i) (Marking i keys) mark_frame f j ne (λ left failed k. cc) (λ _ above. is_ahead j above)

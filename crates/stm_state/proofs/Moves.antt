@@ -19,11 +19,10 @@ use Rattle.stm_state.proofs.Writes.{changed_other, or_true, version_is}
 use Rattle.stm_state.proofs.KeyTargets.{amid_step, amid_cases, left_stays}
 
 module _ (block : Block) (s : State) (w i : ℕ) (key : List ℕ) (keys : List (List ℕ)) (new : Bool) (f : ViewInvariant block (view_of s)) (moves : task_at s w ≡ Moving i (key ∷ keys) new) (w_in : w < length s.tasks) where
-  -- call i is EXECUTING
   is_executing : (call_at s i).status ≡ Executing
   is_executing = f.running w i (ap run_by moves)
 
-  -- the entries of call i are on their way
+  -- the entries of call i are on their way to the versions of its run
   is_moved : IsMoved (call_at s i) (λ k. entry_at s.versions k i) (key ∷ keys) new
   is_moved = f.moving w i (key ∷ keys) new moves
 
@@ -35,7 +34,7 @@ module _ (block : Block) (s : State) (w i : ℕ) (key : List ℕ) (keys : List (
   entry_other : (k : List ℕ) (j : ℕ) → j ≢ i → entry_at after.versions k j ≡ entry_at s.versions k j
   entry_other k j ne = changed_other s.versions key i (version_of (call_at s i) key) k j ne
 
-  -- an entry of call i stays, or was yet to be moved
+  -- an entry of call i stays, or its key was still to be moved
   entry_cases : (k : List ℕ) → (entry_at after.versions k i ≡ entry_at s.versions k i) ⊎ IsUnmovedEntry new (entry_at s.versions k i)
   entry_cases k = amid_cases (version_of (call_at s i)) (λ k entry. IsUnmovedEntry new entry) s.versions i key keys is_moved.amid k
 
@@ -50,7 +49,7 @@ module _ (block : Block) (s : State) (w i : ℕ) (key : List ℕ) (keys : List (
         (is_moved.unmoved k (or_true (eq_by_cmp key_cmp k key) (has_key k keys) left));
   }
 
-  -- a version that stands afterwards is at the call's incarnation, where it did not stand before
+  -- a version of call i that stands afterwards is at the call's incarnation
   at_incarnation : (k : List ℕ) (n : ℕ) (x : ContentChange) → entry_at after.versions k i ≡ Some (Stands n x) → n ≡ (call_at s i).incarnation
   at_incarnation k n x h = elim (still_moved.amid k) [
     | inl there ↦ (version_is (write_of (call_at s i).last k) (call_at s i).incarnation n x (sym there ∙ h)).0
@@ -60,7 +59,7 @@ module _ (block : Block) (s : State) (w i : ℕ) (key : List ℕ) (keys : List (
   none_stood : (k : List ℕ) (n : ℕ) → IsUnmovedEntry new (entry_at s.versions k i) → (y : ContentChange) → entry_at s.versions k i ≢ Some (Stands n y)
   none_stood k n old y h = elim old [ inl estimate ↦ cc | inr none ↦ let is_none = none.0 in cc ]
 
-  -- and none of that incarnation may be gone
+  -- no version of that incarnation may be gone
   not_past : (n : ℕ) → n ≡ (call_at s i).incarnation → IsPast (call_at s i) n → ⊥
   not_past n at h = let e = is_executing in elim h [ inl old ↦ omega (arith, old, at) | inr q ↦ let r = q.1 in cc ]
 
@@ -85,15 +84,15 @@ module _ (block : Block) (s : State) (w i : ℕ) (key : List ℕ) (keys : List (
     recorded = f.recorded i;
   }
 
-  -- with a new key the calls above are seen to by this very task
+  -- with a new key this task covers the calls above call i
   is_ahead : new ≡ true → (j : ℕ) → i < j → IsToBeLowered (task_at after) j
   is_ahead new_key j l = record { worker = w; call = i; task = ap lowered_by (move_frame.tasks.there ∙ ap (Moving i keys) new_key); lower = l }
 
-  -- what stands of calls below stays so
+  -- reads of lower calls that stand still stand
   below_stands : (j : ℕ) → j < i → StandsOn (view_of s) (view_of after) j
   below_stands j l = on_below (view_of s) (view_of after) j (λ k x low. entry_other k x (omega (arith, low, l)))
 
-  -- and so without a new key does what stands of any call
+  -- without a new key, reads of any call that stand still stand
   all_stands : new ≡ false → (j : ℕ) → StandsOn (view_of s) (view_of after) j
   all_stands no_new j = on_estimates (view_of s) (view_of after) j (λ k x. elim (cases_eq x i) [
     | inr ne ↦ inl (entry_other k x ne)
@@ -101,12 +100,12 @@ module _ (block : Block) (s : State) (w i : ℕ) (key : List ℕ) (keys : List (
         (elim (entry_cases k) [ inl same ↦ inl same | inr old ↦ elim old [ inl estimate ↦ inr estimate | inr none ↦ let is_new = none.1 in cc ] ])
   ])
 
-  -- a task that goes on to lower V has a new key
+  -- a task that lowers the validation index has a new key
   lowers_new : (b : Bool) → lowered_by (Moving i (key ∷ keys) b) ≡ Some i → b ≡ true
   lowers_new true h = refl
   lowers_new false h = cc
 
-  -- reads of another call stay safe, where what stands of it stays so
+  -- the reads of another call stay safe, if its reads that stand still stand
   still_safe : (j : ℕ) → j ≢ i → StandsOn (view_of s) (view_of after) j → AreSafe (view_of s) j → AreSafe (view_of after) j
   still_safe j ne stood h = safe_other block (view_of s) (view_of after) i w (call_at s i) (Moving i keys new) move_frame f j ne (λ left failed k. cc)
       (λ k l. is_ahead (lowers_new new (ap lowered_by (sym moves) ∙ k)) j l) stood h

@@ -1,4 +1,4 @@
--- One worker on a job, step by step: it goes through the rounds of all calls, and is then told that all is done.
+-- One worker on a job, step by step: it goes through the rounds of all calls, and is then answered Done.
 use Rattle.std.proofs.Common.{◌≡◌, ◌≢◌, ◌<◌, ◌≤◌, ◌+◌, ◌-◌, ◌*◌, nat_lt, nat_le, ℕ, zero, suc, Bool, false, true, option_map, List, [], ◌∷◌, ◌++◌, length, drop, get_or, replicate, slice_get, Option, None, Some, Result, Ok, Err, if◌then◌else◌, arith, refl, sym, ap, subst, ◌∙◌, inl, inr, append_assoc, append-nil, drop_of_length-le}
 use Rattle.std.specs.FinMap.{get, entries, len, len-entries}
 use Rattle.std.proofs.lemmas.Bool.{cases_lt, cond-false}
@@ -23,8 +23,8 @@ use Rattle.stm_state.specs.declared.state.Recorded.{Recorded}
 use Rattle.stm_state.specs.declared.state.Task.{Task}
 use Rattle.stm_state.specs.declared.state.Task.TheVariants.{Idle, Running, Validating}
 use Rattle.stm_state.specs.Limits.{record_limit, incarnation_limit}
-use Rattle.stm_state.specs.State.{State, start, call_at, with_task, is_done}
-use Rattle.stm_state.specs.Steps.{Block, Limit, read_of, reads_of, counted, one_step, one_asking, one_execution, one_validation, count_done, keys_of, keys_to_move, record_within, step_with, write_of}
+use Rattle.stm_state.specs.State.{State, start_state, call_at, with_task, is_done}
+use Rattle.stm_state.specs.Steps.{Block, Limit, read_of, recorded_reads, counted, one_step, one_asking, one_execution, one_validation, count_done, keys_of, keys_to_move, record_within, step_with, write_of}
 use Rattle.stm_state.specs.Done.{borne_out_by, block_of}
 use Rattle.stm_state.specs.Drive.{DriveRefusal, NotDone, due_step_of_run, asked_at, due_step, due_result, continue_drive, driven}
 use Rattle.stm_state.proofs.Invariant.{view_of, Invariant}
@@ -39,11 +39,11 @@ use Rattle.stm_state.proofs.OneWorkerPhases.{call_there, Comes, Rests, Runs, Mov
 
 -- ---- what each call takes
 
--- so many reads and writes
+-- the work of a call: the numbers of its reads and of its writes
 abbrev work_of : Invocation → Storage → Work
 work_of call store = record { reads = length (one_receipt_lem call store).some_answers.0; writes = len (ends call store).writes }
 
--- what all calls take
+-- the work of each call
 abbrev works_in_order : List Invocation → Storage → List Work
 works_in_order [] store = []
 works_in_order (call ∷ calls) store = work_of call store ∷ works_in_order calls (store_after_call call store)
@@ -68,22 +68,22 @@ store_next [] store j call h = cc
 store_next (c ∷ calls) store zero call h = let same : c ≡ call = cc in ap (λ x. store_after_call x store) same
 store_next (c ∷ calls) store (suc j) call h = store_next calls (store_after_call c store) j call h
 
--- a first run moves just the keys that it wrote
+-- a first run moves exactly the keys that it wrote
 first_keys : (writes : WriteMap) → length (keys_to_move None writes) ≡ len writes
 first_keys writes = ap length (append-nil (keys_of (entries writes))) ∙ length-map (entries writes) (λ write. write.0) ∙ sym (len-entries writes)
 
--- no run is blocked where the one worker's is not
+-- no run is blocked, if the one worker's run is not
 unblocked : {block : Block} {m e v : ℕ} {own : CallState} {task : Task} {s : State} → Stage block m own e v task s → ((i b : ℕ) (answers : List StorageAnswer) → task ≢ Running i answers (Some b)) → MeetsNoEstimate s
 unblocked now never zero i b answers h = never i b answers (sym now.does ∙ h)
 unblocked {s = s} now never (suc w) i b answers h = let idle = get_or_past s.tasks (suc w) Idle (let one = now.inv.sized.tasks in omega (arith, one)) in cc
 
--- ---- where it is, and how many steps are left
+-- ---- the phase of the worker, and the number of steps that are left
 
 module _ (calls : List Invocation) (store : Storage) where
   abbrev block : Block
   block = block_of calls store
 
-  -- the storage before call d, and what the call ends in on it
+  -- the storage before call d, and the receipt of the call on it
   abbrev before_call : ℕ → Storage
   before_call d = store_before calls d store
 
@@ -94,22 +94,22 @@ module _ (calls : List Invocation) (store : Storage) where
   abbrev Sees : ℕ → Versions → Type 0
   Sees d versions = (key : List ℕ) → value_seen (get store key) (visible_below (entry_at versions key) d) ≡ get (before_call d) key
 
-  -- the steps for call d and those after it
+  -- the number of steps for call d and the calls after it
   abbrev rounds_from : ℕ → ℕ
   rounds_from d = rounds (drop d (works_in_order calls store))
 
   -- n steps are left: what the worker does at call d, and the rounds of the later calls
   data Left (n steps told : ℕ) (s : State) : Type 0 where
     rests : {d : ℕ} → Rests block d steps told s → Sees d s.versions → s.record_count ≤ 256 * d → n ≡ rounds_from d → Left n steps told s
-    -- the rest of its replies bear the call out
+    -- the remaining replies bear the call's receipt out
     runs : {d : ℕ} {answers : List StorageAnswer} (call : Invocation) (rest : List Reply) → Runs block d steps told answers s → Sees d s.versions → s.record_count ≤ 256 * d
         → slice_get calls d ≡ Some call → AreFrom (before_call d) rest → borne_out call (replies_of answers ++ rest) ≡ Some (in_order d call) → n ≡ 4 + 2 * length rest + length answers + len (in_order d call).writes + rounds_from (d + 1) → Left n steps told s
     moves : {d : ℕ} {run : Recorded} {keys : List (List ℕ)} {new : Bool} (call : Invocation) → Moves block d steps told run keys new s → Sees d s.versions → s.record_count ≤ 256 * (d + 1)
         → slice_get calls d ≡ Some call → run.receipt ≡ in_order d call → n ≡ 3 + length keys + length run.reads + rounds_from (d + 1) → Left n steps told s
-    waits : {d : ℕ} → Waits block d steps told s → Sees (d + 1) s.versions → s.record_count ≤ 256 * (d + 1) → n ≡ 2 + length (reads_of (call_at s d).last) + rounds_from (d + 1) → Left n steps told s
+    waits : {d : ℕ} → Waits block d steps told s → Sees (d + 1) s.versions → s.record_count ≤ 256 * (d + 1) → n ≡ 2 + length (recorded_reads (call_at s d).last) + rounds_from (d + 1) → Left n steps told s
     checks : {d left : ℕ} → Checks block d steps told left s → Sees (d + 1) s.versions → s.record_count ≤ 256 * (d + 1) → n ≡ 1 + left + rounds_from (d + 1) → Left n steps told s
 
-  -- what the next call sees where call d is EXECUTED and its run was borne out
+  -- the next call sees the storage before it, once call d is EXECUTED and its run was borne out
   sees_next : (d : ℕ) (call : Invocation) (run : Recorded) (t : State) → Invariant block 1 t → (call_at t d).status ≡ Executed → (call_at t d).last ≡ Some run → slice_get calls d ≡ Some call → run.receipt ≡ in_order d call
       → Sees d t.versions → Sees (d + 1) t.versions
   sees_next d call run t inv done last there ends_so sees = subst (λ n. Sees n t.versions) (let e : suc d ≡ d + 1 = omega arith in e) (λ key.
@@ -118,7 +118,7 @@ module _ (calls : List Invocation) (store : Storage) where
       executed_entries block (view_of t) inv.facts d done key ∙ ap (λ x. option_map (λ c. Stands n c) (write_of x key)) last ∙ ap (λ (r : Receipt). option_map (λ c. Stands n c) (get r.writes key)) ends_so in
       seen_after (get store key) t.versions key d n (before_call d) (in_order d call).writes own (sees key) ∙ ap (λ b. get b key) (sym (store_next calls store d call there)))
 
-  -- what is left from a call of the job on, and past the last one
+  -- the steps that are left from a call of the job on, and past the last call
   rounds_here : (d : ℕ) → d < length calls → rounds_from d ≡ 5 + 2 * (get_or (works_in_order calls store) d no_work).reads + (get_or (works_in_order calls store) d no_work).writes + rounds_from (d + 1)
   rounds_here d within = ap rounds (drop_more (works_in_order calls store) d no_work (let size = sized_works calls store in omega (arith, within, size)))
 
@@ -127,7 +127,7 @@ module _ (calls : List Invocation) (store : Storage) where
 
   -- ---- the step that is due
 
-  -- it is made, and one step less is left; where none is left it is told so
+  -- the step is made, and one step less is left; if none is left, it is answered Done
   record Next (n steps told : ℕ) (s : State) : Type 0 where
     t : State
     due : due_result calls store 0 s ≡ Some (Ok t)
@@ -135,7 +135,7 @@ module _ (calls : List Invocation) (store : Storage) where
     left : Left (n - 1) (steps + 1) more t
     told_is : more + n ≡ told + 1 + (n - 1)
 
-  -- a state that is the same
+  -- equal states give equal results
   same : (add : Counts → Counts) {u v : State} → u ≡ v → ◌≡◌ {A = Option (Result State Limit)} (Some (Ok (counted add 0 u))) (Some (Ok (counted add 0 v)))
   same add e = ap (λ u. Some (Ok (counted add 0 u))) e
 
@@ -147,7 +147,7 @@ module _ (calls : List Invocation) (store : Storage) where
         let due : due_result calls store 0 s ≡ Some (Ok (counted add 0 u)) = ap (λ x. step_with block 0 x (due_step calls x) s) now.does ∙ k in
         record { t = counted add 0 u; due = due; more = more; left = h (worker_kept block 1 0 s _ now.inv (omega arith) _ due); told_is = told_is }
 
-    -- the step that is due at each place
+    -- the step that is due in each phase
     next : length calls ≤ 1024 → Left n steps told s → Next n steps told s
     next short (rests {d = d} h sees room e) = elim (cases_lt d (length calls)) [
       | inl low ↦
@@ -191,7 +191,7 @@ module _ (calls : List Invocation) (store : Storage) where
     next short (moves {d = d} {run = run} {keys = []} {new = new} call h sees room there ends_so e) =
         let within = within_block h.now in
         let last = done_last block s d run new h.now within in
-        let reads = ap (λ o. length (reads_of o)) last in
+        let reads = ap (λ o. length (recorded_reads o)) last in
         goes h.now told one_step (with_task 0 Idle (finished block s d run new h.now within)) (same one_step (executed_is block s d run new h.now within))
         (λ inv. let w = finishes_on h within inv in waits w (sees_next d call run _ inv (w.now.calls.below d (omega arith)).status last there ends_so sees) room (omega (arith, e, reads))) (omega (arith, e))
     next short (waits {d = d} h sees room e) =
@@ -203,7 +203,7 @@ module _ (calls : List Invocation) (store : Storage) where
 
     -- ---- whether workers are done
 
-    -- where a step is left they are not
+    -- if a step is left, workers are not done
     not_yet : 0 < n → Left n steps told s → is_done s ≡ false
     not_yet some (rests {d = d} h sees room e) = not_done block 1 s h.now.inv (λ o. let runs = h.now.runs_from in let all = o.execution in let none = rounds_past d (omega (arith, runs, all)) in omega (arith, some, e, none))
     not_yet some (runs call rest h sees room there from bears e) = not_done block 1 s h.now.inv (λ o. let idle = o.idle 0 in let does = h.now.does in cc)
@@ -211,7 +211,7 @@ module _ (calls : List Invocation) (store : Storage) where
     not_yet some (waits h sees room e) = not_done block 1 s h.now.inv (λ o. let runs = h.now.runs_from in let checks = h.now.checks_from in let p = o.execution in let q = o.validation in omega (arith, runs, checks, p, q))
     not_yet some (checks h sees room e) = not_done block 1 s h.now.inv (λ o. let idle = o.idle 0 in let does = h.now.does in cc)
 
-    -- where none is left they are
+    -- if no step is left, workers are done
     ended : n ≡ 0 → Left n steps told s → (is_done s ≡ true) × OneWorkerDid (length calls) steps (2 * length calls + told) told s
     ended none (rests {d = d} h sees room e) = elim (cases_lt d (length calls)) [
       | inl low ↦ let here = rounds_here d low in absurd (omega (arith, none, e, here))
@@ -232,7 +232,7 @@ module _ (calls : List Invocation) (store : Storage) where
 
   -- ---- lists of steps
 
-  -- so many steps from a state on
+  -- k steps of the one worker from a state on
   abbrev alone : ℕ → State → Result State DriveRefusal
   alone k s = driven calls store 1 (replicate k 0) s
 
@@ -245,12 +245,12 @@ module _ (calls : List Invocation) (store : Storage) where
   one_step_on k s t e = ap (continue_drive (λ u. driven calls store 1 (replicate k 0) u)) e
 
   module _ (short : length calls ≤ 1024) where
-    -- fewer steps than are left
+    -- after fewer steps than are left, the worker is not done
     early : (k : ℕ) {n steps told : ℕ} {s : State} → k < n → Left n steps told s → alone k s ≡ Err NotDone
     early zero {s = s} l h = used_up s (not_yet l h)
     early (suc k) {s = s} l h = let x = next short h in one_step_on k s x.t x.due ∙ early k (omega (arith, l)) x.left
 
-    -- at least as many
+    -- after at least as many, the worker is done
     late : (k : ℕ) {n steps told : ℕ} {s : State} → n ≤ k → Left n steps told s → (t : State) × (more : ℕ) × (alone k s ≡ Ok t) × OneWorkerDid (length calls) (steps + k) (2 * length calls + more) more t × (more + n ≡ told + k)
     late zero {steps = steps} {told = told} {s = s} l h =
         let end = ended (omega (arith, l)) h in
@@ -268,8 +268,8 @@ module _ (calls : List Invocation) (store : Storage) where
     never_blocked zero h = free h
     never_blocked (suc k) h = let x = next short h in (free h, subst (λ o. HoldsAfter (λ u. NeverMeetsEstimate calls store (replicate k 0) u) o) (sym x.due) (never_blocked k x.left))
 
-    -- the start
-    at_start : Left (rounds (works_in_order calls store)) 0 0 (start (length calls) 1)
+    -- in the start state the rounds of all calls are left
+    at_start : Left (rounds (works_in_order calls store)) 0 0 (start_state (length calls) 1)
     unfolding visible_below store_after
     at_start = rests (first block) (λ key. refl) (omega arith) refl
 

@@ -1,4 +1,4 @@
--- What one worker did in each state that it reaches, whatever keys its runs read.
+-- What one worker did in each state that it reaches, for all keys that its runs read.
 use Rattle.std.proofs.Common.{◌≡◌, ◌+◌, ◌*◌, nat_lt, nat_le, ℕ, zero, suc, Bool, false, List, [], ◌∷◌, ◌++◌, Option, None, Some, Result, Ok, arith, sym, ap, subst, ◌∙◌, inl, inr}
 use Rattle.std.specs.FinMap.{len}
 use Rattle.std.proofs.lemmas.Bool.{cases_lt, cond_both}
@@ -23,7 +23,7 @@ use Rattle.stm_state.proofs.Rounds.{answered_here, clear_below, to_run, run_aske
 use Rattle.stm_state.proofs.OneWorkerPhases.{Comes, Rests, Runs, Moves, Waits, Checks, within_block, first, begins, told_asked, told_so, did_all, reads_on, records_on, moves_on, finishes_on, waits_on, checks_on, decides_on}
 
 module _ (block : Block) where
-  -- where it is
+  -- the phases of the worker
   data Phase (s : State) : Type 0 where
     rests : {d steps told : ℕ} → Rests block d steps told s → Phase s
     runs : {d steps told : ℕ} {answers : List StorageAnswer} → Runs block d steps told answers s → Phase s
@@ -34,11 +34,11 @@ module _ (block : Block) where
   -- ---- a step
 
   module _ (s t : State) (inv : Invariant block 1 t) where
-    -- it comes to one state
+    -- the step leads to this state
     comes : (add : Counts → Counts) (u : State) → ◌≡◌ {A = Option (Result State Limit)} (Some (Ok (counted add 0 u))) (Some (Ok t)) → Comes block Phase add u → Phase t
     comes add u k h = subst (λ x. Invariant block 1 x → Phase x) (same_state (counted add 0 u) t k) h inv
 
-    -- a state that is the same
+    -- the same, with an equal state
     comes_to : (add : Counts → Counts) (u : State) {v : State} → v ≡ u → ◌≡◌ {A = Option (Result State Limit)} (Some (Ok (counted add 0 v))) (Some (Ok t)) → Comes block Phase add u → Phase t
     comes_to add u same k h = comes add u (ap (λ x. Some (Ok (counted add 0 x))) (sym same) ∙ k) h
 
@@ -47,7 +47,7 @@ module _ (block : Block) where
     by_task step at k = ap (λ task. step_with block 0 task step s) (sym at) ∙ k
 
     module _ {d steps told : ℕ} where
-      -- where the calls below d are through
+      -- the calls below d are finished
       rests_on : (step : Step) → Rests block d steps told s → step_with block 0 Idle step s ≡ Some (Ok t) → Phase t
       rests_on Ask h k = elim (cases_lt d block.count) [
         | inl low ↦ comes_to one_asking (to_run block s) (run_asked block s d h.now low) k (λ i. runs (begins h low i))
@@ -55,7 +55,7 @@ module _ (block : Block) where
       ]
       rests_on step h k = absurd (none_ok t k)
 
-      -- where call d is run
+      -- the record of call d's run
       hands_in : (answers : List StorageAnswer) → Runs block d steps told answers s → (o : Option Receipt) → record_within d answers 0 o s ≡ Some (Ok t) → Phase t
       hands_in answers h None k = absurd (none_ok t k)
       hands_in answers h (Some receipt) k =
@@ -72,7 +72,7 @@ module _ (block : Block) where
       runs_on answers Record h k = hands_in answers h (block.borne_out d (replies_of answers)) k
       runs_on answers step h k = absurd (none_ok t k)
 
-      -- where the keys of its run are moved
+      -- the keys of its run are moved
       moves_next : (run : Recorded) (keys : List (List ℕ)) (new : Bool) (step : Step) → Moves block d steps told run keys new s → step_with block 0 (Moving d keys new) step s ≡ Some (Ok t) → Phase t
       moves_next run (key ∷ keys) new MoveKey h k = comes one_step (after_move block s d run key keys new h.now) k (λ i. moves (moves_on h i))
       moves_next run [] new FinishExecution h k =
@@ -80,7 +80,7 @@ module _ (block : Block) where
           comes_to one_step (with_task 0 Idle (finished block s d run new h.now within)) (executed_is block s d run new h.now within) k (λ i. waits (finishes_on h within i))
       moves_next run keys new step h k = absurd (none_ok t k)
 
-      -- where it is EXECUTED
+      -- call d is EXECUTED
       waits_next : (step : Step) → Waits block d steps told s → step_with block 0 Idle step s ≡ Some (Ok t) → Phase t
       waits_next Ask h k = let within = within_block h.now in comes_to one_asking (to_check block s) (check_asked block s d h.now within) k (λ i. checks (waits_on h within i))
       waits_next step h k = absurd (none_ok t k)
@@ -106,7 +106,7 @@ module _ (block : Block) where
       let inv = worker_kept block 1 w s t (invariant_kept block 1 s before) w_in step k in
       goes_on s t inv step (phase_of s before) (subst (λ x. worker_step block x step s ≡ Some (Ok t)) none k)
 
-  -- where it is done all calls are through
+  -- once the worker is done, all calls are finished
   done_in : (s : State) → IsOver block s → Phase s → (steps told : ℕ) × OneWorkerDid block.count steps (2 * block.count + told) told s
   done_in s over (rests {steps = steps} {told = told} h) = let e = h.now.runs_from in let all = over.execution in (steps, told, did_all h (omega (arith, e, all)))
   done_in s over (runs h) = let none = over.idle 0 in let some = h.now.does in cc

@@ -1,4 +1,4 @@
--- Where workers are done with a job, the receipts and the storage are those of running its calls in order.
+-- Once workers are done with a job, the receipts and the storage are those of running its calls in order.
 use Rattle.std.proofs.Common.{◌≡◌, ◌<◌, ℕ, suc, List, [], ◌∷◌, length, map, get_or, slice_get, Option, None, Some, arith, refl, ap, ◌∙◌}
 use Rattle.std.specs.FinMap.{get}
 use Rattle.std.proofs.lemmas.List.{length-map, get_or-map}
@@ -19,11 +19,11 @@ use Rattle.stm_state.proofs.Serials.{serial_at_done}
 abbrev EndsEach : List Invocation → (ℕ → Storage) → (ℕ → Receipt) → Type 0
 EndsEach calls before receipt = (i : ℕ) → i < length calls → (replies : List Reply) × AreFrom (before i) replies × (borne_out_by (slice_get calls i) replies ≡ Some (receipt i))
 
--- each storage is the one before it with the receipt's writes laid over it
+-- each storage is the one before it with the receipt's writes applied
 abbrev LaysEach : List Invocation → (ℕ → Storage) → (ℕ → Receipt) → Type 0
 LaysEach calls before receipt = (i : ℕ) → i < length calls → before (suc i) ≡ apply_writes (before i) (receipt i).writes
 
--- receipts that follow on each other storage by storage are those of the calls in order
+-- receipts and storages that follow from each other in this way are those of the calls in order
 in_order : (calls : List Invocation) (before : ℕ → Storage) (receipt : ℕ → Receipt) (xs : List (Option Receipt)) → EndsEach calls before receipt → LaysEach calls before receipt
     → length xs ≡ length calls → ((i : ℕ) → i < length calls → get_or xs i None ≡ Some (receipt i)) → (xs ≡ map Some (receipts_of calls (before 0))) × (before (length calls) ≡ store_after calls (before 0))
 unfolding receipts_of store_after
@@ -40,7 +40,7 @@ in_order (call ∷ calls) before receipt (x ∷ xs) each lays same has =
       rest.1 ∙ ap (store_after calls) step,
     )
 
--- at done the receipts and the storage are those of the calls in order
+-- once workers are done, the receipts and the storage are those of the calls in order
 pub in_order_at_done : DoneIsInOrder
 in_order_at_done calls store workers s reached done =
     let serial = serial_at_done (block_of calls store) workers s reached done in

@@ -1,4 +1,4 @@
--- What the versions that an origin names say of what is seen.
+-- What is seen at a key, by the versions that its origin names.
 use Rattle.std.proofs.Common.{◌≡◌, ℕ, true, List, [], ◌∷◌, Option, None, Some, refl, sym, ap, ◌∙◌}
 use Rattle.std.specs.Cmp.Derive.{both_true}
 use Rattle.rv_ledger.specs.Change.{Content, ContentChange, add, apply_change}
@@ -17,7 +17,7 @@ changes_in e i (Found w n content) h = (h.1.0 ∷ [], (h.1.1, tt))
 changes_in e i (Blocked w) h = ([], tt)
 changes_in e i (Passed w n amount below) h = let rest = changes_in e i below h.2 in (change.Sum amount ∷ rest.0, (h.1, rest.1))
 
--- what is seen over a base is what such changes make of it
+-- the value seen over a base is what these changes make of the base
 made_in : (e : ℕ → Option Entry) (i : ℕ) (seen : Visible) (base : Content) → IsThere e i seen → (changes : List ContentChange) → StandWith e (named (origin_in seen)) changes → value_seen base seen ≡ apply_all changes base
 made_in e i Base base h [] stand = refl
 made_in e i Base base h (c ∷ changes) stand = absurd stand
@@ -40,7 +40,7 @@ module _ (e : ℕ → Option Entry) (i : ℕ) where
   pub made_of_changes : (base : Content) (changes : List ContentChange) → StandWith e (named (origin_in (visible_below e i))) changes → value_seen base (visible_below e i) ≡ apply_all changes base
   made_of_changes base changes stand = made_in e i (visible_below e i) base (seen_there e i) changes stand
 
--- where no estimate is met, what is seen has its own origin
+-- if no estimate is met, what is seen has its own origin
 pub own_origin : (seen : Visible) → blocker seen ≡ None → is_origin (origin_in seen) seen ≡ true
 own_origin Base h = refl
 own_origin (Found w n content) h = both_true (equal_itself w) (equal_itself n)

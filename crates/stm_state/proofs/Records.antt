@@ -1,4 +1,4 @@
--- Keeping a run whose keys are to move keeps the invariant.
+-- Recording a run, whose keys must then be moved, keeps the invariant.
 use Rattle.std.proofs.Common.{◌≡◌, ◌<◌, ◌⊎◌, ◌&&◌, ◌||◌, not, ℕ, Bool, true, false, is_some, option_map, List, length, Option, None, Some, arith, refl, sym, ap, subst, inl, inr, length-set}
 use Rattle.std.specs.FinMap.{get}
 use Rattle.rv_ledger.specs.Change.{ContentChange}
@@ -22,7 +22,7 @@ use Rattle.stm_state.proofs.Tests.{resized}
 use Rattle.stm_state.proofs.Asks.{same_entries}
 use Rattle.stm_state.proofs.Writes.{distinct_to_move, to_move, no_new_key}
 
--- an entry before the first key is moved, where its key is to move
+-- an entry whose key must be moved, before the first key is moved
 unmoved_first : (o old : Option ContentChange) (entry : Option Entry) (there new : Bool) → entry ≡ option_map (λ c. Estimate) old → there ≡ (is_some o || (not (is_some o) && is_some old)) → (new ≡ false → is_some o ≡ true → is_some old ≡ true) → there ≡ true
     → IsUnmovedEntry new entry
 unmoved_first None None entry there new at moves no_new is = cc
@@ -31,7 +31,7 @@ unmoved_first (Some x) (Some y) entry there new at moves no_new is = inl at
 unmoved_first (Some x) None entry there true at moves no_new is = inr (at, refl)
 unmoved_first (Some x) None entry there false at moves no_new is = let r : false ≡ true = no_new refl refl in cc
 
--- an entry before the first key is moved: what the run wrote there stands, or its key is to move
+-- an entry before the first key is moved: it is what the run wrote there, or its key must still be moved
 amid_first : (n : ℕ) (o old : Option ContentChange) (entry : Option Entry) (there new : Bool) → entry ≡ option_map (λ c. Estimate) old → there ≡ (is_some o || (not (is_some o) && is_some old)) → (new ≡ false → is_some o ≡ true → is_some old ≡ true)
     → (entry ≡ option_map (λ c. Stands n c) o) ⊎ ((there ≡ true) × IsUnmovedEntry new entry)
 amid_first n None None entry there new at moves no_new = inl at
@@ -44,7 +44,6 @@ module _ (block : Block) (s : State) (w i : ℕ) (answers : List StorageAnswer) 
   has_i : owned_by (task_at s w) ≡ Some i
   has_i = ap owned_by runs
 
-  -- call i is EXECUTING
   is_executing : (call_at s i).status ≡ Executing
   is_executing = f.running w i (ap run_by runs)
 

@@ -1,8 +1,8 @@
--- A list that is refused for a limit meets it.
+-- A list that is refused for a limit leads to a state that meets the limit.
 use Rattle.std.proofs.Common.{◌≡◌, ◌<◌, nat_lt, nat_le, ◌&&◌, ℕ, Bool, true, false, if◌then◌else◌, List, [], ◌∷◌, length, Option, None, Some, Result, Ok, Err, refl, subst}
 use Rattle.rv_ledger.specs.Key.{Storage}
 use Rattle.rv_ledger.specs.Call.{Invocation}
-use Rattle.stm_state.specs.State.{State, start, task_at, is_done}
+use Rattle.stm_state.specs.State.{State, start_state, task_at, is_done}
 use Rattle.stm_state.specs.Steps.{Limit}
 use Rattle.stm_state.specs.Done.{MeetsLimit, Reached, started, stepped, block_of}
 use Rattle.stm_state.proofs.Tests.{lt_says}
@@ -13,7 +13,7 @@ module _ (calls : List Invocation) (store : Storage) (workers : ℕ) (limit : Li
   same_limit : (other : Limit) → ◌≡◌ {A = Result State DriveRefusal} (Err (Limited other)) (Err (Limited limit)) → other ≡ limit
   same_limit other h = cc
 
-  -- a list that is used up meets none
+  -- a list that is used up meets no limit
   used_up : (b : Bool) (s : State) → ◌≡◌ {A = Result State DriveRefusal} (if b then Ok s else Err NotDone) (Err (Limited limit)) → ⊥
   used_up true s h = cc
   used_up false s h = cc
@@ -24,11 +24,11 @@ module _ (calls : List Invocation) (store : Storage) (workers : ℕ) (limit : Li
   bad_worker : ◌≡◌ {A = Result State DriveRefusal} (Err BadWorker) (Err (Limited limit)) → ⊥
   bad_worker h = cc
 
-  -- a state from which a list that is refused so meets the limit
+  -- if a list is refused for the limit from a reached state on, the limit is met
   Meets : List ℕ → State → Type 0
   Meets ws s = Reached (block_of calls store) workers s → driven calls store workers ws s ≡ Err (Limited limit) → MeetsLimit (block_of calls store) workers limit
 
-  -- by what the first entry's step comes to
+  -- by the result of the first entry's step
   by_result : (ws : List ℕ) → ((t : State) → Meets ws t) → (w : ℕ) (s : State) → Reached (block_of calls store) workers s → w < workers → (r : Option (Result State Limit)) → due_result calls store w s ≡ r → continue_drive (λ t. driven calls store workers ws t) r ≡ Err (Limited limit) → MeetsLimit (block_of calls store) workers limit
   unfolding Meets
   by_result ws rest w s reached below None is k = absurd (not_done k)
@@ -53,10 +53,10 @@ module _ (calls : List Invocation) (store : Storage) (workers : ℕ) (limit : Li
   meets [] s reached h = absurd (used_up (is_done s) s h)
   meets (w ∷ ws) s reached h = by_entry ws (λ t. meets ws t) w s reached (nat_lt w workers) refl h
 
-  -- from the start on
+  -- from the start state on
   pub refused_list_meets : (schedule : List ℕ) → drive_of calls store workers schedule ≡ Err (Limited limit) → MeetsLimit (block_of calls store) workers limit
   unfolding Meets
   refused_list_meets schedule h = by_count (nat_le 1 workers && nat_le workers 32) h where
-    by_count : (b : Bool) → (if b then driven calls store workers schedule (start (length calls) workers) else Err BadWorker) ≡ Err (Limited limit) → MeetsLimit (block_of calls store) workers limit
-    by_count true k = meets schedule (start (length calls) workers) started k
+    by_count : (b : Bool) → (if b then driven calls store workers schedule (start_state (length calls) workers) else Err BadWorker) ≡ Err (Limited limit) → MeetsLimit (block_of calls store) workers limit
+    by_count true k = meets schedule (start_state (length calls) workers) started k
     by_count false k = absurd (bad_worker k)

@@ -1,4 +1,4 @@
--- Readying all calls that are parked on one keeps the invariant.
+-- Making all calls READY that are parked on one call keeps the invariant.
 use Rattle.std.proofs.Common.{◌≡◌, ◌<◌, ◌≤◌, ◌-◌, ◌≢◌, ◌⊎◌, ◌+◌, ◌&&◌, min, ℕ, zero, suc, Bool, true, false, cond, List, [], ◌∷◌, get_or, Option, None, Some, arith, refl, sym, ap, subst, ◌∙◌, inl, inr}
 use Rattle.std.proofs.lemmas.Bool.{and_parts}
 use Rattle.stm_state.specs.declared.state.Status.TheVariants.{Ready, Executing, Executed, Aborting}
@@ -15,7 +15,7 @@ use Rattle.stm_state.proofs.SafeReads.{cover_same, safe_still}
 use Rattle.stm_state.proofs.Tests.{is_aborting_says, equal_itself, equal_says}
 use Rattle.stm_state.proofs.Asks.{same_entries}
 
--- a call is as before, or was parked on call i and is readied
+-- a call is as before, or was parked on call i and becomes READY
 pub readied_cases : (i : ℕ) (call : CallState) → (resume_if_parked i call ≡ call) ⊎ ((is_parked_on i call ≡ true) × (resume_if_parked i call ≡ next_incarnation call))
 readied_cases i call = go (is_parked_on i call) refl
   where
@@ -27,7 +27,7 @@ readied_cases i call = go (is_parked_on i call) refl
 pub parked_aborting : (i : ℕ) (call : CallState) → is_parked_on i call ≡ true → call.status ≡ Aborting
 parked_aborting i call h = is_aborting_says call.status (and_parts (is_aborting call.status) (is_some_of call.parked i) h).0
 
--- a call that isn't ABORTING stays
+-- a call that is not ABORTING stays as it is
 pub not_parked : (i : ℕ) (call : CallState) → call.status ≢ Aborting → resume_if_parked i call ≡ call
 not_parked i call ne = elim (readied_cases i call) [ inl same ↦ same | inr q ↦ absurd (ne (parked_aborting i call q.0)) ]
 
@@ -56,24 +56,24 @@ none_parked i call h k = elim (readied_cases i call) [
 
 -- ---- the execution index lowered
 
--- a step of lowering does not raise
+-- one step of lowering does not raise the index
 lower_of : (b : Bool) (x p : ℕ) → cond b (min x p) x ≤ x
 lower_of true x p = omega arith
 lower_of false x p = omega arith
 
--- and lowers to a call that is parked
+-- one step lowers the index to at most a call that is parked
 lower_to : (b : Bool) (x p : ℕ) → b ≡ true → cond b (min x p) x ≤ p
 lower_to true x p h = omega arith
 lower_to false x p h = cc
 
--- it isn't raised
+-- the lowered index is at most the index before
 pub lowered_low : (i x p : ℕ) (calls : List CallState) → least_parked_call i x p calls ≤ x
 lowered_low i x p [] = omega arith
 lowered_low i x p (call ∷ calls) =
     let rest = lowered_low i (cond (is_parked_on i call) (min x p) x) (p + 1) calls in
     let low = lower_of (is_parked_on i call) x p in omega (arith, rest, low)
 
--- it is at most each call that was parked
+-- the lowered index is at most each call that is parked
 pub lowered_at : (i x p : ℕ) (calls : List CallState) (k : ℕ) → is_parked_on i (get_or calls k fresh) ≡ true → least_parked_call i x p calls ≤ p + k
 lowered_at i x p [] k h = cc
 lowered_at i x p (call ∷ calls) zero h =
@@ -84,16 +84,15 @@ lowered_at i x p (call ∷ calls) (suc k) h =
 
 -- ---- the invariant
 
--- a view with all calls that are parked on call i readied
+-- a view in which all calls that were parked on call i are READY
 abbrev pub woken_view : View → ℕ → ℕ → View
 woken_view v i execution = record { calls = λ j. resume_if_parked i (v.calls j); tasks = v.tasks; entries = v.entries; execution = execution; validation = v.validation }
 
 module _ (block : Block) (v : View) (i execution : ℕ) (f : ViewInvariant block v) (low : execution ≤ v.execution) (least : (j : ℕ) → is_parked_on i (v.calls j) ≡ true → execution ≤ j) where
-  -- the view afterwards
   abbrev now : View
   now = woken_view v i execution
 
-  -- what holds of a call as it was, and readied where it was parked, holds of it now
+  -- what holds of a call as it was, and of a parked call once it is READY, holds of the call now
   woken_calls : (j : ℕ) (P : CallState → Type 0) → P (v.calls j) → (is_parked_on i (v.calls j) ≡ true → (v.calls j).status ≡ Aborting → P (next_incarnation (v.calls j))) → P (resume_if_parked i (v.calls j))
   woken_calls j P h k = elim (readied_cases i (v.calls j)) [
     | inl same ↦ subst P (sym same) h
@@ -106,15 +105,15 @@ module _ (block : Block) (v : View) (i execution : ℕ) (f : ViewInvariant block
   woken_ready : (j : ℕ) → (resume_if_parked i (v.calls j)).status ≡ Ready → execution ≤ j
   woken_ready j = woken_calls j (λ call. call.status ≡ Ready → execution ≤ j) (λ h. let r = f.ready j h in omega (arith, r)) (λ on _ _. least j on)
 
-  -- EXECUTING calls are run
+  -- some worker runs each EXECUTING call
   woken_executing : (j : ℕ) → (resume_if_parked i (v.calls j)).status ≡ Executing → (x : ℕ) × (run_by (v.tasks x) ≡ Some j)
   woken_executing j = woken_calls j (λ call. call.status ≡ Executing → (x : ℕ) × (run_by (v.tasks x) ≡ Some j)) (f.executing j) (λ _ _ h. cc)
 
-  -- calls that are run are EXECUTING
+  -- calls that a worker runs are EXECUTING
   woken_running : (x j : ℕ) → run_by (v.tasks x) ≡ Some j → (resume_if_parked i (v.calls j)).status ≡ Executing
   woken_running x j h = woken_calls j (λ call. call.status ≡ Executing) (f.running x j h) (λ _ aborts. let r = f.running x j h in cc)
 
-  -- ABORTING calls still have a lower call that is not EXECUTED, or are marked
+  -- ABORTING calls still wait for a lower call that is not EXECUTED, or are marked
   woken_waits : (j : ℕ) → (resume_if_parked i (v.calls j)).status ≡ Aborting
       → ((b : ℕ) × ((resume_if_parked i (v.calls j)).parked ≡ Some b) × (b < j) × ((resume_if_parked i (v.calls b)).status ≢ Executed)) ⊎ ((x : ℕ) × (marked_by (v.tasks x) ≡ Some j))
   woken_waits j = woken_calls j (λ call. call.status ≡ Aborting → ((b : ℕ) × (call.parked ≡ Some b) × (b < j) × ((resume_if_parked i (v.calls b)).status ≢ Executed)) ⊎ ((x : ℕ) × (marked_by (v.tasks x) ≡ Some j)))
@@ -144,7 +143,7 @@ module _ (block : Block) (v : View) (i execution : ℕ) (f : ViewInvariant block
   woken_aborting_limit : (j : ℕ) → (resume_if_parked i (v.calls j)).status ≡ Aborting → (resume_if_parked i (v.calls j)).incarnation ≤ incarnation_limit - 1
   woken_aborting_limit j = woken_calls j (λ call. call.status ≡ Aborting → call.incarnation ≤ incarnation_limit - 1) (f.aborting_limit j) (λ _ _ h. cc)
 
-  -- entries are those of the calls, where nobody turns their keys
+  -- entries are those of the calls, if no worker turns their keys
   woken_entries : (j : ℕ) (key : List ℕ) → IsUnturned v j → v.entries key j ≡ entry_of (resume_if_parked i (v.calls j)) key
   woken_entries j key free = woken_calls j (λ call. v.entries key j ≡ entry_of call key) (f.entries j key free) (λ _ aborts. same_entries block v f j (λ h. cc) free key)
 
@@ -152,7 +151,7 @@ module _ (block : Block) (v : View) (i execution : ℕ) (f : ViewInvariant block
   woken_moving : (x j : ℕ) (keys : List (List ℕ)) (new : Bool) → v.tasks x ≡ Moving j keys new → IsMoved (resume_if_parked i (v.calls j)) (λ key. v.entries key j) keys new
   woken_moving x j keys new h = woken_calls j (λ call. IsMoved call (λ key. v.entries key j) keys new) (f.moving x j keys new h) (λ _ aborts. let r = f.running x j (ap run_by h) in cc)
 
-  -- a call whose keys are marked is parked on nothing, so it stays
+  -- a call whose keys are marked is not parked, so it stays
   woken_marking : (x j : ℕ) (keys : List (List ℕ)) → v.tasks x ≡ Marking j keys → IsMarked (resume_if_parked i (v.calls j)) (λ key. v.entries key j) keys
   woken_marking x j keys h = woken_calls j (λ call. IsMarked call (λ key. v.entries key j) keys) (f.marking x j keys h)
       (λ on _. let names = parked_names i (v.calls j) on in let none = (f.marking x j keys h).unparked in cc)
@@ -161,7 +160,7 @@ module _ (block : Block) (v : View) (i execution : ℕ) (f : ViewInvariant block
   woken_executed : (j : ℕ) → (resume_if_parked i (v.calls j)).status ≡ Executed → (run : Recorded) × ((resume_if_parked i (v.calls j)).last ≡ Some run)
   woken_executed j = woken_calls j (λ call. call.status ≡ Executed → (run : Recorded) × (call.last ≡ Some run)) (f.executed j) (λ _ _ h. cc)
 
-  -- incarnations grow, and versions stay
+  -- incarnations do not fall, and versions stay
   pub woken_grows : Grows v (woken_view v i execution)
   woken_grows = record {
     incarnations = λ j. woken_calls j (λ call. (v.calls j).incarnation ≤ call.incarnation) (omega arith) (λ _ _. omega arith);
@@ -178,7 +177,7 @@ module _ (block : Block) (v : View) (i execution : ℕ) (f : ViewInvariant block
   woken_validating : (x j n left : ℕ) (failed : Bool) → v.tasks x ≡ Validating j n left failed → n ≤ (resume_if_parked i (v.calls j)).incarnation
   woken_validating x j n left failed h = let old = f.validating x j n left failed h in let more = woken_grows.incarnations j in omega (arith, old, more)
 
-  -- validations of present incarnations are of calls that are EXECUTED with these reads, or marked
+  -- if a validation is at its call's present incarnation, the call is EXECUTED with enough reads, or ABORTING and not parked
   woken_current : (x j left : ℕ) (failed : Bool) → v.tasks x ≡ Validating j (resume_if_parked i (v.calls j)).incarnation left failed → IsChecked (resume_if_parked i (v.calls j)) left
   woken_current x j left failed = woken_calls j (λ call. v.tasks x ≡ Validating j call.incarnation left failed → IsChecked call left)
       (f.current x j left failed)

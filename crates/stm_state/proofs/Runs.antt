@@ -1,4 +1,4 @@
--- A run that goes on, is answered, starts again or is parked keeps the invariant.
+-- A run that is answered, is blocked, starts again or is parked keeps the invariant.
 use Rattle.std.proofs.Common.{◌≡◌, ◌<◌, ◌≢◌, ◌++◌, ℕ, List, [], ◌∷◌, length, Option, None, Some, arith, refl, ap, inl, inr, length-set}
 use Rattle.std.specs.List.{AllByRecursion}
 use Rattle.std.specs.FinMap.{get}
@@ -24,18 +24,17 @@ use Rattle.stm_state.proofs.Tests.{not_executed_says, resized}
 use Rattle.stm_state.proofs.Asks.{same_entries}
 
 module _ (block : Block) (s : State) (w i : ℕ) (answers : List StorageAnswer) (waits : Option ℕ) (f : ViewInvariant block (view_of s)) (runs : task_at s w ≡ Running i answers waits) (w_in : w < length s.tasks) where
-  -- call i is EXECUTING
   is_executing : (call_at s i).status ≡ Executing
   is_executing = f.running w i (ap run_by runs)
 
-  -- the worker has it, and nobody turns its keys
+  -- the worker owns call i, and no worker turns its keys
   has_i : owned_by (task_at s w) ≡ Some i
   has_i = ap owned_by runs
 
   is_unturned : IsUnturned (view_of s) i
   is_unturned = unturned_run block (view_of s) f i w has_i (ap turned_by runs)
 
-  -- the run is answered, blocked or begun again
+  -- the run is answered, is blocked or starts again
   goes : (xs : List StorageAnswer) (o : Option ℕ) → AllByRecursion (IsRightAnswer block (view_of s) i) xs → ((b : ℕ) → o ≡ Some b → b < i) → ViewInvariant block (view_of (with_task w (Running i xs o) s))
   goes xs o right low = others_kept block (view_of s) (view_of (with_task w (Running i xs o) s)) i w (call_at s i) (Running i xs o) (record {
     calls = stays_at (call_at s) i;
@@ -52,7 +51,7 @@ module _ (block : Block) (s : State) (w i : ℕ) (answers : List StorageAnswer) 
     recorded = f.recorded i;
   }) f (λ h. let r = is_executing in cc) (λ j left failed ne h. cc) (inl (ap lowered_by runs)) (λ j read k. k)
 
-  -- what the run was answered so far is right
+  -- the answers that the run got so far are right
   right_so_far : AllByRecursion (IsRightAnswer block (view_of s) i) answers
   right_so_far = f.answered w i answers waits runs
 
@@ -61,7 +60,7 @@ module _ (block : Block) (s : State) (w i : ℕ) (answers : List StorageAnswer) 
   known_all key [] h = tt
   known_all key (version ∷ versions) h = ((h.0.0, inl h.0.1), known_all key versions h.1)
 
-  -- what the run is given is right
+  -- the answer that the run gets is right
   given_right : (key : List ℕ) → IsRightAnswer block (view_of s) i (given block.base key (reading s.versions key i))
   given_right key = record {
     known = known_all key (named (origin_in (reading s.versions key i))) (named_stand (entry_at s.versions key) i);
@@ -74,11 +73,10 @@ module _ (block : Block) (s : State) (w i : ℕ) (answers : List StorageAnswer) 
       (all_append (IsRightAnswer block (view_of s) i) answers (given block.base key (reading s.versions key i) ∷ []) right_so_far (given_right key, tt)) (λ b k. cc)
   seen_kept_by key (Some b) h = goes answers (Some b) right_so_far (λ x k. let same : b ≡ x = cc in let low = (blocked_at (entry_at s.versions key) i b h).0 in omega (arith, same, low))
 
-  -- a call that is parked
+  -- the call, parked on call b
   abbrev waiting : ℕ → CallState
   waiting b = record (call_at s i) { status = Aborting; parked = Some b }
 
-  -- the state after parking
   abbrev parked_state : ℕ → State
   parked_state b = with_task w Idle (with_call i (waiting b) s)
 

@@ -1,4 +1,4 @@
--- Where workers are done the result is that of the calls one after another.
+-- Once workers are done, the result is that of running the calls one after another.
 use Rattle.std.proofs.Common.{◌≡◌, ◌<◌, ◌≤◌, ◌≢◌, ◌&&◌, ◌==◌, ℕ, zero, suc, true, option_map, List, [], ◌∷◌, length, map, slice_get, Option, None, Some, arith, refl, sym, ap, subst, ◌∙◌, inl, inr}
 use Rattle.std.specs.List.{AllByRecursion, list_all}
 use Rattle.std.specs.FinMap.{get, empty, get-empty}
@@ -23,7 +23,7 @@ use Rattle.stm_state.specs.declared.state.Status.TheVariants.{Ready, Executing, 
 use Rattle.stm_state.specs.declared.state.Recorded.{Recorded}
 use Rattle.stm_state.specs.declared.state.Task.TheVariants.{Idle}
 use Rattle.stm_state.specs.State.{State, fresh, call_at, task_at, is_idle, is_done}
-use Rattle.stm_state.specs.Steps.{Block, read_of, reads_of, write_of}
+use Rattle.stm_state.specs.Steps.{Block, read_of, recorded_reads, write_of}
 use Rattle.stm_state.specs.Parts.{StandWith}
 use Rattle.stm_state.specs.Done.{HasVersionsAlone, Reached, IsSerial}
 use Rattle.stm_state.proofs.Invariant.{view_of, ViewInvariant, AreSafe, Invariant, IsCovered, IsRight, IsRightAnswer, validated, ahead, entry_of, lowered_by}
@@ -33,15 +33,15 @@ use Rattle.stm_state.proofs.Writes.{content_after, applied_get}
 use Rattle.stm_state.proofs.Asks.{executed_entries}
 use Rattle.stm_state.proofs.InvariantKept.{invariant_kept}
 
--- ---- what done says
+-- ---- what being done means
 
--- both indices are past the last call and nobody has a task
+-- both indices are past the last call, and no worker has a task
 pub record IsOver (block : Block) (s : State) : Type 0 where
   pub execution : s.execution ≡ block.count
   pub validation : s.validation ≡ block.count
   pub idle : (w : ℕ) → task_at s w ≡ Idle
 
--- so it is where workers are done
+-- this holds once workers are done
 pub over_at_done : (block : Block) (workers : ℕ) (s : State) → Invariant block workers s → is_done s ≡ true → IsOver block s
 unfolding is_done
 over_at_done block workers s h done =
@@ -55,28 +55,28 @@ over_at_done block workers s h done =
 
 -- ---- the receipts and the storage before each call
 
--- a receipt where there is none
+-- the receipt of a call without a recorded run
 abbrev no_receipt : Receipt
 no_receipt = record { end = Returned; gas = 0; pc = 0; out = []; regs = []; writes = empty }
 
--- the receipt of a recorded run
+-- the receipt of a recorded run, if there is one
 abbrev receipt_or : Option Recorded → Receipt
 receipt_or None = no_receipt
 receipt_or (Some run) = run.receipt
 
--- the storage after some receipts
+-- the storage after a number of receipts
 abbrev pub store_after_receipts : Storage → (ℕ → Receipt) → ℕ → Storage
 store_after_receipts base receipt zero = base
 store_after_receipts base receipt (suc i) = apply_writes (store_after_receipts base receipt i) (receipt i).writes
 
--- what is seen of an EXECUTED call lies over what is seen below it
+-- what is seen of an EXECUTED call is its change applied to what is seen below it
 held_see : (base : Content) (i n : ℕ) (o : Option ContentChange) (below : Visible) → value_seen base (visible_over i (option_map (λ c. Stands n c) o) below) ≡ content_after o (value_seen base below)
 held_see base i n None below = refl
 held_see base i n (Some (change.Value value)) below = refl
 held_see base i n (Some change.Gone) below = refl
 held_see base i n (Some (change.Sum amount)) below = refl
 
--- so where a call sees the storage before it, the next one sees that storage with the call's writes
+-- so if a call sees the storage before it, the next call sees that storage with the call's writes applied
 pub seen_after : (base : Content) (versions : Versions) (key : List ℕ) (i n : ℕ) (before : Storage) (writes : WriteMap) → entry_at versions key i ≡ option_map (λ c. Stands n c) (get writes key)
     → value_seen base (visible_below (entry_at versions key) i) ≡ get before key → value_seen base (visible_below (entry_at versions key) (suc i)) ≡ get (apply_writes before writes) key
 unfolding visible_below
@@ -84,24 +84,24 @@ seen_after base versions key i n before writes own seen =
     let below : Visible = visible_below (entry_at versions key) i in
     ap (λ e. value_seen base (visible_over i e below)) own ∙ held_see base i n (get writes key) below ∙ ap (content_after (get writes key)) seen ∙ sym (applied_get before writes key)
 
--- a version is no estimate
+-- a version is not an estimate
 pub no_estimate : (o : Option ContentChange) (n : ℕ) → option_map (λ c. Stands n c) o ≢ Some Estimate
 no_estimate None n h = cc
 no_estimate (Some c) n h = cc
 
--- what holds of each element by its place holds of all
+-- what holds of the element at each place holds of all elements
 all_by_place : {X : Type 0} (P : X → Type 0) (xs : List X) → ((place : ℕ) (x : X) → slice_get xs place ≡ Some x → P x) → AllByRecursion P xs
 all_by_place P [] h = tt
 all_by_place P (x ∷ xs) h = (h zero x refl, all_by_place P xs (λ place y at. h (suc place) y at))
 
--- where nobody has a task, no read is yet to be met
+-- if no worker has a task, no read must still be met
 none_covered : (s : State) (i place : ℕ) → ((w : ℕ) → task_at s w ≡ Idle) → IsCovered (view_of s) i place → ⊥
 none_covered s i place idle (validated w left failed task meets) = let none = idle w in cc
 none_covered s i place idle (ahead q) = let none : lowered_by (task_at s q.worker) ≡ None = ap lowered_by (idle q.worker) in let some = q.task in cc
 
--- so what is safe stands
-safe_stands : (s : State) (i : ℕ) → ((w : ℕ) → task_at s w ≡ Idle) → AreSafe (view_of s) i → AllByRecursion (λ read. stands_among (entry_at s.versions) i read ≡ true) (reads_of (call_at s i).last)
-safe_stands s i idle h = all_by_place (λ read. stands_among (entry_at s.versions) i read ≡ true) (reads_of (call_at s i).last)
+-- so each read that is safe stands
+safe_stands : (s : State) (i : ℕ) → ((w : ℕ) → task_at s w ≡ Idle) → AreSafe (view_of s) i → AllByRecursion (λ read. stands_among (entry_at s.versions) i read ≡ true) (recorded_reads (call_at s i).last)
+safe_stands s i idle h = all_by_place (λ read. stands_among (entry_at s.versions) i read ≡ true) (recorded_reads (call_at s i).last)
     (λ place read at. elim (h place read at) [ inl stand ↦ stand | inr covered ↦ absurd (none_covered s i place idle covered) ])
 
 module _ (block : Block) (s : State) (f : ViewInvariant block (view_of s)) (over_now : IsOver block s) where
@@ -113,7 +113,7 @@ module _ (block : Block) (s : State) (f : ViewInvariant block (view_of s)) (over
   abbrev before : ℕ → Storage
   before i = store_after_receipts block.base receipt_at i
 
-  -- where all lower calls are EXECUTED, so is a call
+  -- if all lower calls are EXECUTED, the call is too
   status_below : (i : ℕ) → i < block.count → ((j : ℕ) → j < i → (call_at s j).status ≡ Executed) → (st : Status) → (call_at s i).status ≡ st → st ≡ Executed
   status_below i l rest Ready h = let low = f.ready i h in let e = over_now.execution in absurd (omega (arith, low, e, l))
   status_below i l rest Executing h = let run = f.executing i h in let runs = run.1 in let none = over_now.idle run.0 in cc
@@ -128,12 +128,11 @@ module _ (block : Block) (s : State) (f : ViewInvariant block (view_of s)) (over
   executed_below zero i l within = absurd (omega arith)
   executed_below (suc m) i l within = status_below i within (λ j low. executed_below m j (omega (arith, low, l)) (omega (arith, low, within))) (call_at s i).status refl
 
-  -- all calls are EXECUTED
   pub all_executed : (i : ℕ) → i < block.count → (call_at s i).status ≡ Executed
   all_executed i within = executed_below (suc i) i (omega arith) within
 
-  -- all reads stand
-  all_stand : (i : ℕ) → i < block.count → AllByRecursion (λ read. stands_among (entry_at s.versions) i read ≡ true) (reads_of (call_at s i).last)
+  -- all reads of a call stand
+  all_stand : (i : ℕ) → i < block.count → AllByRecursion (λ read. stands_among (entry_at s.versions) i read ≡ true) (recorded_reads (call_at s i).last)
   all_stand i within = safe_stands s i over_now.idle (f.safe i (all_executed i within) (let e = over_now.validation in omega (arith, e, within)))
 
   -- the entries of a call are its writes
@@ -177,7 +176,7 @@ module _ (block : Block) (s : State) (f : ViewInvariant block (view_of s)) (over
   ends_in i within =
       let run = receipt_is i within in
       let b = f.recorded i run.0 run.1 in
-      let reads : reads_of (call_at s i).last ≡ map read_of b.answers = ap reads_of run.1 ∙ sym b.reads in (
+      let reads : recorded_reads (call_at s i).last ≡ map read_of b.answers = ap recorded_reads run.1 ∙ sym b.reads in (
         replies_of b.answers,
         answers_are i (omega (arith, within)) b.answers (subst (λ xs. AllByRecursion (λ read. stands_among (entry_at s.versions) i read ≡ true) xs) reads (all_stand i within)) b.right,
         b.borne_out ∙ ap (λ o. Some (receipt_or o)) (sym run.1),
@@ -195,7 +194,7 @@ module _ (block : Block) (s : State) (f : ViewInvariant block (view_of s)) (over
     last = λ key. seen_is_store block.count (omega arith) key;
   }
 
-  -- the versions hold what the calls wrote and nothing else
+  -- no call past the last one has an entry, and no entry is an estimate
   pub versions_alone : length s.calls ≡ block.count → HasVersionsAlone block s
   versions_alone size = (
     past,
@@ -208,10 +207,10 @@ module _ (block : Block) (s : State) (f : ViewInvariant block (view_of s)) (over
       past : (key : List ℕ) (w : ℕ) → block.count ≤ w → entry_at s.versions key w ≡ None
       past key w content_after = f.entries w key (λ x h. let none = over_now.idle x in cc) ∙ ap (λ call. entry_of call key) (get_or_past s.calls w fresh (omega (arith, size, content_after)))
 
--- where workers are done, the result is that of the calls one after another
+-- once workers are done, the result is that of running the calls one after another
 pub serial_at_done : (block : Block) (workers : ℕ) (s : State) → Reached block workers s → is_done s ≡ true → IsSerial block s
 serial_at_done block workers s reached done = let h = invariant_kept block workers s reached in serial block s h.facts (over_at_done block workers s h done)
 
--- where workers are done, the versions hold what the calls wrote and nothing else
+-- once workers are done, no call past the last one has an entry, and no entry is an estimate
 pub versions_at_done : (block : Block) (workers : ℕ) (s : State) → Reached block workers s → is_done s ≡ true → HasVersionsAlone block s
 versions_at_done block workers s reached done = let h = invariant_kept block workers s reached in versions_alone block s h.facts (over_at_done block workers s h done) h.sized.calls

@@ -15,15 +15,15 @@ use Rattle.stm_state.proofs.Tests.{not_le_says}
 pub same_state : (s t : State) → ◌≡◌ {A = Option (Result State Limit)} (Some (Ok s)) (Some (Ok t)) → s ≡ t
 same_state s t h = cc
 
--- a step that is not due has none
+-- a step that is not due has no result
 pub none_ok : (t : State) → ◌≡◌ {A = Option (Result State Limit)} None (Some (Ok t)) → ⊥
 none_ok t h = cc
 
--- nor has one that is refused
+-- a step that is refused leads to no state
 pub err_ok : (e : Limit) (t : State) → ◌≡◌ {A = Option (Result State Limit)} (Some (Err e)) (Some (Ok t)) → ⊥
 err_ok e t h = cc
 
--- a step of a worker is made, and comes to a state
+-- a step of a worker is made, and leads to a state
 pub data IsMade (block : Block) (w : ℕ) (s : State) : Step → State → Type 0 where
   by_ask : task_at s w ≡ Idle → IsMade block w s Ask (counted one_asking w (after_ask w s))
   by_read : (i : ℕ) (answers : List StorageAnswer) (key : List ℕ) → task_at s w ≡ Running i answers None → IsMade block w s (ReadKey key) (counted one_step w (after_read_key block.base key w i answers s))
@@ -38,7 +38,7 @@ pub data IsMade (block : Block) (w : ℕ) (s : State) : Step → State → Type 
   by_abort : (i : ℕ) → task_at s w ≡ Marking i [] → IsMade block w s FinishAbort (counted one_step w (after_finish_abort w i s))
 
 module _ (block : Block) (w : ℕ) (s t : State) where
-  -- a state that it comes to
+  -- a state that the step leads to
   comes : (step : Step) (u : State) → IsMade block w s step u → ◌≡◌ {A = Option (Result State Limit)} (Some (Ok u)) (Some (Ok t)) → IsMade block w s step t
   comes step u h k = subst (IsMade block w s step) (same_state u t k) h
 
@@ -58,7 +58,7 @@ module _ (block : Block) (w : ℕ) (s t : State) where
   park_made i b answers at true below k = absurd (err_ok IncarnationLimit t k)
   park_made i b answers at false below k = comes Park _ (by_park i b answers at (not_le_says incarnation_limit (call_at s i).incarnation below)) k
 
-  -- by the task
+  -- by the worker's task
   made_by : (task : Task) → task_at s w ≡ task → (step : Step) → step_with block w task step s ≡ Some (Ok t) → IsMade block w s step t
   made_by Idle at Ask k = comes Ask _ (by_ask at) k
   made_by (Running i answers None) at (ReadKey key) k = comes (ReadKey key) _ (by_read i answers key at) k
@@ -73,6 +73,6 @@ module _ (block : Block) (w : ℕ) (s t : State) where
   made_by (Marking i []) at FinishAbort k = comes FinishAbort _ (by_abort i at) k
   made_by task at step k = absurd (none_ok t k)
 
-  -- a step that a state follows is made
+  -- a step that leads to a state is made
   pub made : (step : Step) → worker_step block w step s ≡ Some (Ok t) → IsMade block w s step t
   made step k = made_by (task_at s w) refl step k

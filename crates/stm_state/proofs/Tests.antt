@@ -8,7 +8,7 @@ use Rattle.stm_state.specs.declared.state.Status.TheVariants.{Ready, Executed, A
 use Rattle.stm_state.specs.declared.state.Task.{Task}
 use Rattle.stm_state.specs.declared.state.Task.TheVariants.{Idle}
 use Rattle.stm_state.specs.State.{State, is_ready, is_executed, is_aborting, is_idle, is_done}
-use Rattle.stm_state.specs.Parts.{IsSized}
+use Rattle.stm_state.specs.Parts.{IsStateSized}
 
 -- what tests of a status say
 pub is_ready_says : (s : Status) → is_ready s ≡ true → s ≡ Ready
@@ -59,17 +59,17 @@ pub idle_says : (task : Task) → is_idle task ≡ true → task ≡ Idle
 idle_says Idle h = refl
 idle_says task h = cc
 
--- where all tasks of a list are idle, so is the one at each index, and past the end
+-- if all tasks of a list are idle, so is the one at each index, also past the end
 all_idle : (tasks : List Task) (w : ℕ) → list_all is_idle tasks ≡ true → get_or tasks w Idle ≡ Idle
 all_idle [] w h = refl
 all_idle (task ∷ tasks) zero h = idle_says task (and_parts (is_idle task) (list_all is_idle tasks) h).0
 all_idle (task ∷ tasks) (suc w) h = all_idle tasks w (and_parts (is_idle task) (list_all is_idle tasks) h).1
 
--- where workers are done nobody has a task
+-- once workers are done, no worker has a task
 pub idle_at_done : (s : State) → is_done s ≡ true → (w : ℕ) → get_or s.tasks w Idle ≡ Idle
 unfolding is_done
 idle_at_done s done w = all_idle s.tasks w (and_parts (s.execution == length s.calls && s.validation == length s.calls) (list_all is_idle s.tasks) done).1
 
--- sizes stay where the lengths do
-pub resized : (count workers : ℕ) (s t : State) → length t.calls ≡ length s.calls → length t.tasks ≡ length s.tasks → length t.counts ≡ length s.counts → length t.dones ≡ length s.dones → IsSized count workers s → IsSized count workers t
+-- sizes stay if the lengths do
+pub resized : (count workers : ℕ) (s t : State) → length t.calls ≡ length s.calls → length t.tasks ≡ length s.tasks → length t.counts ≡ length s.counts → length t.dones ≡ length s.dones → IsStateSized count workers s → IsStateSized count workers t
 resized count workers s t a b c d h = record { calls = a ∙ h.calls; tasks = b ∙ h.tasks; counts = c ∙ h.counts; dones = d ∙ h.dones }

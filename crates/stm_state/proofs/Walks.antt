@@ -1,7 +1,7 @@
--- A state is reached just where some list of steps leads to it.
+-- A state is reached exactly if some list of steps leads to it.
 use Rattle.std.proofs.Common.{◌≡◌, ◌<◌, ℕ, List, [], ◌∷◌, ◌++◌, Option, None, Some, Result, Ok, Err, refl, ap, subst, ◌∙◌}
 use Rattle.std.specs.List.{AllByRecursion}
-use Rattle.stm_state.specs.State.{State, start}
+use Rattle.stm_state.specs.State.{State, start_state}
 use Rattle.stm_state.specs.Steps.{Block, Step, Limit, worker_step}
 use Rattle.stm_state.specs.Done.{Reached, started, stepped}
 use Rattle.stm_state.specs.Walk.{after_step, walk, LeadsTo, ReachedByList}
@@ -28,7 +28,7 @@ module _ (block : Block) where
   unfolding walk
   walk_first entry entries s t h = first_of_result entry entries s t (worker_step block entry.0 entry.1 s) refl h
 
-  -- the empty list leads nowhere
+  -- the empty list leads from a state only to that state
   pub walk_none : (s t : State) → walk block [] s ≡ Some t → s ≡ t
   unfolding walk
   walk_none s t h = cc
@@ -44,25 +44,25 @@ module _ (block : Block) where
       let first = walk_first x xs s t h in
       walk_on x (xs ++ ys) s first.state first.step ∙ walk_joined xs ys first.state t first.rest
 
--- where a list leads from a reached state is reached
+-- the state that a list leads to from a reached state is reached
 pub reached_on : (block : Block) (workers : ℕ) (entries : List (ℕ × Step)) (s t : State) → Reached block workers s → AllByRecursion (λ entry. entry.0 < workers) entries → walk block entries s ≡ Some t → Reached block workers t
 reached_on block workers [] s t h within k = subst (Reached block workers) (walk_none block s t k) h
 reached_on block workers (entry ∷ entries) s t h within k =
     let first = walk_first block entry entries s t k in
     reached_on block workers entries first.state t (stepped entry.0 entry.1 h within.0 first.step) within.1 first.rest
 
--- the list of a reached state
+-- a list that leads to a reached state
 list_of : (block : Block) (workers : ℕ) (s : State) → Reached block workers s → (entries : List (ℕ × Step)) × LeadsTo block workers entries s
-list_of block workers s started = ([], record { within = tt; comes = walk_here block (start block.count workers) })
+list_of block workers s started = ([], record { within = tt; comes = walk_here block (start_state block.count workers) })
 list_of block workers t (stepped {s} w step before w_in k) =
     let rest = list_of block workers s before in
     let last : List (ℕ × Step) = (w, step) ∷ [] in (
       rest.0 ++ last,
       record {
         within = all_append (λ entry. entry.0 < workers) rest.0 last rest.1.within (w_in, tt);
-        comes = walk_joined block rest.0 last (start block.count workers) s rest.1.comes ∙ walk_on block (w, step) [] s t k ∙ walk_here block t;
+        comes = walk_joined block rest.0 last (start_state block.count workers) s rest.1.comes ∙ walk_on block (w, step) [] s t k ∙ walk_here block t;
       },
     )
 
 pub reached_by_list : ReachedByList
-reached_by_list block workers s = (list_of block workers s, λ h. reached_on block workers h.0 (start block.count workers) s started h.1.within h.1.comes)
+reached_by_list block workers s = (list_of block workers s, λ h. reached_on block workers h.0 (start_state block.count workers) s started h.1.within h.1.comes)

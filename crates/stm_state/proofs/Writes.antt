@@ -1,4 +1,4 @@
--- What a map has after an entry was changed, or writes were applied to a storage, and which keys a run is to move.
+-- What a map has after an entry was changed, or writes were applied to a storage, and which keys a run must move.
 use Rattle.std.proofs.Common.{◌≡◌, ◌≢◌, ◌&&◌, ◌||◌, ℕ, Bool, true, false, not, cond, T, is_some, option_map, fold, map, List, [], ◌∷◌, ◌++◌, Option, None, Some, refl, sym, ap, ◌∙◌, inl, inr}
 use Rattle.std.specs.declared.cmp.Ordering.{Ordering}
 use Rattle.std.specs.declared.cmp.Ordering.TheVariants.{Less, Equal, Greater}
@@ -27,7 +27,7 @@ use Rattle.stm_state.proofs.Invariant.{AreDistinct}
 
 -- ---- each entry of a map is what the map has at its key
 
--- an entry is found behind a lower key
+-- an entry is still found after a lower key is put before it
 found_later : {X : Type 0} (e : List ℕ × X) (es xs : List (List ℕ × X)) → T (below_all key_cmp e.0 xs) → AllByRecursion (λ x. find key_cmp x.0 es ≡ Some x.1) xs → AllByRecursion (λ x. find key_cmp x.0 (e ∷ es) ≡ Some x.1) xs
 found_later e es [] h k = tt
 found_later e es (x ∷ xs) h k =
@@ -44,7 +44,7 @@ found_each (e ∷ es) h = let both = and_yes (below_all key_cmp e.0 es) (is_sort
   found_later e es es both.0 (found_each es both.1),
 )
 
--- what follows of one follows of all
+-- what follows for one element follows for all
 all_map : {X : Type 0} (P Q : X → Type 0) → ((x : X) → P x → Q x) → (xs : List X) → AllByRecursion P xs → AllByRecursion Q xs
 all_map P Q f [] h = tt
 all_map P Q f (x ∷ xs) h = (f x h.0, all_map P Q f xs h.1)
@@ -59,11 +59,11 @@ entries_found m = all_map (λ e. find key_cmp e.0 (entries m) ≡ Some e.1) (λ 
 abbrev pub at_key : {X : Type 0} → List ℕ → List (List ℕ × X) → Bool
 at_key key es = list_any (eq_by_cmp key_cmp key) (map (λ e. e.0) es)
 
--- keys that compare alike are one
+-- keys that compare as equal are equal
 pub same_key : (key k : List ℕ) → eq_by_cmp key_cmp key k ≡ true → key ≡ k
 same_key key k h = tells_apart exact_bytes key k h
 
--- of writes whose keys pass a test some is at a key where the test passes it and some write is at it
+-- among the writes whose keys pass a test, one is at a key exactly if the key passes the test and some write is at it
 at_key_filter : {X : Type 0} (p : List ℕ → Bool) (key : List ℕ) (es : List (List ℕ × X)) → at_key key (filter (λ e. p e.0) es) ≡ (p key && at_key key es)
 at_key_filter p key [] = none (p key)
   where
@@ -81,7 +81,7 @@ at_key_filter {X} p key (e ∷ es) = go (at_key_filter p key es) (p e.0) refl (e
     go rest false ha true hb false hc = rest ∙ ap (λ t. t && at_key key es) hc
     go rest false ha false hb c hc = rest ∙ ap (λ t. t && at_key key es) hc
 
--- where no write's key passes a test, no key of a write does
+-- if no write's key passes a test, a key that some write is at does not pass it
 at_key_none : {X : Type 0} (p : List ℕ → Bool) (key : List ℕ) (es : List (List ℕ × X)) → list_any (λ e. p e.0) es ≡ false → at_key key es ≡ true → p key ≡ false
 at_key_none p key [] h k = cc
 at_key_none p key (e ∷ es) h k =
@@ -98,56 +98,55 @@ at_key_none p key (e ∷ es) h k =
 pub changed_other : (v : Versions) (k : List ℕ) (i : ℕ) (o : Option Entry) (key : List ℕ) (j : ℕ) → j ≢ i → get (changed v (k, i) o) (key, j) ≡ get v (key, j)
 changed_other v k i o key j ne = elim (get_other v (k, i) o (key, j)) [ inl p ↦ p | inr q ↦ absurd (ne (ap (λ (p : Place). p.1) q)) ]
 
--- a comparison that then finds nothing
+-- a comparison with `Equal` after it stays the same
 then_equal : (o : Ordering) → ordering_then o Equal ≡ o
 then_equal Less = refl
 then_equal Equal = refl
 then_equal Greater = refl
 
--- places of one writer are alike where their keys are
+-- places of one writer are equal exactly if their keys are
 one_writer : (key k : List ℕ) (i : ℕ) → eq_by_cmp place_cmp (key, i) (k, i) ≡ eq_by_cmp key_cmp key k
 one_writer key k i = ap is_eq (ap (ordering_then (key_cmp key k)) (tied_itself nat_cmp_total i) ∙ then_equal (key_cmp key k))
 
--- what the writer then has at a key
+-- the entry of that writer at a key afterwards
 pub changed_at : (v : Versions) (k : List ℕ) (i : ℕ) (o : Option Entry) (key : List ℕ) → get (changed v (k, i) o) (key, i) ≡ cond (eq_by_cmp key_cmp key k) o (get v (key, i))
 changed_at v k i o key = get_changed v (k, i) o (key, i) ∙ ap (λ b. cond b o (get v (key, i))) (one_writer key k i)
 
--- ---- the keys that a record is to move
+-- ---- the keys that a record must move
 
--- the last run wrote at a key where it has a write there
+-- some write of the last run is at a key exactly if the run has a write there
 pub at_key_last : (key : List ℕ) (last : Option Recorded) → at_key key (written_by last) ≡ is_some (write_of last key)
 at_key_last key None = refl
 at_key_last key (Some run) = sym (contains_key-keys run.receipt.writes key)
 
--- a key is withdrawn where the last run wrote it and this one did not
+-- a key is withdrawn exactly if the last run wrote it and this one did not
 left_at : (key : List ℕ) (last : Option Recorded) (writes : WriteMap) → at_key key (left_over last writes) ≡ (not (is_some (get writes key)) && is_some (write_of last key))
 left_at key last writes = at_key_filter (λ k. not (contains_key writes k)) key (written_by last) ∙ ap (λ b. not (is_some (get writes key)) && b) (at_key_last key last)
 
--- the keys that a run is to move are those that it wrote or the last one did
+-- the keys that a run must move are those that it or the last run wrote
 pub to_move : (key : List ℕ) (last : Option Recorded) (writes : WriteMap) → has_key key (keys_to_move last writes) ≡ (is_some (get writes key) || (not (is_some (get writes key)) && is_some (write_of last key)))
 to_move key last writes =
     list_any-append (eq_by_cmp key_cmp key) (keys_of (entries writes)) (keys_of (left_over last writes))
     ∙ ap (λ b. b || at_key key (left_over last writes)) (sym (contains_key-keys writes key))
     ∙ ap (λ b. is_some (get writes key) || b) (left_at key last writes)
 
--- keys in order are distinct from the first
+-- the first key of a list in order is not among the later ones
 not_above : {X : Type 0} (e : List ℕ × X) (es : List (List ℕ × X)) → T (below_all key_cmp e.0 es) → at_key e.0 es ≡ false
 not_above e [] h = refl
 not_above e (x ∷ es) h =
     let both = and_yes (is_lt (key_cmp e.0 x.0)) (below_all key_cmp e.0 es) h in
     ap (λ b. b || at_key e.0 es) (ap is_eq (less (key_cmp e.0 x.0) both.0)) ∙ not_above e es both.1
 
--- and so are all of them
+-- so the keys of a list in order are distinct
 distinct_in_order : {X : Type 0} (es : List (List ℕ × X)) → T (is_sorted key_cmp es) → AreDistinct (map (λ e. e.0) es)
 distinct_in_order [] h = tt
 distinct_in_order (e ∷ es) h = let both = and_yes (below_all key_cmp e.0 es) (is_sorted key_cmp es) h in (not_above e es both.0, distinct_in_order es both.1)
 
--- a conjunction with false
 and_false : (a : Bool) → (a && false) ≡ false
 and_false true = refl
 and_false false = refl
 
--- the keys that pass a test stay distinct
+-- keys that pass a test stay distinct
 distinct_filter : {X : Type 0} (p : List ℕ → Bool) (es : List (List ℕ × X)) → AreDistinct (map (λ e. e.0) es) → AreDistinct (map (λ e. e.0) (filter (λ e. p e.0) es))
 distinct_filter p [] h = tt
 distinct_filter {X} p (e ∷ es) h = go (distinct_filter p es h.1) (p e.0)
@@ -156,7 +155,6 @@ distinct_filter {X} p (e ∷ es) h = go (distinct_filter p es h.1) (p e.0)
     go rest true = (at_key_filter p e.0 es ∙ ap (λ t. p e.0 && t) h.0 ∙ and_false (p e.0), rest)
     go rest false = rest
 
--- a test that holds makes a choice hold
 pub or_true : (a b : Bool) → b ≡ true → (a || b) ≡ true
 or_true true b h = refl
 or_true false b h = h
@@ -174,13 +172,13 @@ distinct_left : (last : Option Recorded) (writes : WriteMap) → AreDistinct (ke
 distinct_left None writes = tt
 distinct_left (Some run) writes = distinct_filter (λ k. not (contains_key writes k)) (entries run.receipt.writes) (distinct_in_order (entries run.receipt.writes) (entries_sorted run.receipt.writes))
 
--- the keys that a run is to move are distinct
+-- the keys that a run must move are distinct
 pub distinct_to_move : (last : Option Recorded) (writes : WriteMap) → AreDistinct (keys_to_move last writes)
 distinct_to_move last writes =
     distinct_append (keys_of (entries writes)) (keys_of (left_over last writes)) (distinct_in_order (entries writes) (entries_sorted writes)) (distinct_left last writes)
     (λ key h. left_at key last writes ∙ ap (λ b. not b && is_some (write_of last key)) (contains_key-keys writes key ∙ h))
 
--- what it says that a run wrote a key
+-- if a run wrote a key, it has a write there
 wrote_says : (last : Option Recorded) (key : List ℕ) → not (wrote last key) ≡ false → is_some (write_of last key) ≡ true
 wrote_says None key h = cc
 wrote_says (Some run) key h = go (is_some (get run.receipt.writes key)) h
@@ -196,12 +194,12 @@ no_new_key last writes key none there =
 
 -- ---- entries by what a run wrote
 
--- a version by what a run wrote is at its incarnation, and the run wrote it
+-- a version made from what a run wrote is at its incarnation, and the run wrote its change
 pub version_is : (o : Option ContentChange) (m n : ℕ) (x : ContentChange) → option_map (λ c. Stands m c) o ≡ Some (Stands n x) → (n ≡ m) × (o ≡ Some x)
 version_is None m n x h = cc
 version_is (Some c) m n x h = (cc, let same : c ≡ x = cc in ap Some same)
 
--- an estimate is no version
+-- an estimate is not a version
 pub no_version : (o : Option ContentChange) (n : ℕ) (x : ContentChange) → option_map (λ c. Estimate) o ≡ Some (Stands n x) → ⊥
 no_version None n x h = cc
 no_version (Some c) n x h = cc
@@ -217,14 +215,14 @@ chosen : (k key : List ℕ) (store : Storage) (amount : ℕ) (b : Bool) → (b �
 chosen k key store amount true same = ap (λ q. Some (add (get store q) amount)) (sym (same refl))
 chosen k key store amount false same = refl
 
--- what a storage has after one write
+-- what a storage has at a key after one write
 get_applied : (store : Storage) (k : List ℕ) (c : ContentChange) (key : List ℕ) → get (apply_write store k c) key ≡ cond (eq_by_cmp key_cmp key k) (apply_change c (get store key)) (get store key)
 get_applied store k (change.Value value) key = get-insert nat_list_cmp_total store k value key
 get_applied store k change.Gone key = get-remove nat_list_cmp_total store k key
 get_applied store k (change.Sum amount) key =
     get-insert nat_list_cmp_total store k (add (get store k) amount) key ∙ chosen k key store amount (eq_by_cmp key_cmp key k) (same_key key k)
 
--- the change of a key among some writes, of which one at most is at it
+-- the change at a key among some writes, of which at most one is at that key
 abbrev change_at : List ℕ → List (List ℕ × ContentChange) → Option ContentChange
 change_at key [] = None
 change_at key (e ∷ es) = cond (eq_by_cmp key_cmp key e.0) (Some e.1) (change_at key es)
@@ -249,7 +247,7 @@ found_change : (key : List ℕ) (es : List (List ℕ × ContentChange)) → chan
 found_change key [] = refl
 found_change key (e ∷ es) = ap (cond (eq_by_cmp key_cmp key e.0) (Some e.1)) (found_change key es)
 
--- a storage after writes has at a key what the change of it makes of what it had
+-- after some writes, a storage has at a key what the key's change makes of the content before
 pub applied_get : (store : Storage) (writes : WriteMap) (key : List ℕ) → get (apply_writes store writes) key ≡ content_after (get writes key) (get store key)
 unfolding apply_writes
 applied_get store writes key =

@@ -10,8 +10,8 @@ use Rattle.stm_state.specs.declared.state.CallState.{CallState}
 use Rattle.stm_state.specs.declared.state.Task.{Task}
 use Rattle.stm_state.specs.declared.state.Task.TheVariants.{Idle, Running, Moving, Validating, Marking}
 
--- the calls and their versions; the execution index and the validation index; each worker's task, what it did, and how many
--- of its askings were answered Done; and the number of writes that all recorded runs had together
+-- the calls and their versions; the execution index and the validation index. For each worker its task, its counts and the number
+-- of its `Ask` steps answered Done. Then the number of writes that all recorded runs had together
 pub record State : Type 0 where
   pub calls : List CallState
   pub versions : Versions
@@ -22,17 +22,17 @@ pub record State : Type 0 where
   pub dones : List ℕ
   pub record_count : ℕ
 
--- a call at the start
+-- a call in the start state
 abbrev pub fresh : CallState
 fresh = record { status = Ready; incarnation = 0; parked = None; last = None }
 
--- what a worker did at the start
+-- the counts of a worker in the start state
 abbrev pub no_counts : Counts
 no_counts = record { steps = 0; asks = 0; executions = 0; validations = 0 }
 
--- the start of a block of n calls with a number of workers
-abbrev pub start : ℕ → ℕ → State
-start n workers = record {
+-- the start state of a block of n calls with this number of workers
+abbrev pub start_state : ℕ → ℕ → State
+start_state n workers = record {
   calls = replicate n fresh;
   versions = empty;
   execution = 0;
@@ -43,7 +43,7 @@ start n workers = record {
   record_count = 0;
 }
 
--- the call of an index, and the task of a worker
+-- the call at an index, and the task of a worker
 abbrev pub call_at : State → ℕ → CallState
 call_at s i = get_or s.calls i fresh
 
@@ -57,7 +57,7 @@ with_call i call s = record s { calls = set s.calls i call }
 abbrev pub with_task : ℕ → Task → State → State
 with_task w task s = record s { tasks = set s.tasks w task }
 
--- tests
+-- tests of a status and of a task
 abbrev pub is_ready : Status → Bool
 is_ready Ready = true
 is_ready Executing = false

@@ -1,4 +1,4 @@
--- The steps of a worker, as functions of the state (Block-STM): each step reads or changes the entry of one key at most.
+-- The steps of a worker, as functions of the state (Block-STM). Each step reads or changes the entry of at most one key.
 use Rattle.std.specs.Prelude.{ℕ, zero, suc, ◌+◌, ◌-◌, ◌==◌, nat_lt, nat_le, min, Bool, true, false, not, ◌&&◌, if◌then◌else◌, List, [], ◌∷◌, ◌++◌, map, length, get_or, set, slice_get, Option, None, Some, Result, Ok, Err}
 use Rattle.std.specs.List.{list_any, filter}
 use Rattle.std.specs.Option.{option_map}
@@ -21,14 +21,14 @@ use Rattle.stm_state.specs.declared.state.Task.TheVariants.{Idle, Running, Movin
 use Rattle.stm_state.specs.Limits.{record_limit, incarnation_limit}
 use Rattle.stm_state.specs.State.{State, call_at, task_at, with_call, with_task, no_counts, is_ready, is_executed, is_aborting, is_done}
 
--- a block as the workers see it: the number of its calls, the storage before it, and the receipt of the call of an index that
--- answers bear out, if they bear one out
+-- a block as the workers see it: the number of its calls, the storage before it, and the receipt of the call at an index that
+-- replies bear out, or None
 pub record Block : Type 0 where
   pub count : ℕ
   pub base : Storage
   pub borne_out : ℕ → List Reply → Option Receipt
 
--- a state after a step adds to a worker's counts
+-- a state after a change to a worker's counts
 abbrev pub counted : (Counts → Counts) → ℕ → State → State
 counted add w s = record s { counts = set s.counts w (add (get_or s.counts w no_counts)) }
 
@@ -44,20 +44,20 @@ one_execution c = record c { steps = c.steps + 1; executions = c.executions + 1 
 abbrev pub one_validation : Counts → Counts
 one_validation c = record c { steps = c.steps + 1; validations = c.validations + 1 }
 
--- the reads of a recorded run, and the writes of its receipt; empty where there is no run
-abbrev pub reads_of : Option Recorded → List Read
-reads_of None = []
-reads_of (Some run) = run.reads
+-- the reads of a recorded run, and the writes of its receipt; empty if there is no run
+abbrev pub recorded_reads : Option Recorded → List Read
+recorded_reads None = []
+recorded_reads (Some run) = run.reads
 
 abbrev pub written_by : Option Recorded → List (List ℕ × ContentChange)
 written_by None = []
 written_by (Some run) = entries run.receipt.writes
 
--- a call that is readied: it is READY at the next incarnation, and not parked
+-- a call that is made READY again: it is at the next incarnation, and not parked
 abbrev pub next_incarnation : CallState → CallState
 next_incarnation call = record call { status = Ready; incarnation = call.incarnation + 1; parked = None }
 
--- ask: it is answered Done
+-- ask: the worker is answered Done
 abbrev pub count_done : ℕ → State → State
 count_done w s = record s { dones = set s.dones w (get_or s.dones w 0 + 1) }
 
@@ -67,7 +67,7 @@ ask_validation w s =
     let i = s.validation in
     let call = call_at s i in
     let t = record s { validation = i + 1 } in
-    if is_executed call.status then with_task w (Validating i call.incarnation (length (reads_of call.last)) false) t else t
+    if is_executed call.status then with_task w (Validating i call.incarnation (length (recorded_reads call.last)) false) t else t
 
 -- ask: the execution index goes up by one, and the worker runs its call if that call is READY
 unfoldable pub ask_execution : ℕ → State → State
@@ -77,8 +77,8 @@ ask_execution w s =
     let t = record s { execution = i + 1 } in
     if is_ready call.status then with_task w (Running i [] None) (with_call i (record call { status = Executing }) t) else t
 
--- ask: it is answered Done where all is done; else the validation index goes up if it is behind the execution index; else the
--- execution index goes up if a call is left; else nothing happens
+-- ask: the worker is answered Done if all is done. Otherwise the validation index goes up if it is below the execution index.
+-- Otherwise the execution index goes up if a call is left. Otherwise nothing happens
 abbrev pub after_ask : ℕ → State → State
 after_ask w s =
     if is_done s then count_done w s
@@ -86,11 +86,11 @@ after_ask w s =
     else if nat_lt s.execution (length s.calls) then ask_execution w s
     else s
 
--- read: what a run is given of a key where no estimate is met
+-- read: the answer that a run gets for a key if no estimate is met
 abbrev pub given : Storage → List ℕ → Visible → StorageAnswer
 given base key seen = record { key = key; value = value_seen (get base key) seen; origin = origin_in seen }
 
--- read: the run is given its answer, or it is blocked on the writer of the estimate that was met
+-- read: the run gets its answer, or it is blocked on the writer of the estimate that it met
 abbrev pub answered_by : Storage → List ℕ → ℕ → List StorageAnswer → Visible → Option ℕ → Task
 answered_by base key i answers seen None = Running i (answers ++ given base key seen ∷ []) None
 answered_by base key i answers seen (Some writer) = Running i answers (Some writer)
@@ -101,14 +101,14 @@ answered_with base key i answers seen = answered_by base key i answers seen (blo
 abbrev pub after_read_key : Storage → List ℕ → ℕ → ℕ → List StorageAnswer → State → State
 after_read_key base key w i answers s = with_task w (answered_with base key i answers (reading s.versions key i)) s
 
--- park: if the call whose estimate blocked the run is EXECUTED by now, the run starts again; else its call is parked on that
--- call
+-- park: if the call whose estimate blocked the run is EXECUTED by now, the run starts again. Otherwise the call of the run is
+-- parked on that call
 unfoldable pub after_park : ℕ → ℕ → ℕ → State → State
 after_park w i b s =
     if is_executed (call_at s b).status then with_task w (Running i [] None) s
     else with_task w Idle (with_call i (record (call_at s i) { status = Aborting; parked = Some b }) s)
 
--- what a run read
+-- the read of an answer: its key and its origin
 abbrev pub read_of : StorageAnswer → Read
 read_of answer = record { key = answer.key; origin = answer.origin }
 
@@ -116,7 +116,8 @@ read_of answer = record { key = answer.key; origin = answer.origin }
 abbrev pub left_over : Option Recorded → WriteMap → List (List ℕ × ContentChange)
 left_over last writes = filter (λ write. not (contains_key writes write.0)) (written_by last)
 
--- whether the last recorded run wrote a key; and whether a run wrote a key that it did not: in a first run each key is new
+-- whether the last recorded run wrote a key; and whether a run wrote a key that the last recorded run did not write. In a first
+-- run each key is new
 abbrev pub wrote : Option Recorded → List ℕ → Bool
 wrote None key = false
 wrote (Some run) key = contains_key run.receipt.writes key
@@ -124,24 +125,23 @@ wrote (Some run) key = contains_key run.receipt.writes key
 abbrev pub has_new_key : Option Recorded → WriteMap → Bool
 has_new_key last writes = list_any (λ write. not (wrote last write.0)) (entries writes)
 
--- the keys of some writes
 abbrev pub keys_of : List (List ℕ × ContentChange) → List (List ℕ)
 keys_of writes = map (λ write. write.0) writes
 
--- record: the keys that a run is to move, first those that it wrote, then those that only the run before it wrote
+-- record: the keys that a run must move, first those that it wrote, then those that only the previous run wrote
 abbrev pub keys_to_move : Option Recorded → WriteMap → List (List ℕ)
 keys_to_move last writes = keys_of (entries writes) ++ keys_of (left_over last writes)
 
--- what a recorded run wrote at a key
+-- the change that a recorded run wrote at a key, or None
 abbrev pub write_of : Option Recorded → List ℕ → Option ContentChange
 write_of None key = None
 write_of (Some run) key = get run.receipt.writes key
 
--- move key: a version at the call's incarnation where its recorded run wrote the key, else no entry
+-- move key: a version at the call's incarnation if its recorded run wrote the key, and no entry otherwise
 abbrev pub version_of : CallState → List ℕ → Option Entry
 version_of call key = option_map (λ change. Stands call.incarnation change) (write_of call.last key)
 
--- whether a number is there and is this one
+-- whether an optional number is Some of this number
 abbrev pub is_some_of : Option ℕ → ℕ → Bool
 is_some_of None i = false
 is_some_of (Some j) i = j == i
@@ -150,21 +150,21 @@ is_some_of (Some j) i = j == i
 abbrev pub is_parked_on : ℕ → CallState → Bool
 is_parked_on i call = is_aborting call.status && is_some_of call.parked i
 
--- a call that is parked on call i is readied, and any other stays
+-- a call that is parked on call i becomes READY, and any other stays as it is
 abbrev pub resume_if_parked : ℕ → CallState → CallState
 resume_if_parked i call = if is_parked_on i call then next_incarnation call else call
 
--- an index lowered to the least of the calls that are parked on call i; the first call of the list has number p
+-- an index lowered to the lowest call that is parked on call i; the first call of the list has number p
 abbrev pub least_parked_call : ℕ → ℕ → ℕ → List CallState → ℕ
 least_parked_call i x p [] = x
 least_parked_call i x p (call ∷ calls) = least_parked_call i (if is_parked_on i call then min x p else x) (p + 1) calls
 
--- finish execution: all calls that are parked on call i are readied, and the execution index is lowered to the least of them
+-- finish execution: all calls that are parked on call i become READY, and the execution index is lowered to the lowest of them
 unfoldable pub resume_dependents : ℕ → State → State
 resume_dependents i s = record s { calls = map (resume_if_parked i) s.calls; execution = least_parked_call i s.execution 0 s.calls }
 
--- finish execution: what is validated again. Where the validation index is past call i: all calls from i on if the run wrote a
--- new key, else call i, by this worker. Where it is not past call i: nothing, since the index still comes to it
+-- finish execution: what is validated again. If the validation index is past call i, it is all calls from i on if the run wrote a
+-- new key, and otherwise call i, by this worker. If the index is not past call i, nothing is, since the index still reaches it
 unfoldable pub to_validate : ℕ → ℕ → Bool → Task → State → State
 to_validate w i new task s =
     if nat_lt i s.validation then (if new then with_task w Idle (record s { validation = i }) else with_task w task s)
@@ -174,7 +174,7 @@ to_validate w i new task s =
 abbrev pub recorded_run : List StorageAnswer → Receipt → Recorded
 recorded_run answers receipt = record { receipt = receipt; reads = map read_of answers }
 
--- record: the run is kept, and its keys are to move
+-- record: the run is kept, and its keys must be moved
 abbrev pub after_record : ℕ → ℕ → List StorageAnswer → Receipt → State → State
 after_record w i answers receipt s =
     let call = call_at s i in
@@ -185,11 +185,11 @@ after_record w i answers receipt s =
 abbrev pub after_move_key : ℕ → ℕ → List ℕ → List (List ℕ) → Bool → State → State
 after_move_key w i key keys new s = with_task w (Moving i keys new) (record s { versions = changed s.versions (key, i) (version_of (call_at s i) key) })
 
--- finish execution: the call is EXECUTED
+-- finish execution: the call becomes EXECUTED
 abbrev pub after_finish_execution : ℕ → ℕ → Bool → State → State
 after_finish_execution w i new s =
     let call = call_at s i in
-    to_validate w i new (Validating i call.incarnation (length (reads_of call.last)) false)
+    to_validate w i new (Validating i call.incarnation (length (recorded_reads call.last)) false)
     (resume_dependents i (with_call i (record call { status = Executed }) s))
 
 -- check read, decide: whether a call is EXECUTED at an incarnation
@@ -202,17 +202,17 @@ read_stands versions i None = true
 read_stands versions i (Some read) = stands versions i read
 
 abbrev pub next_stands : ℕ → ℕ → State → Bool
-next_stands i left s = let reads = reads_of (call_at s i).last in read_stands s.versions i (slice_get reads (length reads - left))
+next_stands i left s = let reads = recorded_reads (call_at s i).last in read_stands s.versions i (slice_get reads (length reads - left))
 
--- check read: if the call is no longer EXECUTED at the incarnation, the task ends; else the next read is checked, and it fails
--- the validation if it does not stand
+-- check read: if the call is no longer EXECUTED at the incarnation, the task ends. Otherwise the next read is checked, and the
+-- validation fails if the read does not stand
 unfoldable pub after_check_read : ℕ → ℕ → ℕ → ℕ → State → State
 after_check_read w i n left s =
     if is_executed_at n (call_at s i) then (if next_stands i (suc left) s then with_task w (Validating i n left false) s else with_task w (Validating i n (suc left) true) s)
     else with_task w Idle s
 
--- decide: if a read did not stand and the call is EXECUTED at the incarnation, the call is ABORTING now, and the keys that it
--- wrote are to become estimates; else the task ends
+-- decide: if a read did not stand and the call is EXECUTED at the incarnation, the call becomes ABORTING, and the keys that it
+-- wrote must become estimates. Otherwise the task ends
 unfoldable pub after_decide : ℕ → ℕ → ℕ → Bool → State → State
 after_decide w i n failed s =
     let call = call_at s i in
@@ -223,8 +223,8 @@ after_decide w i n failed s =
 abbrev pub after_mark_estimate : ℕ → ℕ → List ℕ → List (List ℕ) → State → State
 after_mark_estimate w i key keys s = with_task w (Marking i keys) (record s { versions = changed s.versions (key, i) (Some Estimate) })
 
--- finish abort: the call is readied, and the validation index is lowered to the next call; if the execution index is past the
--- call, the worker runs it
+-- finish abort: the call becomes READY, and the validation index is lowered to at most the next call. If the execution index is
+-- past the call, the worker runs the call at once
 unfoldable pub after_finish_abort : ℕ → ℕ → State → State
 after_finish_abort w i s =
     let call = call_at s i in
@@ -232,7 +232,7 @@ after_finish_abort w i s =
     if nat_lt i s.execution then with_task w (Running i [] None) (with_call i (record (next_incarnation call) { status = Executing }) t)
     else with_task w Idle (with_call i (next_incarnation call) t)
 
--- a step by its kind; a read names its key
+-- the kinds of steps; a read names its key
 pub data Step : Type 0 where
   Ask : Step
   ReadKey : List ℕ → Step
@@ -250,8 +250,8 @@ pub data Limit : Type 0 where
   ArenaFull : Limit
   IncarnationLimit : Limit
 
--- record: due where the answers bear a receipt out; refused as ArenaFull where the arena has no room for the writes, and else
--- as IncarnationLimit where the incarnation is at the limit
+-- record: due if the answers bear a receipt out. It is refused as ArenaFull if the arena has no room for the writes, and
+-- otherwise as IncarnationLimit if the incarnation is at the limit
 abbrev pub record_within : ℕ → List StorageAnswer → ℕ → Option Receipt → State → Option (Result State Limit)
 record_within i answers w None s = None
 record_within i answers w (Some receipt) s =
@@ -259,7 +259,7 @@ record_within i answers w (Some receipt) s =
     else if nat_le incarnation_limit (call_at s i).incarnation then Some (Err IncarnationLimit)
     else Some (Ok (counted one_execution w (after_record w i answers receipt s)))
 
--- the result of a worker's step, by its task; None where the step is not due
+-- the result of a worker's step, by its task; None if the step is not due
 abbrev pub step_with : Block → ℕ → Task → Step → State → Option (Result State Limit)
 step_with block w Idle Ask s = Some (Ok (counted one_asking w (after_ask w s)))
 step_with block w (Running i answers None) (ReadKey key) s = Some (Ok (counted one_step w (after_read_key block.base key w i answers s)))
@@ -275,6 +275,6 @@ step_with block w (Marking i (key ∷ keys)) MarkEstimate s = Some (Ok (counted 
 step_with block w (Marking i []) FinishAbort s = Some (Ok (counted one_step w (after_finish_abort w i s)))
 step_with block w task step s = None
 
--- a step of a worker in a state; None where it is not due
+-- the result of a worker's step in a state; None if the step is not due
 abbrev pub worker_step : Block → ℕ → Step → State → Option (Result State Limit)
 worker_step block w step s = step_with block w (task_at s w) step s

@@ -1,5 +1,5 @@
-//! The state of a speculative run of a block, the steps that workers make on it, and the theorem that
-//! their result, once they are done, is that of running the calls in order (Block-STM).
+//! The state of a speculative run of a block and the steps that workers make on it (Block-STM). A theorem says that the result,
+//! once workers are done, is that of running the calls in order.
 #![tactic(auto)]
 
 mod laws;

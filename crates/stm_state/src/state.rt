@@ -1,14 +1,14 @@
-//! What the scheduler keeps of each call and of each worker.
+//! What the scheduler stores for each call and for each worker.
 
 use read_set::ReadSet;
 use rv_ledger::{Key, Receipt};
 use rv_step::StorageAnswer;
 use std::marker::Model;
 
-/// How far a call is.
+/// The status of a call.
 #[derive(Clone, Copy, Debug, PartialEq, Eq)]
 pub enum Status {
-    /// It is to be run.
+    /// It is ready to be run.
     Ready,
     /// A worker runs it, or moves the keys that its run wrote.
     Executing,
@@ -18,7 +18,7 @@ pub enum Status {
     Aborting,
 }
 
-/// A run of a call that was recorded.
+/// A recorded run of a call.
 #[derive(Drop)]
 pub struct Recorded {
     /// What the call did.
@@ -27,12 +27,12 @@ pub struct Recorded {
     pub reads: ReadSet,
 }
 
-/// What the scheduler keeps of a call.
+/// What the scheduler stores for a call.
 #[derive(Drop)]
 pub struct CallState {
-    /// How far it is.
+    /// The call's status.
     pub status: Status,
-    /// How often it was readied again, 0 to 65,535.
+    /// How often it was made READY again, 0 to 65,535.
     pub incarnation: u16,
     /// The index of the call that it is parked on, or None.
     pub parked: Option<u16>,
@@ -40,7 +40,7 @@ pub struct CallState {
     pub last: Option<Recorded>,
 }
 
-/// The answers that a run was given, in order.
+/// The answers that a run got, in order.
 #[derive(Drop)]
 pub struct Answers {
     items: Vec<StorageAnswer>,
@@ -55,7 +55,7 @@ impl Model for Answers {
     ghost view = { λ a. a.items.items };
 }
 
-/// Keys that are yet to be moved or marked, in order.
+/// The keys that must still be moved or marked, in order.
 #[derive(Drop)]
 pub struct Keys {
     items: Vec<Key>,
@@ -69,7 +69,7 @@ impl Model for Keys {
     ghost view = { λ k. k.items.items };
 }
 
-/// What a worker is doing.
+/// The task of a worker.
 #[derive(Drop)]
 pub enum Task {
     /// Nothing: it asks for work.
@@ -78,19 +78,19 @@ pub enum Task {
     Running {
         /// The call's index.
         call: u16,
-        /// The answers that the run was given so far.
+        /// The answers that the run got so far.
         answers: Answers,
         /// The index of the call whose estimate the run met, or None.
         blocked: Option<u16>,
     },
-    /// It moves the keys of a run that it handed in. First it publishes those that the run wrote, and then
-    /// it withdraws those that only the run before it wrote.
+    /// It moves the keys of a run that it recorded. First it publishes the keys that the run wrote. Then it withdraws those that
+    /// only the previous run wrote.
     Moving {
         /// The call's index.
         call: u16,
-        /// The keys that are yet to be moved.
+        /// The keys that must still be moved.
         keys: Keys,
-        /// Whether the run wrote a key that the run before it did not write.
+        /// Whether the run wrote a key that the previous run did not write.
         new_key: bool,
     },
     /// It validates a call.
@@ -104,11 +104,11 @@ pub enum Task {
         /// Whether a read that it checked did not stand.
         failed: bool,
     },
-    /// It takes a call back: it turns the call's versions into estimates.
+    /// It aborts a call: it turns the call's versions into estimates.
     Marking {
         /// The call's index.
         call: u16,
-        /// The keys that are yet to be marked.
+        /// The keys that must still be marked.
         keys: Keys,
     },
 }

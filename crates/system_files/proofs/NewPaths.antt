@@ -11,16 +11,16 @@ use Rattle.std.proofs.lemmas.Str.Pattern.{NoCharPasses-char}
 use Rattle.std.proofs.Math.Seq.{drop-cons}
 use Rattle.system_files.specs.Entries.{HasNoSlash, IsNewPath}
 
--- what is told of a path that is parted at its last slash, if it has one
+-- what is known of a path that is split at its last slash, if it has one
 abbrev IsParted : List ℕ → Option (Bor (List ℕ) × Bor (List ℕ)) → Type 0
 IsParted path r = MatchOption r (RFindsChar 47 path None) (λ x. (i : ℕ) × (j : ℕ) × RFindsChar 47 path (Some (i, j)) × (x.0.now ≡ take i path) × (x.1.now ≡ drop j path) × (i ≤ j) × (length x.0.now ≡ i) × (length x.1.now + j ≡ length path))
 
--- one that has none
+-- a path that has no slash
 pub unparted : (path : List ℕ) (r : Option (Bor (List ℕ) × Bor (List ℕ))) → IsParted path r → option_map (λ x. x.0.now) r ≡ None → HasNoSlash path
 unparted path None h none = λ i. NoCharPasses-char 47 path i h (omega arith)
 unparted path (Some x) h none = absurd (none-some x.0.now (sym none))
 
--- one with this before it
+-- a path that has a slash, with this text before it
 pub parted : (path outer : List ℕ) (r : Option (Bor (List ℕ) × Bor (List ℕ))) → IsParted path r → option_map (λ x. x.0.now) r ≡ Some outer → (name : List ℕ) × HasNoSlash name × (path ≡ outer ++ (codes "/" ++ name))
 parted path outer None h some = absurd (none-some outer some)
 parted path outer (Some x) h some =
@@ -36,7 +36,7 @@ parted path outer (Some x) h some =
       sym (take-append-drop i path) ∙ ap (λ (l : List ℕ). take i path ++ l) behind ∙ ap (λ (l : List ℕ). l ++ (47 ∷ drop j path)) before,
     )
 
--- a text that has the name and a number is the path of a new file, where the path to replace has no slash
+-- a text that has the name and a number is the path of a new file, if the path to replace has no slash
 pub named : {S E : Type 0} (bytes_of : S → List ℕ) (made : Result S E) (replaced : List ℕ) (n : ℕ) → n < 100 → HasNoSlash replaced → IfOk made (λ t. bytes_of t ≡ codes ".rvstm.new" ++ decimal n) → IfOk made (λ t. IsNewPath replaced (bytes_of t))
 named bytes_of (Ok t) replaced n below none is = ([], n, (replaced, none, refl, inl refl), below, is)
 named bytes_of (Err e) replaced n below none is = tt

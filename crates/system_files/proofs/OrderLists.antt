@@ -1,4 +1,4 @@
--- Orders behind orders.
+-- Orders after orders.
 use Rattle.std.proofs.Common.{◌≡◌, ◌++◌, ◌⊎◌, inl, inr, ℕ, List, Option, None, Some, OnErr, refl, sym, [], ◌∷◌, subst, ap, ◌∙◌, append_assoc, arith}
 use Rattle.std.specs.Prelude.{Result, Ok, Err, true, not}
 use Rattle.std.specs.Str.{bytes_eq}
@@ -43,7 +43,7 @@ left_none name (Some x) (Some y) (Some z) (Some w) (made, (before, clear, ends),
       ∙ ap (λ (l : List Order). x ++ l) (append_assoc before (Make name ∷ []) (after ++ (Remove name ∷ [])) ∙ sym (append_assoc before (Make name ∷ after) (Remove name ∷ []))),
 )
 
--- where the outcome is an error, so is what follows
+-- if the outcome is an error, no file is left
 pub cleared_up : {A E : Type 0} (outcome : Result A E) (name : List ℕ) (a b c d : Option (List Order)) → Follow (MakesLast name) a b → OnErr outcome (Follow SyncsAndRenames b c) → OnErr outcome (Asks c d (Remove name ∷ [])) → OnErr outcome (Follow LeavesNoFile a d)
 cleared_up (Ok x) name a b c d one two three = tt
 cleared_up (Err e) name a b c d one two three = left_none name a b c d one two three
@@ -74,10 +74,10 @@ kept_twice touched (Some x) (Some y) (Some z) first second = λ path. both touch
 pub kept_then : (touched : List ℕ → Type 0) (name : List ℕ) (a b c : Option Entries) → touched name → KeepsBut touched a b → KeepsBut (λ path. path ≡ name) b c → KeepsBut touched a c
 kept_then touched name a b c h first second = kept_twice touched a b c first (widened (λ path. path ≡ name) touched b c (λ path is. subst touched (sym is) h) second)
 
--- bytes that a test tells apart
+-- bytes that a test finds different
 differs : (xs ys : List ℕ) → xs ≡ ys → true ≡ not (bytes_eq xs ys) → ⊥
 differs xs ys is test = let same : bytes_eq xs ys ≡ true = (bytes_eq-Decides xs ys).1 is in absurd (grind (arith, test, same))
 
--- the path of a new file is beside the path to replace, where a test tells them apart
+-- the path of a new file is beside the path to replace, if a test finds them different
 pub is_beside : (replaced made looked name : List ℕ) → IsNewPath replaced made → made ≡ looked → made ≡ name → true ≡ not (bytes_eq looked replaced) → IsBeside replaced name
 is_beside replaced made looked name new seen same test = subst (IsBeside replaced) same (new, λ is. differs looked replaced (sym seen ∙ is) test)

@@ -1,10 +1,10 @@
 -- What is asked of a disk, and in which order.
 use Rattle.std.specs.Prelude.{◌≡◌, ℕ, ◌++◌, ◌⊎◌, All, List, [], ◌∷◌, Option, None, Some, ⊤}
 
--- to make a file at a path, to open what is there and write bytes into it, to make sure that a file's bytes are on the disk, to
--- give a file of these bytes another name, to remove an open file that is at a path, and to remove a file there that a process
--- which has ended left over; None where the bytes are not known. A file that can't be made counts as not asked for, and a sync
--- that is refused is an order of its own
+-- to make a file at a path, to open what is there and write bytes into it, to make sure that a file's bytes are on
+-- the disk, to give a file of these bytes another name, to remove an open file that is at a path, and to remove a
+-- file there that a process which has ended left over; None if the bytes are not known. A file that can't be made
+-- counts as not asked for, and a sync that is refused is an order of its own
 pub data Order : Type 0 where
   Make : (path : List ℕ) → Order
   Write : (path bytes : List ℕ) → Order
@@ -14,13 +14,13 @@ pub data Order : Type 0 where
   Remove : (path : List ℕ) → Order
   RemoveLeftOver : (path : List ℕ) → Order
 
--- where the orders so far are known, these follow, and no others
+-- if the orders so far are known, these follow, and no others
 abbrev pub Asks : Option (List Order) → Option (List Order) → List Order → Type 0
 Asks None new orders = ⊤
 Asks (Some old) None orders = ⊥
 Asks (Some old) (Some new) orders = new ≡ old ++ orders
 
--- where they are known, those that follow are such
+-- if the orders so far are known, the orders that follow have this property
 abbrev pub Follow : (List Order → Type 0) → Option (List Order) → Option (List Order) → Type 0
 Follow are None new = ⊤
 Follow are (Some old) None = ⊥
@@ -46,7 +46,7 @@ IsSyncOrRename order = ⊥
 abbrev pub SyncsAndRenames : List Order → Type 0
 SyncsAndRenames orders = All IsSyncOrRename orders
 
--- behind what was left over, one file is made at the path
+-- after the removal of what was left over, one file is made at the path
 abbrev pub MakesLast : List ℕ → List Order → Type 0
 MakesLast path orders = (before : List Order) × Clears before × (orders ≡ before ++ Make path ∷ [])
 

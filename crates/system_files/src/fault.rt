@@ -19,7 +19,7 @@ pub enum ReplaceFault {
 impl From<io::Error> for ReplaceFault {
     ghost from_gives = { λ error fault. fault ≡ fault_of (error_kind error) };
 
-    /// Memory where memory ran out, and else Unwritable.
+    /// Memory if memory ran out, otherwise Unwritable.
     fn from(error: io::Error) -> ReplaceFault {
         match error.kind() {
             io::ErrorKind::OutOfMemory => ReplaceFault::Memory,

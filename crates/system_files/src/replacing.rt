@@ -14,13 +14,13 @@ use std::io::Write;
 /// The number of names that are tried for a new file.
 const NAME_LIMIT: usize = 100;
 
-/// The beginning of the name of a new file; its number stands behind it.
+/// The beginning of the name of a new file; its number comes after it.
 const NEW_NAME: &str = ".rvstm.new";
 
-/// Puts bytes at a path. An ordinary file there is replaced in one step, by a file that was written in
-/// full beside it; where this is refused it stays as it was, and the disk is asked last to remove the new file, if one
-/// was made. The bytes are written into a device itself. Refused as Memory where memory ran out, and as Unwritable where a file
-/// can't be made, written or renamed.
+/// Puts bytes at a path. An ordinary file there is replaced in one step, by a file that was written in full beside
+/// it. If this is refused, the file stays as it was, and the last order to the disk is to remove the new file, if one
+/// was made. Bytes for a device are written into the device itself. Refused as Memory if memory ran out, and as
+/// Unwritable if a file can't be made, written or renamed.
 pub fn replace<D: OutputDisk>(
     alloc: Global,
     disk: &mut D,
@@ -40,7 +40,7 @@ pub fn replace<D: OutputDisk>(
     }
 }
 
-/// Writes bytes to a new file beside a path, and renames it to that path. Where a step is refused, the new file is
+/// Writes bytes to a new file beside a path, and renames it to that path. If a step is refused, the new file is
 /// removed, and what is at the path stays as it was.
 fn replace_file<D: OutputDisk>(
     alloc: Global,
@@ -59,8 +59,8 @@ fn replace_file<D: OutputDisk>(
     clear_up(disk, &file, name.as_str(), outcome)
 }
 
-/// Writes bytes to a new file, and renames it. It is still open then, so that nobody takes it for one that was left
-/// over.
+/// Writes bytes to a new file, and renames it. The file is still open then, so that nobody takes it for one that was
+/// left over.
 fn put<D: OutputDisk>(
     disk: &mut D,
     file: &mut D::NewFile,
@@ -80,8 +80,8 @@ fn put<D: OutputDisk>(
     Ok(())
 }
 
-/// Asks the disk to remove a new file where putting it in place was refused, and hands on how that ended. The file is
-/// still open then, so that no other file is removed which somebody made at its name.
+/// Asks the disk to remove a new file if it was refused to put it in place, and returns that outcome. The file is
+/// still open then, so that no other file is removed that somebody made under its name.
 fn clear_up<D: OutputDisk>(
     disk: &mut D,
     file: &D::NewFile,
@@ -100,8 +100,8 @@ fn clear_up<D: OutputDisk>(
 }
 
 /// Makes a file in the folder of a path, and returns its path and the file. Its name is `.rvstm.new0` to
-/// `.rvstm.new99`: the first other than the path itself that is free, or was left over. Refused as Unwritable where
-/// none is or the file can't be made, and as Memory where memory ran out.
+/// `.rvstm.new99`: the first other than the path itself that is free, or was left over. Refused as Unwritable if
+/// there is none or the file can't be made, and as Memory if memory ran out.
 fn new_beside<D: OutputDisk>(
     alloc: Global,
     disk: &mut D,
@@ -126,7 +126,7 @@ fn new_beside<D: OutputDisk>(
     Err(ReplaceFault::Unwritable)
 }
 
-/// The path of a new file in the folder of a path; refused where memory ran out.
+/// The path of a new file in the folder of a path; refused if memory ran out.
 fn new_path(alloc: Global, path: &str, number: usize) -> Result<String, AllocError>
     requires { number < 100 }
     ensures { IfOk result (λ name. IsNewPath path.now (string_bytes name)) }

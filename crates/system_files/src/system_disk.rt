@@ -87,7 +87,7 @@ impl<'a, R: Files<File = File>> OutputDisk for SystemDisk<'a, R> {
     }
 }
 
-/// Takes the lock of a file, and says whether somebody else has it. Where the system has no locks, nobody has.
+/// Takes the lock of a file, and returns whether somebody else has it. If the system has no locks, nobody has it.
 fn is_locked_elsewhere(file: &File) -> bool {
     matches!(file.try_lock(), Err(TryLockError::WouldBlock))
 }
@@ -105,7 +105,7 @@ fn is_same_file(left: &Metadata, right: &Metadata) -> bool {
     left.dev() == right.dev() && left.ino() == right.ino()
 }
 
-/// What is at a path, with links followed; `None` where nothing is.
+/// What is at a path, with links followed; `None` if nothing is there.
 fn found_at<R: Files>(rt: &R, path: &str) -> io::Result<Option<Metadata>> {
     match fs::metadata(rt, path) {
         Ok(found) => Ok(Some(found)),
@@ -116,8 +116,8 @@ fn found_at<R: Files>(rt: &R, path: &str) -> io::Result<Option<Metadata>> {
     }
 }
 
-/// The path where an ordinary file is there, and `None` where something else is. Refused where the file may not
-/// be written.
+/// The path if an ordinary file is there, and `None` if something other than an ordinary file is there. Refused if
+/// the file may not be written.
 fn writable_path<R: Files>(rt: &R, path: String) -> io::Result<Option<String>> {
     if !fs::metadata(rt, path.as_str())?.is_file() {
         return Ok(None);
@@ -126,8 +126,8 @@ fn writable_path<R: Files>(rt: &R, path: String) -> io::Result<Option<String>> {
     Ok(Some(path))
 }
 
-/// The same for a path that leads to no file: the path where nothing is there, and `None` where a link to nothing
-/// is. A file may have come since.
+/// The same for a path that leads to no file: the path if nothing is there, and `None` if a link to nothing is there.
+/// A file may have come since.
 fn free_path<R: Files>(rt: &R, path: String) -> io::Result<Option<String>> {
     match fs::symlink_metadata(rt, path.as_str()) {
         Ok(found) if found.is_symlink() => Ok(None),

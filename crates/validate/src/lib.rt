@@ -8,9 +8,9 @@ ghost use Rattle.mvmap.specs.Reading.{stands};
 use mvmap::MvMap;
 use read_set::Read;
 
-/// Whether a read of the call of index `i` stands: reading its key for that call now gives the same
-/// origin, the versions that it passes included. The storage before the block is checked as an origin too.
-/// A read that now meets an estimate does not stand. Takes no memory.
+/// Whether a read of the call of index `i` stands: reading its key for that call now gives the same origin, with the same
+/// passed versions. The storage before the block is checked as an origin too. A read that now meets an estimate does not
+/// stand. Takes no memory.
 pub fn still_read(map: &MvMap, i: u16, read: &Read) -> bool
     ensures { result ≡ stands map.now.versions i read.now }
 {

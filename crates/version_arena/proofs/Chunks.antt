@@ -1,7 +1,7 @@
 -- What the chunks of a pool hold, and have room for, as one of them changes or one is added.
 use Rattle.std.proofs.Common.{◌≡◌, ℕ, zero, suc, ◌+◌, ◌-◌, ◌<◌, ◌≤◌, List, [], ◌∷◌, ◌++◌, length, take, drop, map, get_or, set, refl, sym, ap, ◌∙◌, arith}
 use Rattle.std.proofs.lemmas.List.{append-nil, length-append, length-set}
-use Rattle.version_arena.specs.Chunks.{ChunkState, KeepsBytes, bytes_at, capacity_of, empty_chunk, spare}
+use Rattle.version_arena.specs.Chunks.{ChunkState, KeepsBytes, capacity_of, chunk_bytes, empty_chunk, spare}
 
 abbrev emptied : ChunkState → ChunkState
 emptied c = empty_chunk c.size
@@ -80,10 +80,10 @@ spare-set (c ∷ cs) zero n x y within at size long =
     omega (arith, size, long, ap (λ (z : ChunkState). z.size) at, ap (λ (z : ChunkState). length z.bytes) at)
 spare-set (c ∷ cs) (suc i) n x y within at size long = let inside : i < length cs = omega (arith, within) in spare-set cs i n x y inside at size long
 
-begins-set : (cs : List ChunkState) (i : ℕ) (x y : ChunkState) (more : List ℕ) → i < length cs → x ≡ get_or cs i x → y.bytes ≡ x.bytes ++ more → (j : ℕ) → (rest : List ℕ) × (bytes_at (set cs i y) j ≡ bytes_at cs j ++ rest)
+begins-set : (cs : List ChunkState) (i : ℕ) (x y : ChunkState) (more : List ℕ) → i < length cs → x ≡ get_or cs i x → y.bytes ≡ x.bytes ++ more → (j : ℕ) → (rest : List ℕ) × (chunk_bytes (set cs i y) j ≡ chunk_bytes cs j ++ rest)
 begins-set [] i x y more within at e j = absurd (omega (arith, within))
 begins-set (c ∷ cs) zero x y more within at e zero = (more, e ∙ ap (λ (z : ChunkState). z.bytes ++ more) at)
-begins-set (c ∷ cs) zero x y more within at e (suc j) = ([], sym (append-nil (bytes_at cs j)))
+begins-set (c ∷ cs) zero x y more within at e (suc j) = ([], sym (append-nil (chunk_bytes cs j)))
 begins-set (c ∷ cs) (suc i) x y more within at e zero = ([], sym (append-nil c.bytes))
 begins-set (c ∷ cs) (suc i) x y more within at e (suc j) = let inside : i < length cs = omega (arith, within) in begins-set cs i x y more inside at e j
 

@@ -1,4 +1,4 @@
--- The parts of a chunk may cross threads, a allocation as its allocator may.
+-- The parts of a chunk may cross threads, an allocation as its allocator may.
 use Rattle.std.specs.Prelude.{ℕ, ◌+◌, List, [], ◌∷◌}
 use base.Fraction.{full_share}
 use base.Shift.{Keyless}
@@ -11,7 +11,7 @@ use denote.Struct.Struct.{exits_of}
 use denote.Struct.Owning.{shape, fields, to}
 use denote.Param.Send.{IsSend, IsSync, Quiet, Common, Frees, AllSend, part_keyless, owning_send, struct_send, struct_sync, sendable}
 use Rattle.std.specs.declared.alloc.Allocator.{Ghosts}
-use Rattle.version_arena.specs.Ownership.{bytes_at, bytes_own, bytes_lent}
+use Rattle.version_arena.specs.Ownership.{owns_bytes_at, bytes_own, bytes_lent}
 use Rattle.version_arena.specs.contracts.raw.Bytes as Bytes
 use Rattle.version_arena.specs.contracts.raw.Allocation as Allocation
 
@@ -25,7 +25,7 @@ byte-send = search sendable
 byte-sync : IsSync u8
 byte-sync = search sendable
 
-bytes_at-Keyless : (b o : ℕ) (xs : List ℕ) → Keyless (bytes_at b o xs)
+bytes_at-Keyless : (b o : ℕ) (xs : List ℕ) → Keyless (owns_bytes_at b o xs)
 bytes_at-Keyless b o [] = tt
 bytes_at-Keyless b o (x ∷ xs) = (part_keyless u8 byte-send full_share x b o, bytes_at-Keyless b (o + 1) xs)
 

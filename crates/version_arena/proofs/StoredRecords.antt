@@ -1,11 +1,11 @@
--- The records of an arena stay as they are where the chunks keep their bytes.
+-- The records of an arena do not change if the chunks keep their bytes.
 use Rattle.std.proofs.Common.{◌≡◌, ◌≤◌, List, [], ◌∷◌, ◌++◌, All, Result, Ok, Err, OnErr, length, take, drop, map, refl, ap, ◌∙◌, arith}
 use Rattle.std.proofs.lemmas.List.{length-append, take-append-le, drop-append-le, length-drop}
 use Rattle.std.proofs.lemmas.List.Elements.{All-nil, All-cons, All-head, All-tail}
 use Rattle.rv_ledger.specs.Change.{IfValue, change_map}
 use Rattle.rv_ledger.specs.declared.change.Change.{Change}
 use Rattle.rv_ledger.specs.declared.change.Change.TheVariants as change
-use Rattle.version_arena.specs.Chunks.{ChunkState, KeepsBytes, LiesWithin, bytes_at, part}
+use Rattle.version_arena.specs.Chunks.{ChunkState, KeepsBytes, LiesWithin, chunk_bytes, part}
 use Rattle.version_arena.specs.StoredRecords.{IsShortSpan, IsStored, record_of}
 use Rattle.version_arena.specs.declared.pool.Span.{Span}
 use Rattle.version_arena.specs.declared.stored_record.StoredRecord.{StoredRecord}
@@ -15,11 +15,11 @@ module _ (cs ds : List ChunkState) (keeps : KeepsBytes cs ds) where
   within_same : (s : Span) → LiesWithin cs s → LiesWithin ds s
   within_same s h =
       let kept = keeps.1 s.chunk in
-      (omega (arith, h.0, keeps.0), omega (arith, h.1, ap length kept.1, length-append (bytes_at cs s.chunk) kept.0))
+      (omega (arith, h.0, keeps.0), omega (arith, h.1, ap length kept.1, length-append (chunk_bytes cs s.chunk) kept.0))
 
   part_same : (s : Span) → LiesWithin cs s → part ds s ≡ part cs s
   part_same s h =
-      let old = bytes_at cs s.chunk in let kept = keeps.1 s.chunk in
+      let old = chunk_bytes cs s.chunk in let kept = keeps.1 s.chunk in
       let begins : s.start ≤ length old = omega (arith, h.1) in let ends : s.len ≤ length (drop s.start old) = omega (arith, h.1, length-drop s.start old) in
       ap (λ xs. take s.len (drop s.start xs)) kept.1 ∙ ap (take s.len) (drop-append-le s.start old kept.0 begins) ∙ take-append-le s.len (drop s.start old) kept.0 ends
 

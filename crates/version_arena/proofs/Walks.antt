@@ -1,6 +1,6 @@
 -- What the walks of `allocate` and `deallocate` share. Assumes `Logic`.
 --     slot_at, then_runs, out_of_block      a parameter's slot; what follows a statement, and a block
---     base_val, bytes_val, deed_val      the machine values of a chunk's parts, each made and, of the owners, told
+--     base_val, bytes_val, deed_val      the machine values of a chunk's parts: each can be made; an owner has only one
 --     three_of      a tuple of three is made of its parts
 use Prim.Native.Nat.{ℕ, zero, suc}
 use Rattle.std.proofs.Common.{◌≡◌, List, [], ◌∷◌, ◌++◌, refl, ◌∙◌}

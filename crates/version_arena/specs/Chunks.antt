@@ -15,8 +15,8 @@ empty_chunk n = record { bytes = []; size = n }
 abbrev pub free : ChunkState → ℕ
 free c = c.size - length c.bytes
 
--- the number of bytes that chunks promise to values of at most 256: when they are empty, and as they are. The last 255
--- bytes of a chunk are left out, since they might be too few for one value
+-- the number of bytes that chunks promise to values of at most 256: `capacity_of` when they are empty, `spare` as they are now.
+-- The last 255 bytes of a chunk are left out, since they might be too few for one value
 abbrev pub capacity_of : List ChunkState → ℕ
 capacity_of [] = 0
 capacity_of (c ∷ cs) = (c.size - 255) + capacity_of cs
@@ -32,19 +32,19 @@ pub record PoolState : Type 0 where
   pub room : ℕ
 
 -- the bytes in use of the i-th chunk
-abbrev pub bytes_at : List ChunkState → ℕ → List ℕ
-bytes_at cs i = (get_or cs i (empty_chunk 0)).bytes
+abbrev pub chunk_bytes : List ChunkState → ℕ → List ℕ
+chunk_bytes cs i = (get_or cs i (empty_chunk 0)).bytes
 
 -- the bytes of a span; if it lies within the chunks, each of them is in use
 abbrev pub part : List ChunkState → Span → List ℕ
-part cs s = take s.len (drop s.start (bytes_at cs s.chunk))
+part cs s = take s.len (drop s.start (chunk_bytes cs s.chunk))
 
 abbrev pub LiesWithin : List ChunkState → Span → Type 0
-LiesWithin cs s = (s.chunk < length cs) × (s.start + s.len ≤ length (bytes_at cs s.chunk))
+LiesWithin cs s = (s.chunk < length cs) × (s.start + s.len ≤ length (chunk_bytes cs s.chunk))
 
 -- each chunk is still there, and begins with the bytes that it had
 abbrev pub KeepsBytes : List ChunkState → List ChunkState → Type 0
-KeepsBytes cs ds = (length cs ≤ length ds) × ((i : ℕ) → (more : List ℕ) × (bytes_at ds i ≡ bytes_at cs i ++ more))
+KeepsBytes cs ds = (length cs ≤ length ds) × ((i : ℕ) → (more : List ℕ) × (chunk_bytes ds i ≡ chunk_bytes cs i ++ more))
 
 -- the size of the chunk that a pool with this room needs to have room for more than n bytes, at least 65,536
 abbrev pub size_for : ℕ → ℕ → ℕ

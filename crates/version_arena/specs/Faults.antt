@@ -4,16 +4,14 @@ use Rattle.std.specs.Fmt.{decimal}
 use Rattle.version_arena.specs.declared.fault.ReserveFault.{ReserveFault}
 use Rattle.version_arena.specs.declared.fault.ReserveFault.TheVariants.{ArenaFull, Memory}
 
--- the number of a refusal
 abbrev pub number_of : ReserveFault → ℕ
 number_of ArenaFull = 1
 number_of Memory = 2
 
--- its name
 abbrev pub name_of : ReserveFault → List ℕ
 name_of ArenaFull = codes "ArenaFull"
 name_of Memory = codes "Memory"
 
--- both, as they are printed
+-- the name and the number, as they are printed
 unfoldable pub fault_text : ReserveFault → List ℕ
 fault_text fault = name_of fault ++ codes " " ++ decimal (number_of fault)

@@ -14,9 +14,9 @@ abbrev pub bytes_type : ℕ → Ty
 bytes_type n = ty_array (ty_int w8) n
 
 -- written bytes side by side, the first of them o bytes into the block b
-abbrev pub bytes_at : ℕ → ℕ → List ℕ → Fml
-bytes_at b o [] = ftrue
-bytes_at b o (x ∷ xs) = fsep (part_at u8 full_share x b o) (bytes_at b (o + 1) xs)
+abbrev pub owns_bytes_at : ℕ → ℕ → List ℕ → Fml
+owns_bytes_at b o [] = ftrue
+owns_bytes_at b o (x ∷ xs) = fsep (part_at u8 full_share x b o) (owns_bytes_at b (o + 1) xs)
 
 -- the bytes together are fewer than 2 ^ 63
 abbrev pub fit : List ℕ → ℕ → Fml
@@ -24,7 +24,7 @@ fit xs n = flt (length xs + n) (2 ^ 63)
 
 -- written bytes, and room for n more after them
 abbrev pub bytes_own : Ptr → List ℕ → ℕ → Fml
-bytes_own (block_ptr b o) xs n = fsep (fit xs n) (fsep (bytes_at b o xs) (froom (bytes_type n) b (o + length xs)))
+bytes_own (block_ptr b o) xs n = fsep (fit xs n) (fsep (owns_bytes_at b o xs) (froom (bytes_type n) b (o + length xs)))
 bytes_own null_ptr xs n = ffalse
 
 -- the written bytes, lent

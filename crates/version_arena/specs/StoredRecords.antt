@@ -6,7 +6,7 @@ use Rattle.version_arena.specs.Chunks.{ChunkState, LiesWithin, part}
 use Rattle.version_arena.specs.declared.pool.Span.{Span}
 use Rattle.version_arena.specs.declared.stored_record.StoredRecord.{StoredRecord}
 
--- the record that one stands for
+-- the record that a stored record stands for
 abbrev pub record_of : List ChunkState → StoredRecord → Record
 record_of cs s = record { writer = s.writer; incarnation = s.incarnation; change = change_map (part cs) s.change }
 

@@ -4,7 +4,7 @@ ghost use Rattle.std.specs.Prelude.{◌≡◌, ◌+◌, ◌<◌, ◌≤◌, ◌�
 ghost use Rattle.std.specs.Option.{option_map};
 ghost use Rattle.rv_ledger.specs.Change.{change_copied};
 ghost use Rattle.rv_ledger.specs.Lent.{lent_change};
-ghost use Rattle.version_arena.specs.ArenaState.{bytes_of, emptied, with_record};
+ghost use Rattle.version_arena.specs.ArenaState.{change_size, emptied, with_record};
 ghost use Rattle.version_arena.specs.Lent.{lent};
 ghost use Rattle.version_arena.specs.declared.fault.ReserveFault.TheVariants.{ArenaFull};
 
@@ -22,8 +22,8 @@ pub const RECORD_LIMIT: usize = 1_048_576;
 /// How many records the list has room for, once it has room for one. So the records of most blocks are never moved.
 const FIRST_ROOM: usize = 1024;
 
-/// The records of one block, in the order in which they were placed, at most 1,048,576; and room
-/// for more: for so many records, and for so many bytes of their values.
+/// The records of one block, in the order in which they were placed, at most 1,048,576. It also has room for a number of
+/// further records, and for a number of bytes of their values.
 #[derive(Drop)]
 pub struct Arena {
     len: usize,
@@ -57,9 +57,9 @@ impl Arena {
         }
     }
 
-    /// Makes room for `records` more records, whose values together have at most `bytes` bytes.
-    /// Refused as ArenaFull exactly where there would be more than 1,048,576 records, and as Memory
-    /// where memory ran out; a refusal changes nothing. Room that is there already takes no memory.
+    /// Makes room for `records` more records, whose values together have at most `bytes` bytes. Refused as ArenaFull exactly if
+    /// there would be more than 1,048,576 records, and as Memory if memory ran out; a refusal changes nothing. Room that is
+    /// there already takes no memory.
     pub fn reserve(&mut self, records: usize, bytes: usize) -> Result<(), ReserveFault>
         ensures full { (result ≡ Err ArenaFull) ↔ (1048576 < length self.old.records + records) }
         ensures ok { OnOk result ((records ≤ self.new.room) × (bytes ≤ self.new.bytes)) }
@@ -93,7 +93,7 @@ impl Arena {
     /// Adds a record at the end, in room that was reserved, and returns its name. Takes no memory.
     pub fn place(&mut self, writer: u16, incarnation: u16, change: Change<&Value>) -> VersionId
         requires room { 1 ≤ self.old.room }
-        requires bytes { bytes_of (change_copied change) ≤ self.old.bytes }
+        requires bytes { change_size (change_copied change) ≤ self.old.bytes }
         ensures id { result ≡ length self.old.records }
         ensures placed { self.new ≡ with_record writer incarnation (change_copied change.entry) self.old }
     {
@@ -108,7 +108,7 @@ impl Arena {
         change: Change<LentValue>,
     ) -> VersionId
         requires room { 1 ≤ self.old.room }
-        requires bytes { bytes_of (lent_change change) ≤ self.old.bytes }
+        requires bytes { change_size (lent_change change) ≤ self.old.bytes }
         ensures id { result ≡ length self.old.records }
         ensures placed { self.new ≡ with_record writer incarnation (lent_change change.entry) self.old }
     {
@@ -120,7 +120,7 @@ impl Arena {
         VersionId::at(place)
     }
 
-    /// The record that has a name, or None where none has it.
+    /// The record with this name, or None if no record has it.
     pub fn get(&self, id: VersionId) -> Option<Record<'_>>
         ensures { option_map lent result ≡ slice_get self.now.records id }
     {
@@ -140,8 +140,8 @@ impl Arena {
         self.len
     }
 
-    /// Removes all records and keeps their room. A name from before never gives a removed record again,
-    /// but it may give one that is placed later. Takes no memory.
+    /// Removes all records and keeps their room. An earlier name never gives a removed record again, but it may give one that
+    /// is placed later. Takes no memory.
     pub fn reset(&mut self)
         ensures { self.new ≡ emptied self.old }
     {
@@ -150,8 +150,7 @@ impl Arena {
     }
 }
 
-/// Adds room for records until there is room for at least `count`. Refused where memory ran out, and then nothing
-/// changes.
+/// Adds room for records until there is room for at least `count`. Refused if memory ran out, and then nothing changes.
 fn grow(stored: &mut Vec<StoredRecord>, count: usize) -> Result<(), AllocError>
     requires { (count ≤ 1048576) × (length stored.old.items ≤ 1048576) }
     ensures ok { OnOk result (length stored.new.items ≡ max count (length stored.old.items)) }
@@ -171,7 +170,7 @@ fn grow(stored: &mut Vec<StoredRecord>, count: usize) -> Result<(), AllocError>
 
 /// The number of bytes that a change takes: those of a value.
 fn len_of(change: &Change<LentValue>) -> usize
-    ensures { result ≡ bytes_of (lent_change change.now) }
+    ensures { result ≡ change_size (lent_change change.now) }
 {
     match change {
         Change::Value(value) => value.bytes().len(),

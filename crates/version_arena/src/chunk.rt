@@ -29,7 +29,7 @@ impl Model for Chunk {
 }
 
 impl Chunk {
-    /// A chunk of `size` bytes, none of them in use; refused where memory ran out.
+    /// A chunk of `size` bytes, none of them in use; refused if memory ran out.
     pub(crate) fn new(alloc: Global, size: usize) -> Result<Chunk, AllocError>
         requires { size < 2 ^ 63 }
         ensures { IfOk result (λ c. c ≡ empty_chunk size) }

@@ -12,10 +12,10 @@ use std::marker::Model;
 /// The least number of bytes of a chunk.
 pub(crate) const CHUNK_BYTES: usize = 65_536;
 
-/// The bytes at the end of a chunk that may be too few for a value.
+/// The number of bytes at the end of a chunk that may be too few for a value.
 const TAIL_BYTES: usize = 255;
 
-/// Where bytes lie: the index of their chunk, the place of the first byte in it, and how many there are.
+/// The place of some bytes: the index of their chunk, the place of the first byte in it, and the number of bytes.
 #[derive(Clone, Copy)]
 pub(crate) struct Span {
     chunk: usize,
@@ -59,8 +59,8 @@ impl Pool {
         }
     }
 
-    /// Makes room for more than this many bytes of values, by adding at most one chunk. Refused where
-    /// memory ran out or could not be there, and then nothing changes.
+    /// Makes room for more than this many bytes of values, by adding at most one chunk. Refused if memory ran out or the sizes
+    /// are too large for any memory, and then nothing changes.
     pub(crate) fn reserve(&mut self, bytes: usize) -> Result<(), AllocError>
         ensures ok { OnOk result (self.new ≡ with_room bytes self.old) }
         ensures enough { OnOk result (bytes < self.new.room) }
@@ -91,7 +91,7 @@ impl Pool {
         Ok(())
     }
 
-    /// Writes the bytes of a value, fewer than there is room for, and returns where they lie. Takes no memory.
+    /// Writes the bytes of a value, fewer than there is room for, and returns their place. Takes no memory.
     pub(crate) fn write(&mut self, value: LentValue) -> Span
         requires { length value.bytes.now < self.old.room }
         ensures short { IsShortSpan self.new.chunks result }

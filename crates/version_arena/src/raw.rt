@@ -9,7 +9,7 @@ use std::alloc::{AllocError, Allocator};
 use std::marker::{Model, PhantomData, Send, Sync};
 use std::slice;
 
-/// Where a block begins. It owns nothing.
+/// The address at which a block begins. It owns nothing.
 pub(crate) struct BaseAddress {
     ptr: *mut u8,
 }
@@ -48,7 +48,7 @@ unsafe impl Send for Bytes {}
 
 unsafe impl Sync for Bytes {}
 
-/// The right to give the block of `size` bytes at `at` back to `alloc`. It takes no space.
+/// The right to return the block of `size` bytes at `at` to `alloc`. It takes no space.
 pub(crate) struct Allocation<A: Allocator> {
     mark: PhantomData<A>,
     ghost at: { Ptr },
@@ -67,7 +67,7 @@ unsafe impl<A: Allocator + Send> Send for Allocation<A> {}
 // A shared reference to it gives no right, so any thread may have one.
 unsafe impl<A: Allocator> Sync for Allocation<A> {}
 
-/// Takes a block of `size` bytes, none of them written; refused where memory ran out.
+/// Takes a block of `size` bytes, none of them written; refused if memory ran out.
 pub(crate) fn allocate<A: Allocator>(
     alloc: &A,
     size: usize,
@@ -84,7 +84,7 @@ pub(crate) fn allocate<A: Allocator>(
     }
 }
 
-/// Gives a block without written bytes back to its allocator.
+/// Returns a block without written bytes to its allocator.
 pub(crate) fn deallocate<A: Allocator>(
     alloc: &A,
     base: BaseAddress,

@@ -3,7 +3,7 @@
 ghost use Rattle.std.specs.Prelude.{◌≡◌, ◌+◌, ◌<◌};
 ghost use Rattle.rv_ledger.specs.Change.{IfValue, change_map};
 ghost use Rattle.rv_ledger.specs.Lent.{lent_change};
-ghost use Rattle.version_arena.specs.ArenaState.{bytes_of};
+ghost use Rattle.version_arena.specs.ArenaState.{change_size};
 ghost use Rattle.version_arena.specs.Chunks.{KeepsBytes, part};
 ghost use Rattle.version_arena.specs.Lent.{lent};
 ghost use Rattle.version_arena.specs.StoredRecords.{IsShortSpan, IsStored, record_of};
@@ -12,7 +12,7 @@ use crate::pool::{Pool, Span};
 use crate::record::Record;
 use rv_ledger::{Change, LentValue};
 
-/// A record as an arena keeps it: who wrote it, and what it did to its key, with where the bytes of a value lie.
+/// A record as an arena keeps it: who wrote it, what it did to its key, and the place of the bytes of a value.
 #[derive(Drop)]
 pub(crate) struct StoredRecord {
     writer: u16,
@@ -29,11 +29,11 @@ impl StoredRecord {
         incarnation: u16,
         change: Change<LentValue>,
     ) -> StoredRecord
-        requires { bytes_of (lent_change change) < pool.old.room }
+        requires { change_size (lent_change change) < pool.old.room }
         ensures record { record_of pool.new.chunks result ≡ record { writer = writer; incarnation = incarnation; change = lent_change change.entry } }
         ensures stored { IsStored pool.new.chunks result }
         ensures keeps { KeepsBytes pool.old.chunks pool.new.chunks }
-        ensures room { pool.new.room + bytes_of (lent_change change.entry) ≡ pool.old.room }
+        ensures room { pool.new.room + change_size (lent_change change.entry) ≡ pool.old.room }
     {
         StoredRecord {
             writer,
@@ -42,7 +42,7 @@ impl StoredRecord {
         }
     }
 
-    /// What stands in the room for a record that is not placed yet.
+    /// A filler in the room for a record that is not placed yet.
     pub(crate) fn vacant() -> StoredRecord {
         StoredRecord {
             writer: 0,
@@ -66,11 +66,11 @@ impl StoredRecord {
 
 /// Copies the bytes of a value into the pool.
 fn store(pool: &mut Pool, change: Change<LentValue>) -> Change<Span>
-    requires { bytes_of (lent_change change) < pool.old.room }
+    requires { change_size (lent_change change) < pool.old.room }
     ensures value { change_map (part pool.new.chunks) result ≡ lent_change change.entry }
     ensures stored { IfValue result (IsShortSpan pool.new.chunks) }
     ensures keeps { KeepsBytes pool.old.chunks pool.new.chunks }
-    ensures room { pool.new.room + bytes_of (lent_change change.entry) ≡ pool.old.room }
+    ensures room { pool.new.room + change_size (lent_change change.entry) ≡ pool.old.room }
 {
     match change {
         Change::Value(value) => Change::Value(pool.write(value)),

@@ -5,14 +5,14 @@ use Rattle.stm_state.specs.declared.state.Task.TheVariants.{Idle}
 use Rattle.stm_state.specs.State.{is_done}
 use Rattle.stm_state.specs.Steps.{Ask}
 use Rattle.stm_state.specs.Dones.{DonesGrowAtDone}
-use Rattle.stm_state.specs.Parts.{IsSized}
+use Rattle.stm_state.specs.Parts.{IsStateSized}
 use Rattle.stm_core.specs.CoreState.{CoreState, Makes, ask_result_of, block_in}
 use Rattle.stm_core.specs.declared.next_step.AskResult.{AskResult}
 use Rattle.stm_core.specs.declared.next_step.AskResult.TheVariants as ask_result
 use Rattle.workers.specs.declared.book.share.Share.{Share}
 use Rattle.workers.specs.Book.{AgreesWith}
 
--- an asking is answered Done just where all was done
+-- an asking is answered Done exactly if all was done
 pub done_where_answered : (done : Bool) (task : Task) → ask_result.Done ≡ ask_result_of done task → done ≡ true
 done_where_answered true task e = refl
 done_where_answered false Idle e = cc
@@ -23,7 +23,7 @@ not_done_where_answered true task answer e other = absurd (other e)
 not_done_where_answered false task answer e other = refl
 
 module _ (law : DonesGrowAtDone) (old new : CoreState) (share counted : Share) (made : Makes share.worker Ask old new)
-    (sized : IsSized (length old.job.block) (length old.state.tasks) old.state) (before : AgreesWith share old) (agrees : AgreesWith counted new) (same : counted.worker ≡ share.worker) where
+    (sized : IsStateSized (length old.job.block) (length old.state.tasks) old.state) (before : AgreesWith share old) (agrees : AgreesWith counted new) (same : counted.worker ≡ share.worker) where
   grown : counted.dones ≡ (if is_done old.state then share.dones + 1 else share.dones)
   grown =
       let size = sized.dones in
@@ -32,7 +32,7 @@ module _ (law : DonesGrowAtDone) (old new : CoreState) (share counted : Share) (
       ∙ law (block_in old) share.worker old.state new.state made.0 (omega (arith, size, within))
       ∙ ap (λ d. if is_done old.state then d + 1 else d) (sym before.dones)
 
-  -- one asking answered Done more where all was done, and else none
+  -- one more asking is answered Done if all was done, and otherwise none
   pub one_done_more : is_done old.state ≡ true → counted.dones ≡ share.dones + 1
   one_done_more e = grown ∙ ap (λ b. if b then share.dones + 1 else share.dones) e
 

@@ -1,4 +1,4 @@
--- A chain of blocks, and one block more.
+-- A chain of blocks, and one more block.
 use Rattle.std.proofs.Common.{◌≡◌, ◌≢◌, ◌<◌, ◌≤◌, ◌⊎◌, ap, length, IfErr, inl, inr, arith, ℕ, List, [], ◌∷◌, ◌++◌, None, Result, Ok, Err, sym, subst, refl, ◌∙◌}
 use Rattle.std.specs.Global.{Vec}
 use Rattle.rv_ledger.specs.Key.{Storage}

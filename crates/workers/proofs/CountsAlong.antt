@@ -5,7 +5,7 @@ use Rattle.std.proofs.lemmas.Bool.{cond_both}
 use Rattle.std.proofs.lemmas.List.Sums.{sum_by-cons, sum_by-set}
 use Rattle.std.proofs.lemmas.List.Folds.{sum_by-replicate}
 use Rattle.rv_ledger.specs.declared.outcome.Counts.{Counts}
-use Rattle.stm_state.specs.State.{State, is_done, no_counts, start}
+use Rattle.stm_state.specs.State.{State, is_done, no_counts, start_state}
 use Rattle.stm_state.specs.Steps.{Block, Step, after_ask, after_decide, after_finish_abort, after_finish_execution, after_check_read, after_mark_estimate, after_move_key, after_park, after_read_key, after_record, ask_execution, ask_validation, count_done, counted, one_asking, one_execution, one_step, one_validation}
 use Rattle.stm_state.specs.Done.{Reached, started, stepped}
 use Rattle.stm_state.specs.Walk.{LeadsTo, walk}
@@ -27,7 +27,7 @@ all_asks counts = sum_by (λ did. did.asks) counts
 abbrev reads_in : List (ℕ × Step) → ℕ
 reads_in entries = count_by (λ entry. is_read entry.1) entries
 
--- from one state to another there are at most so many steps more that are no askings
+-- from one state to another there are at most this many more steps that are not askings
 abbrev CountsMore : ℕ → State → State → Type 0
 CountsMore more s t = all_steps t.counts + all_asks s.counts ≤ all_steps s.counts + all_asks t.counts + more
 
@@ -91,7 +91,7 @@ module _ (block : Block) (workers : ℕ) where
 pub steps_are_reads_or_work : (block : Block) (workers : ℕ) (entries : List (ℕ × Step)) (s : State) → LeadsTo block workers entries s
     → sum_by (λ did. did.steps) s.counts ≤ sum_by (λ did. did.asks) s.counts + count_by (λ entry. is_read entry.1) entries + work_of_list block workers entries
 steps_are_reads_or_work block workers entries s leads =
-    let more = counts_on block workers entries (start block.count workers) s started leads.within leads.comes in
+    let more = counts_on block workers entries (start_state block.count workers) s started leads.within leads.comes in
     let steps = sum_by-replicate (λ (did : Counts). did.steps) workers no_counts in
     let asks = sum_by-replicate (λ (did : Counts). did.asks) workers no_counts in
     omega (arith, more, steps, asks)

@@ -93,7 +93,7 @@ given_hold limit n (Ok started ∷ ts) (b ∷ bs) promised all = (
   given_hold limit (n + 1) ts bs promised.1 all.1,
 )
 
--- where each thread promised the share of its worker, those are the shares that come back
+-- if each thread promised the share of its worker, those are the shares that come back
 pub all_given : (limit : Option ℕ) (count : ℕ) (threads : List Started) (answer : Result (Vec Share) RunFault) → HoldFrom (HasPromised limit) 0 threads → length threads ≡ count
     → IfOk answer (λ back. AreGivenBy threads back.items) → IfOk answer (λ back. (length back.items ≡ count) × HoldFrom (IsGivenBack limit) 0 back.items)
 all_given limit count threads (Ok back) promised long all = (given_count threads back.items all ∙ long, given_hold limit 0 threads back.items promised all)

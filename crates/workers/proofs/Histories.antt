@@ -12,15 +12,15 @@ use Rattle.stm_state.specs.Done.{Reached}
 use Rattle.stm_state.specs.Walk.{ReachedByList}
 use Rattle.stm_state.specs.Dones.{LastEntryIsDone, dones_of}
 use Rattle.stm_state.specs.OneWorker.{OneWorkerCountsWhereReached}
-use Rattle.stm_state.specs.Parts.{IsSized}
+use Rattle.stm_state.specs.Parts.{IsStateSized}
 use Rattle.stm_core.specs.CoreState.{CoreState, block_in}
 use Rattle.stm_core.specs.declared.outcome.Finished.{Finished}
 use Rattle.workers.specs.declared.book.share.Share.{Share}
 use Rattle.workers.specs.declared.fault.RunFault.{RunFault}
 use Rattle.workers.specs.declared.fault.RunFault.TheVariants as faults
-use Rattle.workers.specs.Book.{BookState, FaultFits, HasSpentWorker, IsAtLimit, KeepsLimit, MayWrite, counts_of_share}
+use Rattle.workers.specs.Book.{AreAllPassed, BookState, FaultFits, HasSpentWorker, IsAtLimit, IsOnTheWay, KeepsLimit, MayWrite, counts_of_share}
 use Rattle.workers.specs.Settle.{AreLeft, AreSettled, AreSharesOf, IsShareOf, IsFinishedOf, IsThatOrMemory, IsFinishedAfter}
-use Rattle.workers.specs.History.{HasHistory, HasLimit, HasStepLimit, AreOneWorkerCounts}
+use Rattle.workers.specs.History.{HasHistory, HasLimit, HasStepLimit, HasWorkLimit, AreOneWorkerCounts}
 use Rattle.workers.specs.Run.{IsRun}
 
 -- ---- what an answer says of the book
@@ -83,7 +83,7 @@ settled_share : (b : CoreState) (shares : List Share) (w : ℕ) (share : Share) 
     → counts_of_share share ≡ record { worker = w; counts = get_or b.state.counts w no_counts; dones = 1 }
 settled_share b shares w share h = λ k. record { worker = h.worker k; counts = (h.agrees.counts ∙ ap (λ v. get_or b.state.counts v no_counts) h.worker) k; dones = h.once k }
 
-settled_shares : (b : CoreState) (shares : List Share) → AreSettled b shares → IsSized (length b.job.block) (length b.state.tasks) b.state → AreSharesOf b.state.counts shares
+settled_shares : (b : CoreState) (shares : List Share) → AreSettled b shares → IsStateSized (length b.job.block) (length b.state.tasks) b.state → AreSharesOf b.state.counts shares
 settled_shares b shares h sized = record {
   count = h.count ∙ sym sized.counts;
   each = λ w share at. settled_share b shares w share (h.each w share at);
@@ -96,9 +96,9 @@ size_is core b found same is = is ∙ ap (λ (x : CoreState). length x.state.tas
 -- ---- what is answered for a job and a number of workers
 
 module _ (job : Job) (workers : ℕ) (shares : List Share) (b : BookState) (same : b.core.job ≡ job) (settled_answer : Result Finished RunFault) (settled : IsFinishedAfter b.fault b.core shares settled_answer)
-    (reached : Reached (block_in b.core) (length b.core.state.tasks) b.core.state) (sized : IsSized (length b.core.job.block) (length b.core.state.tasks) b.core.state)
-    (fits : FaultFits b.work_limit b.core b.fault) (found : ℕ) (size : found ≡ length b.core.state.tasks) where
-  -- where it is Ok
+    (reached : Reached (block_in b.core) (length b.core.state.tasks) b.core.state) (sized : IsStateSized (length b.core.job.block) (length b.core.state.tasks) b.core.state)
+    (fits : FaultFits b.work_limit b.passed b.core b.fault) (way : IsOnTheWay b.passed b.core) (found : ℕ) (size : found ≡ length b.core.state.tasks) where
+  -- if the answer is Ok
   finished_is : (o : Finished) → settled_answer ≡ Ok o → found ≡ workers → ReachedByList → LastEntryIsDone → OneWorkerCountsWhereReached
       → (o.receipts.items ≡ receipts_of job.block job.store) × HasHistory job workers o.counts.items × (workers ≡ 1 → AreOneWorkerCounts (length job.block) o.counts.items) × AreSharesOf o.counts.items shares
   finished_is o is asked by_list last law =
@@ -118,21 +118,27 @@ module _ (job : Job) (workers : ℕ) (shares : List Share) (b : BookState) (same
   limit_met limit at asked = subst (λ (j : Job). HasLimit j workers limit) same (subst (λ n. HasLimit b.core.job n limit) (sym size ∙ asked)
       (record { state = b.core.state; reached = reached; worker = at.worker; within = at.within; step = at.step; refused = at.refused }))
 
-  -- a state beside which StepLimit was written is reached
-  step_limit_met : HasSpentWorker b.work_limit b.core → found ≡ workers → HasStepLimit job workers b.work_limit
-  step_limit_met at asked = subst (λ (j : Job). HasStepLimit j workers b.work_limit) same (subst (λ n. HasStepLimit b.core.job n b.work_limit) (sym size ∙ asked)
-      (record { state = b.core.state; reached = reached; worker = at.worker; within = at.within; spent = at.spent }))
+  -- so is a limit of the steps and of the versions that they pass
+  work_limit_here : (limit : Option ℕ) → HasSpentWorker limit b.core ⊎ AreAllPassed limit b.passed → HasWorkLimit b.core.job (length b.core.state.tasks) limit
+  work_limit_here None (inl at) = record { state = b.core.state; reached = reached; worker = at.worker; within = at.within; spent = at.spent }
+  work_limit_here None (inr never) = absurd never
+  work_limit_here (Some limit) (inl at) = inl (record { state = b.core.state; reached = reached; worker = at.worker; within = at.within; spent = at.spent })
+  work_limit_here (Some limit) (inr all) = let most = way.2 in inr (record { state = b.core.state; passed = way.0; reached = way.1; all = omega (arith, all, most) })
+
+  work_limit_met : HasSpentWorker b.work_limit b.core ⊎ AreAllPassed b.work_limit b.passed → found ≡ workers → HasWorkLimit job workers b.work_limit
+  work_limit_met at asked = subst (λ (j : Job). HasWorkLimit j workers b.work_limit) same (subst (λ n. HasWorkLimit b.core.job n b.work_limit) (sym size ∙ asked) (work_limit_here b.work_limit at))
 
   module _ (own limit : Option ℕ) (limited : own ≡ b.work_limit) where
-    -- a fault that is answered: that of the settled answer, and the core has so many workers and the book this limit; or Foreign
+    -- a fault that is answered: that of the settled answer, if the core has this number of workers and the book this limit;
+    -- otherwise Foreign
     abbrev pub IsAnswered : RunFault → Type 0
     IsAnswered f = ((settled_answer ≡ Err f) × (found ≡ workers) × (own ≡ limit)) ⊎ ((f ≡ faults.Foreign) × ((found ≢ workers) ⊎ (own ≢ limit)))
 
     -- a fault that is neither Foreign nor Memory was written
     written : (f : RunFault) → IsAnswered f → f ≢ faults.Foreign → f ≢ faults.Memory
-        → MayWrite f b.work_limit b.core × (found ≡ workers) × (own ≡ limit)
+        → MayWrite f b.work_limit b.passed b.core × (found ≡ workers) × (own ≡ limit)
     written f (inl h) foreign memory = elim (err_after b.fault b.core shares settled_answer f settled h.0) [
-      | inl k ↦ (subst (FaultFits b.work_limit b.core) k fits, h.1, h.2)
+      | inl k ↦ (subst (FaultFits b.work_limit b.passed b.core) k fits, h.1, h.2)
       | inr (inl k) ↦ absurd (foreign k)
       | inr (inr k) ↦ absurd (memory k)
     ]
@@ -147,6 +153,6 @@ module _ (job : Job) (workers : ℕ) (shares : List Share) (b : BookState) (same
     is_run by_list last law left keeps (Err f) ok err = (
       (λ e. let w = written faults.ArenaFull (subst IsAnswered e err) (λ k. cc) (λ k. cc) in limit_met steps.ArenaFull w.0 w.1),
       (λ e. let w = written faults.IncarnationLimit (subst IsAnswered e err) (λ k. cc) (λ k. cc) in limit_met steps.IncarnationLimit w.0 w.1),
-      (λ e. let w = written faults.StepLimit (subst IsAnswered e err) (λ k. cc) (λ k. cc) in subst (HasStepLimit job workers) (sym limited ∙ w.2) (step_limit_met w.0 w.1)),
+      (λ e. let w = written faults.StepLimit (subst IsAnswered e err) (λ k. cc) (λ k. cc) in subst (HasWorkLimit job workers) (sym limited ∙ w.2) (work_limit_met w.0 w.1)),
       (λ _. left),
     )

@@ -10,4 +10,5 @@ pub mod Chains
 pub mod Ways
 pub mod Steps
 pub mod CountsAlong
+pub mod Passings
 pub mod Runs

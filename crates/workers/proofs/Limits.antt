@@ -16,7 +16,7 @@ use Rattle.workers.specs.declared.book.share.Share.{Share}
 use Rattle.workers.specs.Book.{BookState, IsMade, IsSpent, IsWithinLimit, KeepsLimit, counts_of_share, zero_counts}
 use Rattle.workers.specs.Work.{IsBookOf}
 
--- one step more, which is no asking
+-- one more step, which is not an asking
 abbrev AddsStep : Counts → Counts → Type 0
 AddsStep before after = (after.steps ≡ before.steps + 1) × (after.asks ≡ before.asks)
 
@@ -32,7 +32,7 @@ adds_step step before after not h = h
 -- ---- one step
 
 module _ (s : State) (w : ℕ) (w_in : w < length s.counts) where
-  -- the worker's own counts where a step that leaves the counts is counted
+  -- the worker's own counts after a step that leaves the counts is counted
   own : (add : Counts → Counts) (t : State) → t.counts ≡ s.counts → get_or (counted add w t).counts w no_counts ≡ add (get_or s.counts w no_counts)
   own add t same =
       subst (λ c. get_or (set c w (add (get_or c w no_counts))) w no_counts ≡ add (get_or s.counts w no_counts)) (sym same)

@@ -16,7 +16,7 @@ use Rattle.workers.specs.declared.book.share.Share.{Share}
 use Rattle.workers.specs.declared.fault.RunFault.{RunFault}
 use Rattle.workers.specs.declared.worker.ended.WorkFault.{WorkFault}
 use Rattle.workers.specs.Book.{BookState, IsAsked, IsCause, IsMade, IsSpent, LeavesWritten, Owes, owed_by}
-use Rattle.workers.specs.Work.{IsAskAnswer, IsBookOf, IsLeftShare, IsMakeAnswer, IsNext, IsReadAnswer, IsRecordAnswer, IsRefusedBy, IsSameWorkers, IsStepAnswer, IsStepFault, IsWorkersEnd, Looks, Steps, after_step, asks_first, dones_by, fault_of}
+use Rattle.workers.specs.Work.{IsAskAnswer, IsBookOf, IsLeftShare, IsMakeAnswer, IsNext, IsReadAnswer, IsRecordAnswer, IsRefusedBy, IsSameWorkers, IsStepAnswer, IsStepFault, IsWorkersEnd, Looks, Steps, after_step, asks_first, dones_by, run_fault_of}
 use Rattle.workers.proofs.Askings.{no_asking}
 use Rattle.workers.proofs.Limits.{asking_made, step_made}
 
@@ -143,7 +143,7 @@ pub step_after : (job : Job) (first share counted : Share) (step next : NextStep
 step_after job first share counted step next before answer = after_step before answer
 
 pub workers_end : (job : Job) (first before left : Share) (step : NextStep) (met : WorkFault) → IsNext job first before step → IsSameWorkers first before → IsSameWorkers before left
-    → IsStepFault job step left met → IsWorkersEnd job first (fault_of met)
+    → IsStepFault job step left met → IsWorkersEnd job first (run_fault_of met)
 workers_end job first before left step met next was stays ends = record {
   step = step;
   before = before;

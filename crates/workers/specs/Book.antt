@@ -1,12 +1,13 @@
 -- A core with the first fault that was written, the share of a worker, and what the step calls owe.
-use Rattle.std.specs.Prelude.{⊤, Result, Ok, Err, ◌≡◌, ◌<◌, ◌+◌, ◌≤◌, ◌⊎◌, ℕ, zero, suc, true, false, List, [], ◌∷◌, ◌++◌, length, get_or, Option, None, Some}
+use Rattle.std.specs.Prelude.{⊤, Result, Ok, Err, ◌≡◌, ◌<◌, ◌+◌, ◌≤◌, ◌⊎◌, ℕ, zero, suc, true, false, List, [], ◌∷◌, ◌++◌, length, get_or, min, Option, None, Some}
 use Rattle.rv_ledger.specs.declared.outcome.Counts.{Counts}
 use Rattle.mvmap.specs.Reading.{reading}
 use Rattle.stm_state.specs.State.{task_at, no_counts, is_done}
 use Rattle.stm_state.specs.Steps.{Step, Ask, ReadKey, Park, Record}
 use Rattle.stm_state.specs.Steps as steps
 use Rattle.scheduler.specs.Schedule.{count_limit}
-use Rattle.stm_core.specs.CoreState.{CoreState, HasReadRoom, IsRefused, IsWithin, Makes, next_step_of, read_result_of, step_of}
+use Rattle.stm_core.specs.CoreState.{CoreState, HasReadRoom, IsRefused, IsWithin, Makes, block_in, next_step_of, read_result_of, step_of}
+use Rattle.stm_core.specs.Passed.{ReachedPassing, passed_by_step}
 use Rattle.stm_core.specs.declared.next_step.NextStep.{NextStep}
 use Rattle.stm_core.specs.declared.next_step.NextStep.TheVariants as next_step
 use Rattle.stm_core.specs.declared.next_step.ReadResult.{ReadResult}
@@ -21,11 +22,12 @@ use Rattle.workers.specs.declared.fault.OutsideFault.TheVariants as outside
 use Rattle.workers.specs.declared.fault.RunFault.{RunFault}
 use Rattle.workers.specs.declared.fault.RunFault.TheVariants as faults
 
--- a core, the first fault that was written, if any, and the number of steps, asks aside, from which on a worker makes no
--- further one, if there is such a limit
+-- a core; the first fault that was written, if any; how many versions the steps of all workers passed; and the limit, if there is
+-- one, of the steps of each worker that are no asks, and of those versions
 pub record BookState : Type 0 where
   pub core : CoreState
   pub fault : Option RunFault
+  pub passed : ℕ
   pub work_limit : Option ℕ
 
 -- ---- what a written fault says of the core beside it
@@ -37,12 +39,13 @@ pub record IsAtLimit (limit : steps.Limit) (b : CoreState) : Type 0 where
   pub step : Step
   pub refused : IsRefused worker step limit b
 
--- a worker makes no further step: it has made 2^64 - 1 of them, or so many that are no asks
+-- a worker makes no further step: it has made 2^64 - 1 steps, or at least as many steps that are not asks as the limit, if there
+-- is one
 abbrev pub IsSpent : Option ℕ → Counts → Type 0
 IsSpent None counts = counts.steps ≡ 18446744073709551615
 IsSpent (Some limit) counts = (counts.steps ≡ 18446744073709551615) ⊎ (limit + counts.asks ≤ counts.steps)
 
--- a worker has made no more steps, asks aside, than its limit allows, if there is one
+-- a worker has made no more steps, not counting asks, than its limit allows, if there is one
 abbrev pub KeepsLimit : Option ℕ → Counts → Type 0
 KeepsLimit None counts = Unit {0}
 KeepsLimit (Some limit) counts = counts.steps ≤ limit + counts.asks
@@ -53,19 +56,32 @@ pub record HasSpentWorker (limit : Option ℕ) (b : CoreState) : Type 0 where
   pub within : worker < length b.state.tasks
   pub spent : IsSpent limit (get_or b.state.counts worker no_counts)
 
--- a fault that may be written beside a core
-abbrev pub MayWrite : RunFault → Option ℕ → CoreState → Type 0
-MayWrite faults.BadCount limit b = ⊥
-MayWrite faults.Foreign limit b = Unit {0}
-MayWrite faults.ArenaFull limit b = IsAtLimit steps.ArenaFull b
-MayWrite faults.IncarnationLimit limit b = IsAtLimit steps.IncarnationLimit b
-MayWrite faults.Memory limit b = Unit {0}
-MayWrite faults.Spawn limit b = Unit {0}
-MayWrite faults.StepLimit limit b = HasSpentWorker limit b
+-- at least as many versions were passed as the limit, if there is one
+abbrev pub AreAllPassed : Option ℕ → ℕ → Type 0
+AreAllPassed None passed = ⊥
+AreAllPassed (Some limit) passed = limit ≤ passed
 
-abbrev pub FaultFits : Option ℕ → CoreState → Option RunFault → Type 0
-FaultFits limit b None = Unit {0}
-FaultFits limit b (Some fault) = MayWrite fault limit b
+-- the number of versions passed after this many more: it stays at 2^64 - 1
+abbrev pub passed_with : ℕ → ℕ → ℕ
+passed_with passed more = min (passed + more) 18446744073709551615
+
+-- some list of worker steps leads to a core's state, and passes at least this number of versions
+abbrev pub IsOnTheWay : ℕ → CoreState → Type 0
+IsOnTheWay passed b = (all : ℕ) × ReachedPassing (block_in b) (length b.state.tasks) b.state all × (passed ≤ all)
+
+-- a fault that may be written beside a core
+abbrev pub MayWrite : RunFault → Option ℕ → ℕ → CoreState → Type 0
+MayWrite faults.BadCount limit passed b = ⊥
+MayWrite faults.Foreign limit passed b = Unit {0}
+MayWrite faults.ArenaFull limit passed b = IsAtLimit steps.ArenaFull b
+MayWrite faults.IncarnationLimit limit passed b = IsAtLimit steps.IncarnationLimit b
+MayWrite faults.Memory limit passed b = Unit {0}
+MayWrite faults.Spawn limit passed b = Unit {0}
+MayWrite faults.StepLimit limit passed b = HasSpentWorker limit b ⊎ AreAllPassed limit passed
+
+abbrev pub FaultFits : Option ℕ → ℕ → CoreState → Option RunFault → Type 0
+FaultFits limit passed b None = Unit {0}
+FaultFits limit passed b (Some fault) = MayWrite fault limit passed b
 
 -- the fault of a record that was refused
 abbrev pub run_fault : RecordFault → RunFault
@@ -121,8 +137,8 @@ pub record Owes (next : NextStep) (share : Share) (b : CoreState) : Type 0 where
 
 -- ---- step calls
 
--- the share's worker owed this step, and it was made; no fault is written, the share agrees with the core before the step
--- and after it, and its pass and its limit stay
+-- the share's worker owed this step, and the step was made. No fault is written, the share agrees with the core before and after
+-- the step, and its pass and its limit stay
 pub record IsMade (owed : NextStep) (step : Step) (before after : BookState) (share counted : Share) : Type 0 where
   pub none_before : before.fault ≡ None
   pub owes : Owes owed share before.core
@@ -132,6 +148,7 @@ pub record IsMade (owed : NextStep) (step : Step) (before after : BookState) (sh
   pub pass : counted.pass ≡ share.pass
   pub limit : counted.work_limit ≡ share.work_limit
   pub agrees : AgreesWith counted after.core
+  pub passed : after.passed ≡ passed_with before.passed (passed_by_step share.worker step before.core.state)
 
 -- a step call that is refused writes its fault, and leaves the core and the share as they were
 pub record LeavesWritten (fault : RunFault) (before after : BookState) (share left : Share) : Type 0 where
@@ -139,36 +156,40 @@ pub record LeavesWritten (fault : RunFault) (before after : BookState) (share le
   pub written : after.fault ≡ Some fault
   pub kept : left ≡ share
 
--- a worker may count one step more
-abbrev pub MayCount : ℕ → CoreState → Type 0
-MayCount w b = (get_or b.state.counts w no_counts).steps < count_limit
+-- a worker may count one step more, and more versions may be passed
+abbrev pub MayCountStep : ℕ → BookState → Type 0
+MayCountStep w b = ((get_or b.core.state.counts w no_counts).steps < count_limit) × (AreAllPassed b.work_limit b.passed → ⊥)
 
--- why a step call is refused: the first of these that applies. The fault that was written before; Foreign where the worker
--- does not owe the step; StepLimit where it can't count another one; Foreign where the run is not its own; a limit that the
--- step meets; Memory where `Wants` holds
-abbrev pub IsCauseAfter : Option RunFault → (Owed : Type 0) → (Own : Type 0) → (Wants : Type 0) → Step → ℕ → CoreState → RunFault → Type 0
+-- a worker can't count another step, or no more versions may be passed
+abbrev pub CountsNoStep : ℕ → BookState → Type 0
+CountsNoStep w b = ((get_or b.core.state.counts w no_counts).steps ≡ count_limit) ⊎ AreAllPassed b.work_limit b.passed
+
+-- why a step call is refused: the first of these that applies. The fault that was written before; Foreign if the worker does not
+-- owe the step; StepLimit if it can't count another one, or if as many versions were passed as the limit; Foreign if the run is
+-- not its own; a limit that the step meets; Memory if `Wants` holds
+abbrev pub IsCauseAfter : Option RunFault → (Owed : Type 0) → (Own : Type 0) → (Wants : Type 0) → Step → ℕ → BookState → RunFault → Type 0
 IsCauseAfter (Some first) Owed Own Wants step w b fault = fault ≡ first
 IsCauseAfter None Owed Own Wants step w b faults.BadCount = ⊥
-IsCauseAfter None Owed Own Wants step w b faults.Foreign = (Owed → ⊥) ⊎ (Owed × MayCount w b × (Own → ⊥))
-IsCauseAfter None Owed Own Wants step w b faults.ArenaFull = Owed × MayCount w b × Own × IsRefused w step steps.ArenaFull b
-IsCauseAfter None Owed Own Wants step w b faults.IncarnationLimit = Owed × MayCount w b × Own × IsRefused w step steps.IncarnationLimit b
-IsCauseAfter None Owed Own Wants step w b faults.Memory = Owed × MayCount w b × Own × Wants
+IsCauseAfter None Owed Own Wants step w b faults.Foreign = (Owed → ⊥) ⊎ (Owed × MayCountStep w b × (Own → ⊥))
+IsCauseAfter None Owed Own Wants step w b faults.ArenaFull = Owed × MayCountStep w b × Own × IsRefused w step steps.ArenaFull b.core
+IsCauseAfter None Owed Own Wants step w b faults.IncarnationLimit = Owed × MayCountStep w b × Own × IsRefused w step steps.IncarnationLimit b.core
+IsCauseAfter None Owed Own Wants step w b faults.Memory = Owed × MayCountStep w b × Own × Wants
 IsCauseAfter None Owed Own Wants step w b faults.Spawn = ⊥
-IsCauseAfter None Owed Own Wants step w b faults.StepLimit = Owed × ((get_or b.state.counts w no_counts).steps ≡ count_limit)
+IsCauseAfter None Owed Own Wants step w b faults.StepLimit = Owed × CountsNoStep w b
 
 abbrev pub IsCause : (Owed : Type 0) → (Own : Type 0) → (Wants : Type 0) → Step → ℕ → BookState → RunFault → Type 0
-IsCause Owed Own Wants step w b fault = IsCauseAfter b.fault Owed Own Wants step w b.core fault
+IsCause Owed Own Wants step w b fault = IsCauseAfter b.fault Owed Own Wants step w b fault
 
--- what a step call comes to: its step was made and `Tells` holds of what it returns, or its refusal is written for a cause
+-- the result of a step call: its step was made and `Tells` holds of what it returns, or its refusal is written for a cause
 abbrev pub IsStepCall : {X : Type 0} → NextStep → Step → (Own : Type 0) → (Wants : Type 0) → (Tells : X → Type 0) → (before after : BookState) → (share counted : Share) → Result X RunFault → Type 0
 IsStepCall owed step Own Wants Tells before after share counted (Ok x) = IsMade owed step before after share counted × Tells x
 IsStepCall owed step Own Wants Tells before after share counted (Err fault) = LeavesWritten fault before after share counted × IsCause (Owes owed share before.core) Own Wants step share.worker before fault
 
--- what a call returns of the step that its worker owes now; no asking was answered Done
+-- a call returns the step that its worker owes now; no asking was answered Done
 abbrev pub TellsNext : BookState → Share → Share → NextStep → Type 0
 TellsNext after share counted next = (next ≡ next_step_of after.core.state (task_at after.core.state counted.worker)) × (counted.dones ≡ share.dones)
 
--- the same where the step is one of a task by its kind
+-- the result of a step call for a step of a task by its kind
 abbrev pub IsMakeCall : StepKind → ℕ → ℕ → (before after : BookState) → (share counted : Share) → Result NextStep RunFault → Type 0
 IsMakeCall kind call n before after share counted result = IsStepCall (next_step.Make kind call n) (step_of kind) ⊤ ⊥ (TellsNext after share counted) before after share counted result
 
@@ -179,37 +200,37 @@ IsReadCall key call n before after share counted result =
     (λ answer. (answer ≡ read_result_of before.core.job.store key (reading before.core.state.versions key call)) × (counted.dones ≡ share.dones)) before after share counted result
 
 -- why a worker may not make a step that it should owe, whatever the step
-abbrev pub IsUnready : Option RunFault → NextStep → Share → CoreState → RunFault → Type 0
+abbrev pub IsUnready : Option RunFault → NextStep → Share → BookState → RunFault → Type 0
 IsUnready (Some first) next share b fault = fault ≡ first
 IsUnready None next share b faults.BadCount = ⊥
-IsUnready None next share b faults.Foreign = Owes next share b → ⊥
+IsUnready None next share b faults.Foreign = Owes next share b.core → ⊥
 IsUnready None next share b faults.ArenaFull = ⊥
 IsUnready None next share b faults.IncarnationLimit = ⊥
 IsUnready None next share b faults.Memory = ⊥
 IsUnready None next share b faults.Spawn = ⊥
-IsUnready None next share b faults.StepLimit = Owes next share b × ((get_or b.state.counts share.worker no_counts).steps ≡ count_limit)
+IsUnready None next share b faults.StepLimit = Owes next share b.core × CountsNoStep share.worker b
 
 -- a share's worker is the core's, and makes no further step
 abbrev pub IsSpentShare : Option ℕ → Share → CoreState → Type 0
 IsSpentShare limit share b = AgreesWith share b × IsSpent limit share.counts
 
--- the fault that stands written where a worker stops: the one that was written before; else StepLimit where it makes no
--- further step, and Foreign where it is not the core's or might make one
+-- the fault that the book has after it stopped a worker: the one that was written before; otherwise StepLimit if the worker makes
+-- no further step, and Foreign if it is not the core's or might make one
 abbrev pub IsStopped : Option RunFault → Option ℕ → Share → CoreState → RunFault → Type 0
 IsStopped (Some first) limit share b fault = fault ≡ first
 IsStopped None limit share b fault = (IsSpentShare limit share b × (fault ≡ faults.StepLimit)) ⊎ ((IsSpentShare limit share b → ⊥) × (fault ≡ faults.Foreign))
 
--- the answer to an asking: where all was done, with one more answer Done in the share; else the step that is owed now
+-- the answer to an asking: Done if all was done, with one more answer Done in the share; otherwise the step that is owed now
 abbrev pub IsAsked : Asked → CoreState → CoreState → Share → Share → Type 0
 IsAsked (asked.Done all) before after share counted = (is_done before.state ≡ true) × (is_done after.state ≡ true) × (counted.dones ≡ share.dones + 1)
 IsAsked (asked.Owes next) before after share counted = (is_done before.state ≡ false) × (counted.dones ≡ share.dones) × (next ≡ next_step_of after.state (task_at after.state share.worker))
 
--- a step that it names is of a call with an index below `count`
+-- a step that the answer names is of a call with an index below `count`
 abbrev pub IsAskWithin : ℕ → Asked → Type 0
 IsAskWithin count (asked.Done all) = Unit {0}
 IsAskWithin count (asked.Owes next) = IsWithin count next
 
--- the step that the worker owes then; none where all is done
+-- the step that the worker owes then; none if all is done
 abbrev pub owed_by : Asked → Option NextStep
 owed_by (asked.Done all) = None
 owed_by (asked.Owes next) = Some next

@@ -6,7 +6,7 @@ use Rattle.atomic_table.specs.declared.shared.Seat.{Seat}
 use Rattle.crossbeam_utils.specs.declared.atomic.seq_cell.Doing.{Doing}
 use Rattle.workers.specs.declared.done_cell.DoneCell.{DoneCell}
 
--- the cell shows done only where some pass has seen it so
+-- the cell shows done only if some pass has seen it so
 abbrev pub HasSeenDone : List ℕ → List ℕ → Type 0
 HasSeenDone words views = slice_index words 0 ≡ 1 → (pass : ℕ) × (get_elem? views pass ≡ some 1)
 

@@ -6,7 +6,6 @@ use Rattle.workers.specs.declared.chain.ChainFault.TheVariants.{Run, TooManyCall
 use Rattle.workers.specs.declared.fault.RunFault.{RunFault}
 use Rattle.workers.specs.declared.fault.RunFault.TheVariants.{BadCount, Foreign, ArenaFull, IncarnationLimit, Memory, Spawn, StepLimit}
 
--- the number of a refusal
 abbrev pub number_of : RunFault → ℕ
 number_of BadCount = 1
 number_of Foreign = 2
@@ -16,7 +15,6 @@ number_of Memory = 5
 number_of Spawn = 6
 number_of StepLimit = 7
 
--- its name
 abbrev pub name_of : RunFault → List ℕ
 name_of BadCount = codes "BadCount"
 name_of Foreign = codes "Foreign"
@@ -26,7 +24,7 @@ name_of Memory = codes "Memory"
 name_of Spawn = codes "Spawn"
 name_of StepLimit = codes "StepLimit"
 
--- both, as they are printed
+-- the name and the number, as they are printed
 abbrev pub fault_text : RunFault → List ℕ
 fault_text fault = name_of fault ++ codes " " ++ decimal (number_of fault)
 

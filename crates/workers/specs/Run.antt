@@ -5,14 +5,14 @@ use Rattle.rv_step.specs.Fold.{receipts_of}
 use Rattle.stm_state.specs.Steps as steps
 use Rattle.stm_core.specs.declared.outcome.Finished.{Finished}
 use Rattle.workers.specs.Book.{KeepsLimit}
-use Rattle.workers.specs.History.{AreOneWorkerCounts, HasHistory, HasLimit, HasStepLimit}
+use Rattle.workers.specs.History.{AreOneWorkerCounts, HasHistory, HasLimit, HasWorkLimit}
 use Rattle.workers.specs.Settle.{AreLeft, AreSharesOf}
 use Rattle.workers.specs.declared.book.share.Share.{Share}
 use Rattle.workers.specs.declared.fault.RunFault.{RunFault}
 use Rattle.workers.specs.declared.fault.RunFault.TheVariants as faults
 
--- the answer of this number of workers to a job, and the shares that they leave, with a limit for their steps, asks aside, if
--- there is one. A limit answers only where some list of worker steps meets it
+-- the answer of this number of workers to a job, and the shares that they leave, with a limit for their steps, not counting asks,
+-- if there is one. A limit is the answer only if some list of worker steps meets it
 abbrev pub IsRun : Job → ℕ → Option ℕ → List Share → Result Finished RunFault → Type 0
 IsRun job workers limit shares (Ok finished) =
     (finished.receipts.items ≡ receipts_of job.block job.store) × HasHistory job workers finished.counts.items
@@ -20,4 +20,4 @@ IsRun job workers limit shares (Ok finished) =
     × All (λ share. KeepsLimit limit share.counts) shares × AreLeft limit workers shares
 IsRun job workers limit shares (Err fault) =
     (fault ≡ faults.ArenaFull → HasLimit job workers steps.ArenaFull) × (fault ≡ faults.IncarnationLimit → HasLimit job workers steps.IncarnationLimit)
-    × (fault ≡ faults.StepLimit → HasStepLimit job workers limit) × (fault ≢ faults.BadCount → AreLeft limit workers shares)
+    × (fault ≡ faults.StepLimit → HasWorkLimit job workers limit) × (fault ≢ faults.BadCount → AreLeft limit workers shares)

@@ -29,8 +29,8 @@ pub record AreSharesOf (counts : List Counts) (shares : List Share) : Type 0 whe
   pub count : length shares ≡ length counts
   pub each : (w : ℕ) (share : Share) → slice_get shares w ≡ Some share → counts_of_share share ≡ record { worker = w; counts = get_or counts w no_counts; dones = 1 }
 
--- a share that a thread gives back: it is this worker's, with exactly one ask that was answered Done, and with no more steps, asks
--- aside, than the limit allows, if there is one
+-- a share that a thread gives back: it is this worker's, with exactly one ask that was answered Done, and with no more steps, not
+-- counting asks, than the limit allows, if there is one
 abbrev pub IsGivenBack : Option ℕ → ℕ → Share → Type 0
 IsGivenBack limit w share = (share.worker ≡ w) × (share.dones ≡ 1) × KeepsLimit limit share.counts
 
@@ -39,7 +39,7 @@ pub record AreGivenBack (limit : Option ℕ) (workers : ℕ) (shares : List Shar
   pub count : length shares ≡ workers
   pub each : (w : ℕ) (share : Share) → slice_get shares w ≡ Some share → IsGivenBack limit w share
 
--- the shares that a block leaves that is refused: none, or those that its threads gave back
+-- the shares that a block leaves: none, or those that its threads gave back
 abbrev pub AreLeft : Option ℕ → ℕ → List Share → Type 0
 AreLeft limit workers shares = (shares ≡ []) ⊎ AreGivenBack limit workers shares
 
@@ -50,7 +50,7 @@ pub record IsOutcomeOf (b : CoreState) (outcome : Outcome) : Type 0 where
   pub store : outcome.store ≡ store_after b.job.block b.job.store
   pub counts : outcome.counts.items ≡ b.state.counts
 
--- what a core that is done leaves beside the storage
+-- what a core that is done leaves apart from the storage
 pub record IsFinishedOf (b : CoreState) (finished : Finished) : Type 0 where
   pub receipts : finished.receipts.items ≡ receipts_of b.job.block b.job.store
   pub counts : finished.counts.items ≡ b.state.counts
@@ -64,17 +64,18 @@ IsThatOrMemory That (Err fault) = fault ≡ faults.Memory
 abbrev pub IsOutcomeOrMemory : CoreState → Result Outcome RunFault → Type 0
 IsOutcomeOrMemory b answer = IsThatOrMemory (IsOutcomeOf b) answer
 
--- the fault that answers a job, whatever memory there is: the written one, if any, else Foreign where the shares are not settled
+-- the fault that answers a job, whatever memory there is: the written one, if any; otherwise Foreign if the shares are not
+-- settled
 abbrev pub IsFaultAfter : Option RunFault → CoreState → List Share → RunFault → Type 0
 IsFaultAfter (Some fault) b shares found = found ≡ fault
 IsFaultAfter None b shares found = (AreSettled b shares → ⊥) × (found ≡ faults.Foreign)
 
--- the written fault, if any; else `That` or Memory where the shares are settled, and Foreign where they are not
+-- the written fault, if any; otherwise `That` or Memory if the shares are settled, and Foreign if they are not
 abbrev pub IsThatAfter : {X : Type 0} → (X → Type 0) → Option RunFault → CoreState → List Share → Result X RunFault → Type 0
 IsThatAfter That (Some fault) b shares answer = answer ≡ Err fault
 IsThatAfter That None b shares answer = (AreSettled b shares × IsThatOrMemory That answer) ⊎ ((AreSettled b shares → ⊥) × (answer ≡ Err faults.Foreign))
 
--- the written fault, if any; else the outcome or Memory where the shares are settled, and Foreign where they are not
+-- the written fault, if any; otherwise the outcome or Memory if the shares are settled, and Foreign if they are not
 abbrev pub IsSettledAfter : Option RunFault → CoreState → List Share → Result Outcome RunFault → Type 0
 IsSettledAfter first b shares answer = IsThatAfter (IsOutcomeOf b) first b shares answer
 
@@ -82,6 +83,6 @@ IsSettledAfter first b shares answer = IsThatAfter (IsOutcomeOf b) first b share
 abbrev pub IsFinishedAfter : Option RunFault → CoreState → List Share → Result Finished RunFault → Type 0
 IsFinishedAfter first b shares answer = IsThatAfter (IsFinishedOf b) first b shares answer
 
--- the answer to a job: Foreign where the core has another job, whatever else holds; otherwise as above
+-- the answer to a job: Foreign if the core has another job, in any case; otherwise as above
 abbrev pub IsSettled : Job → List Share → BookState → Result Outcome RunFault → Type 0
 IsSettled job shares b answer = ((b.core.job ≡ job) × IsSettledAfter b.fault b.core shares answer) ⊎ ((b.core.job ≢ job) × (answer ≡ Err faults.Foreign))

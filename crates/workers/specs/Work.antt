@@ -28,7 +28,7 @@ use Rattle.workers.specs.Settle.{IsGivenBack}
 pub record IsBookOf (job : Job) (b : BookState) : Type 0 where
   pub same_job : b.core.job ≡ job
   pub reached : Reached (block_in b.core) (length b.core.state.tasks) b.core.state
-  pub fits : FaultFits b.work_limit b.core b.fault
+  pub fits : FaultFits b.work_limit b.passed b.core b.fault
 
 -- ---- what a worker is answered: it made a call of some book of the job, and this is its answer
 
@@ -54,22 +54,23 @@ pub record IsSameWorkers (share left : Share) : Type 0 where
   pub worker : left.worker ≡ share.worker
   pub limit : left.work_limit ≡ share.work_limit
 
--- the same, and so many asks were answered Done; if the limit was kept, it still is
+-- the same, and this many asks were answered Done; if the limit was kept, it still is
 pub record IsLeftShare (count : ℕ) (share left : Share) : Type 0 where
   pub same : IsSameWorkers share left
   pub dones : left.dones ≡ count
   pub keeps : KeepsLimit share.work_limit share.counts → KeepsLimit left.work_limit left.counts
 
--- what is left after steps, with so many asks answered Done by what they return; where they are refused, they count what they made
+-- the share after steps: what the steps return says how many asks were answered Done; if they are refused, only the worker and
+-- the limit stay
 abbrev pub LeavesShare : {X E : Type 0} → (X → ℕ) → Share → Share → Result X E → Type 0
 LeavesShare dones share left (Ok x) = IsLeftShare (dones x) share left
 LeavesShare dones share left (Err fault) = IsSameWorkers share left
 
--- what is left after steps of which no ask is answered Done
+-- the share after steps of which no ask is answered Done
 abbrev pub Steps : {X E : Type 0} → Share → Share → Result X E → Type 0
 Steps share left result = LeavesShare (λ _. share.dones) share left result
 
--- what is left after a step that may be an ask: it is answered Done where none is owed then
+-- the number of asks answered Done after a step that may be an ask: it was answered Done if no step is owed then
 abbrev pub dones_by : ℕ → Option NextStep → ℕ
 dones_by n None = n + 1
 dones_by n (Some next) = n
@@ -77,7 +78,7 @@ dones_by n (Some next) = n
 abbrev pub StepsOrEnds : {E : Type 0} → Share → Share → Result (Option NextStep) E → Type 0
 StepsOrEnds share left result = LeavesShare (dones_by share.dones) share left result
 
--- a look at the cell changes the pass alone
+-- a look at the cell changes only the pass
 abbrev pub Looks : Share → Share → Type 0
 Looks share left = left ≡ record share { pass = left.pass }
 
@@ -87,26 +88,26 @@ Looks share left = left ≡ record share { pass = left.pass }
 abbrev pub IsBlocked : Job → ℕ → ℕ → Share → Type 0
 IsBlocked job call n counted = (share : Share) × (key : List ℕ) × IsReadAnswer job key call n share counted (Ok read_result.Blocked)
 
--- what a worker owes after a run: a park where a read met an estimate, else what a book answered to the record
+-- what a worker owes after a run: a park if a read met an estimate, otherwise what a book answered to the record
 abbrev pub IsRunAnswer : Job → ℕ → ℕ → Share → NextStep → Type 0
 IsRunAnswer job call n counted next = ((next ≡ next_step.Make kinds.Park call n) × IsBlocked job call n counted)
     ⊎ ((share : Share) × IsRecordAnswer job call n share counted (Ok next))
 
--- what a worker owes after it asked, if all was not done: what a book answered. It may look at the cell before it asks and after
--- that, and then its share has another pass
+-- what a worker owes after it asked: what a book answered. The worker may look at the cell before and after it asks, and then its
+-- share has another pass
 abbrev pub IsAsking : Job → Share → Share → Option NextStep → Type 0
 IsAsking job share counted next = (asking : Share) × (told : Share) × (asked : Asked)
     × (counts_of_share asking ≡ counts_of_share share) × (counts_of_share counted ≡ counts_of_share told) × IsAskAnswer job asking told (Ok asked) × (next ≡ owed_by asked)
 
--- what a worker owes after a step, by the step; none where all was done
+-- what a worker owes after a step, by the step; none if all was done
 abbrev pub IsStepAnswer : Job → NextStep → Share → Share → Option NextStep → Type 0
 IsStepAnswer job next_step.Ask share counted next = IsAsking job share counted next
 IsStepAnswer job (next_step.Run call n) share counted (Some next) = IsRunAnswer job call n counted next
 IsStepAnswer job (next_step.Make kind call n) share counted (Some next) = IsMakeAnswer job kind call n share counted (Ok next)
 IsStepAnswer job step share counted None = ⊥
 
--- the step that a worker makes next: at first it asks, and then it makes the step that it owes after the one before, which it made
--- by this rule too
+-- the step that a worker makes next: at first it asks. After a step that it made by this rule, it makes the step that it owes
+-- then
 pub data IsNext (job : Job) (first : Share) : Share → NextStep → Type 0 where
   asks_first : IsNext job first first next_step.Ask
   after_step : {share counted : Share} {step next : NextStep} → IsNext job first share step → IsStepAnswer job step share counted (Some next) → IsNext job first counted next
@@ -123,22 +124,22 @@ IsRefusedBy job (next_step.Run call n) left fault = ((key : List ℕ) × IsReadA
 abbrev pub IsStoppedBy : Job → Share → RunFault → Type 0
 IsStoppedBy job left fault = IsSpent left.work_limit left.counts × (book : BookState) × IsBookOf job book × IsStopped book.fault book.work_limit left book.core fault
 
--- some book of the job was told of a fault of its own, and this one stands written then
+-- some book of the job got a fault of its own, and this one is written in it then
 abbrev pub IsWrittenOver : Job → RunFault → RunFault → Type 0
 IsWrittenOver job own fault = (book : BookState) × IsBookOf job book × (fault ≡ first_fault book.fault own)
 
--- why a worker ends that is to make a step, by the share that it has then: its call was refused, or it was stopped; or memory
+-- why a worker ends in place of making a step, by the share that it has then: its call was refused, or it was stopped, or memory
 -- ran out outside the lock
 abbrev pub IsStepFault : Job → NextStep → Share → WorkFault → Type 0
 IsStepFault job step left (Refused written) = IsRefusedBy job step left written ⊎ IsStoppedBy job left written
 IsStepFault job step left (Met fault) = (fault.met ≡ outside.Memory) × IsWrittenOver job faults.Memory fault.written
 
--- the fault that stands written
-abbrev pub fault_of : WorkFault → RunFault
-fault_of (Refused written) = written
-fault_of (Met fault) = fault.written
+-- the fault that the book has
+abbrev pub run_fault_of : WorkFault → RunFault
+run_fault_of (Refused written) = written
+run_fault_of (Met fault) = fault.written
 
--- why a worker ends with a fault in place of its share: the step that it was to make, with the share that it had before it, and
+-- why a worker ends with a fault in place of its share: the step that it had to make, with the share that it had before it, and
 -- what it met, with the share that it had then
 pub record IsWorkersEnd (job : Job) (first : Share) (fault : RunFault) : Type 0 where
   pub step : NextStep
@@ -148,21 +149,21 @@ pub record IsWorkersEnd (job : Job) (first : Share) (fault : RunFault) : Type 0 
   pub worker : left.worker ≡ first.worker
   pub limit : left.work_limit ≡ first.work_limit
   pub met : WorkFault
-  pub is : fault ≡ fault_of met
+  pub is : fault ≡ run_fault_of met
   pub ends : IsStepFault job step left met
 
 -- ---- what the thread of a worker promises
 
--- a fact holds of each element with its index, where the first one has this index
+-- a fact holds of each element with its index; the first element has this index
 abbrev pub HoldFrom : {X : Type 0} → (ℕ → X → Type 0) → ℕ → List X → Type 0
 HoldFrom Holds n [] = Unit {0}
 HoldFrom Holds n (x ∷ xs) = Holds n x × HoldFrom Holds (n + 1) xs
 
--- where it was started, it promised to give back the share of this worker, within this limit, if there is one
+-- if the thread was started, it promised to give back the share of this worker, within this limit, if there is one
 abbrev pub HasPromised : Option ℕ → ℕ → Result (PromisedHandle (Result Share RunFault) GivesBack) MetFault → Type 0
 HasPromised limit w thread = IfOk thread (λ started. (started.promise.worker ≡ w) × (started.promise.work_limit ≡ limit))
 
--- it was started, and this share is one that it promised to give back
+-- the thread was started, and this share is one that it promised to give back
 abbrev pub IsGivenBy : Result (PromisedHandle (Result Share RunFault) GivesBack) MetFault → Share → Type 0
 IsGivenBy (Ok started) back = IsGivenBack started.promise.work_limit started.promise.worker back
 IsGivenBy (Err met) back = ⊥

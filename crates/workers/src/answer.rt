@@ -12,11 +12,10 @@ use std::alloc::{AllocError, Global};
 use stm_core::{Core, Finished, JobSource};
 use version_arena::Arena;
 
-/// The answer to a job, by its book and the shares that came back in the order of their workers; and the
-/// core's arena, without records. The answer is the first of these that applies: Foreign where the core has
-/// another job; the fault that was written; Foreign where workers are not done, where there is not one share
-/// per worker, where a worker has not exactly one ask that was answered Done, or where a share has other
-/// counts than the core; Memory where memory ran out; and else the core's outcome.
+/// The answer to a job, by its book and the shares that came back in the order of their workers; and the core's arena, without
+/// records. The answer is the first of these that applies: Foreign if the core has another job; the fault that was written;
+/// Foreign if workers are not done, if there is not one share per worker, if a worker does not have exactly one ask that was
+/// answered Done, or if a share has other counts than the core; Memory if memory ran out; otherwise the core's outcome.
 pub fn settle<J: JobName>(
     alloc: Global,
     book: Book<J>,
@@ -32,7 +31,7 @@ pub fn settle<J: JobName>(
     settle_shares(alloc, book, shares.as_slice())
 }
 
-/// The same, where the core has that job.
+/// The same for a core that has that job.
 fn settle_shares<J: JobName>(
     alloc: Global,
     book: Book<J>,
@@ -62,7 +61,7 @@ pub(crate) fn finish<J: JobName, H: JobSource>(
     }
 }
 
-/// The fault that answers a job; None where the core's outcome does, if memory allows.
+/// The fault that answers a job; None if the core's outcome answers it, provided that memory suffices.
 fn fault_of<J: JobName, H: JobSource>(book: &Book<J, H>, shares: &[Share]) -> Option<RunFault>
     ensures found { IfSome result (λ found. IsFaultAfter book.now.fault book.now.core shares.now found) }
     ensures none { result ≡ None → (book.now.fault ≡ None) × AreSettled book.now.core shares.now }
@@ -76,7 +75,7 @@ fn fault_of<J: JobName, H: JobSource>(book: &Book<J, H>, shares: &[Share]) -> Op
     None
 }
 
-/// The outcome of a core that is done, or Memory where memory ran out; and its arena, without records.
+/// The outcome of a core that is done, or Memory if memory ran out; and its arena, without records.
 fn outcome_of(alloc: Global, core: Core) -> (Result<Outcome, RunFault>, Arena)
     requires { is_done core.state ≡ true }
     ensures answer { IsOutcomeOrMemory core result.0 }
@@ -89,8 +88,7 @@ fn outcome_of(alloc: Global, core: Core) -> (Result<Outcome, RunFault>, Arena)
     }
 }
 
-/// What a core that is done leaves beside the storage, or Memory where memory ran out; and its arena, without
-/// records.
+/// What a core that is done leaves apart from the storage, or Memory if memory ran out; and its arena, without records.
 fn finished_of<H: JobSource>(alloc: Global, core: Core<H>) -> (Result<Finished, RunFault>, Arena)
     requires { is_done core.state ≡ true }
     ensures answer { IsThatOrMemory (IsFinishedOf core) result.0 }

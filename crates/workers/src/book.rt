@@ -1,13 +1,17 @@
-//! What stands under the lock: a core, and the first fault that was written.
+//! What is under the lock: a core, and the first fault that was written.
 
 pub mod asked;
 mod recording;
 pub mod share;
 pub mod written;
 
-ghost use Rattle.std.specs.Prelude.{◌≡◌, []};
+ghost use Rattle.std.specs.Prelude.{◌≡◌, ℕ, [], List};
 ghost use Rattle.std.specs.FinMap as finite;
+ghost use Rattle.rv_ledger.specs.Key.{Storage};
 ghost use Rattle.rv_ledger.specs.declared.job.Job.{Job};
+ghost use Rattle.mvmap.specs.Reading.{Visible};
+ghost use Rattle.stm_core.specs.CoreState.{read_result_of};
+ghost use Rattle.stm_core.specs.Passed.{passed_by_seen};
 
 use crate::fault::{OutsideFault, RunFault};
 pub use asked::{AllDone, Asked};
@@ -20,7 +24,7 @@ use stm_core::{AskResult, Core, JobSource, NextStep, ReadResult, StepKind};
 pub(crate) use written::MetFault;
 pub use written::WrittenFault;
 
-/// A name of a job, for contracts alone. Who starts the job's threads picks it.
+/// A name of a job, for contracts alone. Whoever starts the job's threads picks it.
 pub trait JobName {
     ghost job: { Job };
 }
@@ -29,16 +33,17 @@ impl JobName for Brand {
     ghost job = { record { block = []; store = finite.empty } };
 }
 
-/// A core with the job that `J` names, and the first fault that was written beside it. A written ArenaFull or
-/// IncarnationLimit is true of the core: some worker's due step is refused for this limit. So is a written
-/// StepLimit: some worker has made 2^64 - 1 steps, or as many, asks aside, as the book allows. A written fault is never
-/// BadCount.
+/// A core with the job that `J` names, and the first fault that was written beside it. A written ArenaFull or IncarnationLimit is
+/// true of the core: some worker's due step is refused for this limit. A written StepLimit is true of it too: some worker has
+/// made 2^64 - 1 steps, or as many steps, not counting asks, as the book allows. A written fault is never BadCount.
 #[derive(Drop)]
 pub struct Book<J: JobName = Brand, H: JobSource = Job> {
     /// Unused bytes, so that the word of the lock has a line of the processor's cache to itself: threads that wait for the
     /// lock take that line away from the thread that has it.
     apart: [u64; 16],
     fault: Option<RunFault>,
+    /// How many versions the steps of all workers passed.
+    passed: u64,
     work_limit: Option<u64>,
     core: Core<H>,
     of: PhantomData<J>,
@@ -52,15 +57,15 @@ impl<J: JobName, H: JobSource> Model for Book<J, H> {
     ghost use Rattle.rv_ledger.specs.contracts.job.Job.{the_row as job_row};
     ghost use Rattle.stm_state.specs.contracts.state.CallState.{the_row as call_row};
     ghost use Rattle.stm_state.specs.contracts.state.Task.{the_row as task_row};
-    ghost use Rattle.workers.specs.Book.{BookState, FaultFits};
+    ghost use Rattle.workers.specs.Book.{BookState, FaultFits, IsOnTheWay};
 
     ghost Value = { BookState };
 
     ghost coded = { Prim.hlevel (codes, job_row.coded, call_row.coded, task_row.coded, finite.code {R = place_cmp} coded_place coded_entry) };
 
-    ghost view = { λ b. record { core = b.core; fault = b.fault; work_limit = b.work_limit } };
+    ghost view = { λ b. record { core = b.core; fault = b.fault; passed = b.passed; work_limit = b.work_limit } };
 
-    ghost invariant = { λ b. FaultFits b.work_limit b.core b.fault × (b.core.job ≡ J.job) };
+    ghost invariant = { λ b. FaultFits b.work_limit b.passed b.core b.fault × (b.core.job ≡ J.job) × IsOnTheWay b.passed b.core };
 }
 
 impl<J: JobName, H: JobSource> Book<J, H> {
@@ -68,36 +73,39 @@ impl<J: JobName, H: JobSource> Book<J, H> {
     ghost use Rattle.rv_ledger.specs.Lent.{lent_content};
     ghost use Rattle.mvmap.specs.Reading.{reading};
     ghost use Rattle.stm_state.specs.Done.{Reached};
-    ghost use Rattle.stm_state.specs.Parts.{CallsAreAttended, IsSized, OthersHaveEstimates, ReadsAreWatched, RunsAreBorneOut};
+    ghost use Rattle.stm_state.specs.Parts.{CallsAreAttended, IsStateSized, OthersHaveEstimates, ReadsAreWatched, RunsAreBorneOut};
     ghost use Rattle.stm_state.specs.Steps as steps;
     ghost use Rattle.scheduler.specs.Schedule.{count_limit};
-    ghost use Rattle.stm_core.specs.CoreState.{HasReadRoom, IsOwn, IsTaken, IsWithin, block_in, read_result_of};
+    ghost use Rattle.stm_core.specs.CoreState.{HasReadRoom, IsOwn, IsTaken, IsWithin, block_in, step_of};
+    ghost use Rattle.stm_core.specs.Passed.{passed_by_step};
     ghost use Rattle.stm_core.specs.declared.next_step.NextStep.TheVariants as next_step;
-    ghost use Rattle.workers.specs.Book.{FaultFits, IsAsked, IsAskWithin, IsCause, IsMade, IsMakeCall, IsReadCall, IsStopped, IsUnready, LeavesWritten, MayWrite, Owes, AgreesWith, first_fault, outside_fault};
+    ghost use Rattle.workers.specs.Book.{AgreesWith, AreAllPassed, FaultFits, IsAsked, IsAskWithin, IsCause, IsMade, IsMakeCall, IsOnTheWay, IsReadCall, IsStopped, IsUnready, LeavesWritten, MayWrite, Owes, first_fault, outside_fault, passed_with};
 
     /// A core, and no fault. No worker is stopped before it has made 2^64 - 1 steps.
     pub fn new(core: Core<H>) -> Book<J, H>
         requires { core.job ≡ J.job }
-        ensures { result ≡ record { core = core; fault = None; work_limit = None } }
+        ensures { result ≡ record { core = core; fault = None; passed = 0; work_limit = None } }
     {
         Book::within(core, None)
     }
 
-    /// A core, and no fault. Where there is a limit, a worker is stopped that has made so many steps, asks aside.
+    /// A core, and no fault. If there is a limit, a worker is stopped once it has made this many steps, not counting asks.
     pub(crate) fn within(core: Core<H>, work_limit: Option<u64>) -> Book<J, H>
         requires { core.job ≡ J.job }
-        ensures { result ≡ record { core = core; fault = None; work_limit = work_limit } }
+        ensures { result ≡ record { core = core; fault = None; passed = 0; work_limit = work_limit } }
     {
+        core.holds();
         Book {
             apart: [0; 16],
             fault: None,
+            passed: 0,
             work_limit,
             core,
             of: PhantomData,
         }
     }
 
-    /// The number of steps, asks aside, from which on a worker is stopped, if there is such a limit.
+    /// The number of steps, not counting asks, after which a worker is stopped, if there is such a limit.
     pub(crate) fn work_limit(&self) -> Option<u64>
         ensures { result ≡ self.now.work_limit }
     {
@@ -105,7 +113,7 @@ impl<J: JobName, H: JobSource> Book<J, H> {
     }
 
     /// The core.
-    pub fn core(&self) -> &Core<H>
+    pub(crate) fn core(&self) -> &Core<H>
         ensures { result.now ≡ self.now.core }
     {
         &self.core
@@ -124,19 +132,20 @@ impl<J: JobName, H: JobSource> Book<J, H> {
     pub fn holds(&self)
         ensures job { self.now.core.job ≡ J.job }
         ensures reached { Reached (block_in self.now.core) (length self.now.core.state.tasks) self.now.core.state }
-        ensures sized { IsSized (length self.now.core.job.block) (length self.now.core.state.tasks) self.now.core.state }
+        ensures sized { IsStateSized (length self.now.core.job.block) (length self.now.core.state.tasks) self.now.core.state }
         ensures attended { CallsAreAttended (block_in self.now.core) self.now.core.state }
         ensures estimates { OthersHaveEstimates (block_in self.now.core) self.now.core.state }
         ensures watched { ReadsAreWatched (block_in self.now.core) self.now.core.state }
         ensures borne_out { RunsAreBorneOut (block_in self.now.core) self.now.core.state }
-        ensures fits { FaultFits self.now.work_limit self.now.core self.now.fault }
+        ensures fits { FaultFits self.now.work_limit self.now.passed self.now.core self.now.fault }
+        ensures way { IsOnTheWay self.now.passed self.now.core }
     {
         self.core.holds();
     }
 
     /// Writes a fault, unless one was written before. Returns the first one that was written.
     fn write(&mut self, fault: RunFault) -> WrittenFault
-        requires { MayWrite fault self.old.work_limit self.old.core }
+        requires { MayWrite fault self.old.work_limit self.old.passed self.old.core }
         ensures first { result ≡ first_fault self.old.fault fault }
         ensures written { self.new ≡ record self.old { fault = Some result } }
     {
@@ -162,8 +171,9 @@ impl<J: JobName, H: JobSource> Book<J, H> {
         }
     }
 
-    /// Stops a worker that has made as many steps, asks aside, as the book allows. Writes StepLimit, or Foreign where the share
-    /// is not the core's or its worker might go on, unless a fault was written before. Returns the one that stands written.
+    /// Stops a worker that has made as many steps, not counting asks, as the book allows. Unless a fault was written before, it
+    /// writes StepLimit, or Foreign if the share is not the core's or its worker might make a further step. Returns the fault
+    /// that the book has then.
     #[tactic(auto, using(crate::proofs::Causes::stopped, crate::proofs::Causes::not_stopped))]
     pub(crate) fn stop(&mut self, share: &Share) -> WrittenFault
         ensures fault { IsStopped self.old.fault self.old.work_limit share.now self.old.core result }
@@ -176,17 +186,17 @@ impl<J: JobName, H: JobSource> Book<J, H> {
     }
 
     /// The core, without the fault.
-    pub fn into_core(self) -> Core<H>
+    pub(crate) fn into_core(self) -> Core<H>
         ensures { result ≡ self.core }
     {
         let Book { core, .. } = self;
         core
     }
 
-    /// A worker without a task asks for work. It is told that all is done, or the step that it owes now.
-    /// Where a fault was written before, the call is refused with it. Otherwise it is refused as Foreign
-    /// where the worker owes another step or its share has other counts than the core, and as StepLimit where
-    /// the worker has made 2^64 - 1 steps. A refusal is written, and core and share stay. Takes no memory.
+    /// A worker without a task asks for work. The answer is that all is done, or the step that the worker owes now. If a fault
+    /// was written before, the call is refused with it. Otherwise it is refused as Foreign if the worker owes another step or its
+    /// share has other counts than the core, and as StepLimit if the worker has made 2^64 - 1 steps. A refusal is written, and
+    /// core and share stay as they were. Takes no memory.
     #[tactic(auto, using(crate::proofs::Stays::stays, crate::proofs::Causes::unready_cause))]
     pub fn ask(&mut self, share: &mut Share) -> Result<Asked, WrittenFault>
         ensures made { OnOk result (IsMade next_step.Ask steps.Ask self.old self.new share.old share.new) }
@@ -200,15 +210,14 @@ impl<J: JobName, H: JobSource> Book<J, H> {
         stm_state::dones_grow_at_done();
         stm_state::done_stays();
         let answer = self.core.ask(share.worker);
-        self.update(share);
+        self.update(share, 0);
         Ok(match answer {
             AskResult::Done => Asked::Done(AllDone::of(&self.core)),
             AskResult::Nothing | AskResult::Task => Asked::Owes(self.core.doing(share.worker)),
         })
     }
 
-    /// The run of a call at an incarnation reads the key that it asks for. Refused as `ask` is, and as Memory
-    /// where memory ran out.
+    /// The run of a call at an incarnation reads the key that it asks for. Refused as `ask` is, and as Memory if memory ran out.
     pub fn read(
         &mut self,
         share: &mut Share,
@@ -228,7 +237,7 @@ impl<J: JobName, H: JobSource> Book<J, H> {
         )
     }
 
-    /// The same, where the caller has looked up what the storage before the block has at the key, and lends it.
+    /// The same for a caller that has looked up what the storage before the block has at the key, and lends it.
     #[tactic(auto, using(crate::proofs::Stays::stays, crate::proofs::Causes::unready_cause))]
     pub(crate) fn read_with_base(
         &mut self,
@@ -247,13 +256,12 @@ impl<J: JobName, H: JobSource> Book<J, H> {
             return Err(self.write(RunFault::Memory));
         }
         let answer = self.core.read_sharing(share.worker, key, base);
-        self.update(share);
+        self.update(share, passed_by_answer(&answer));
         Ok(answer)
     }
 
-    /// A worker makes a step of its task that takes nothing else, for a call at an incarnation. Returns the step
-    /// that the worker owes now. Refused as `ask` is, and as IncarnationLimit where the core's call is. Takes no
-    /// memory.
+    /// A worker makes a step of its task that takes nothing else, for a call at an incarnation. Returns the step that the worker
+    /// owes now. Refused as `ask` is, and as IncarnationLimit if the core refuses the step. Takes no memory.
     #[tactic(auto, using(crate::proofs::Stays::stays, crate::proofs::Causes::unready_cause, crate::proofs::Askings::no_asking))]
     pub fn make(
         &mut self,
@@ -274,9 +282,10 @@ impl<J: JobName, H: JobSource> Book<J, H> {
             },
         )?;
         stm_state::dones_grow_at_done();
+        let passed = self.passed_by(share.worker, kind);
         match self.core.make(share.worker, kind) {
             Ok(()) => {
-                self.update(share);
+                self.update(share, passed);
                 Ok(self.core.doing(share.worker))
             }
             Err(_) => Err(self.write(RunFault::IncarnationLimit)),
@@ -373,8 +382,9 @@ impl<J: JobName, H: JobSource> Book<J, H> {
     #[tactic(auto, using(crate::proofs::Causes::full_worker))]
     fn ready(&mut self, share: &Share, owed: NextStep) -> Result<(), WrittenFault>
         ensures ready { OnOk result (Owes owed share.now self.old.core × (self.old.fault ≡ None) × (share.now.counts.steps < count_limit) × (self.new ≡ self.old)) }
+        ensures left { OnOk result (AreAllPassed self.old.work_limit self.old.passed → ⊥) }
         ensures refused { IfErr result (λ e. self.new ≡ record self.old { fault = Some e }) }
-        ensures cause { IfErr result (λ e. IsUnready self.old.fault owed share.now self.old.core e) }
+        ensures cause { IfErr result (λ e. IsUnready self.old.fault owed share.now self.old e) }
     {
         if let Some(fault) = self.fault {
             return Err(WrittenFault::of(fault));
@@ -382,10 +392,33 @@ impl<J: JobName, H: JobSource> Book<J, H> {
         if !self.is_owed(share, owed) {
             return Err(self.write(RunFault::Foreign));
         }
-        if share.counts.steps == COUNT_LIMIT {
+        if share.counts.steps == COUNT_LIMIT || self.are_all_passed() {
             return Err(self.write(RunFault::StepLimit));
         }
         Ok(())
+    }
+
+    /// Whether at least as many versions were passed as the limit, if there is one.
+    #[inline(always)]
+    fn are_all_passed(&self) -> bool
+        ensures { (result ≡ true) ↔ AreAllPassed self.now.work_limit self.now.passed }
+    {
+        match self.work_limit {
+            Some(limit) => self.passed >= limit,
+            None => false,
+        }
+    }
+
+    /// How many versions the next step of a worker passes, if it is of this kind.
+    #[inline(always)]
+    fn passed_by(&self, worker: usize, kind: StepKind) -> usize
+        requires { worker < length self.now.core.state.tasks }
+        ensures { result ≡ passed_by_step worker (step_of kind) self.now.core.state }
+    {
+        match kind {
+            StepKind::CheckRead => self.core.passed_by_check(worker),
+            _ => 0,
+        }
     }
 
     /// Whether the share's worker owes a step, and the share agrees with the core on its counts.
@@ -406,15 +439,31 @@ impl<J: JobName, H: JobSource> Book<J, H> {
             && self.core.dones(share.worker) == share.dones
     }
 
-    /// Copies the core's counts of a worker to its share.
-    fn update(&self, share: &mut Share)
-        requires { share.old.worker < length self.now.core.state.tasks }
-        ensures agrees { AgreesWith share.new self.now.core }
+    /// Copies the core's counts of a worker to its share, and counts the versions that its step passed.
+    #[inline(always)]
+    fn update(&mut self, share: &mut Share, passed: usize)
+        requires worker { share.old.worker < length self.old.core.state.tasks }
+        requires way { IsOnTheWay (passed_with self.old.passed passed) self.old.core }
+        requires none { self.old.fault ≡ None }
+        ensures agrees { AgreesWith share.new self.old.core }
         ensures worker { share.new.worker ≡ share.old.worker }
         ensures pass { share.new.pass ≡ share.old.pass }
         ensures limit { share.new.work_limit ≡ share.old.work_limit }
+        ensures counted { self.new ≡ record self.old { passed = passed_with self.old.passed passed } }
     {
         share.counts = self.core.counts(share.worker);
         share.dones = self.core.dones(share.worker);
+        self.passed = self.passed.saturating_add(passed as u64);
+    }
+}
+
+/// How many versions an answer to a read names.
+#[inline(always)]
+fn passed_by_answer(answer: &ReadResult) -> usize
+    ensures { (base : Storage) (key : List ℕ) (seen : Visible) → answer.now ≡ read_result_of base key seen → result ≡ passed_by_seen seen }
+{
+    match answer {
+        ReadResult::Given(_, origin) => origin.passed().len(),
+        ReadResult::Blocked => 0,
     }
 }

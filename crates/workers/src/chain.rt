@@ -50,11 +50,10 @@ impl Executor {
     ghost use Rattle.workers.specs.declared.chain.ChainFault.TheVariants.{Run, TooManyCalls};
     ghost use Rattle.workers.specs.declared.fault.RunFault.TheVariants as faults;
 
-    /// Runs blocks in their order, each with its own number of workers. Each block runs over the storage that
-    /// the last block answered Ok left. A block of more than 1,024 calls is answered TooManyCalls, whatever
-    /// its number of workers. Any other block is answered as by `run_block`. A refused block leaves the
-    /// storage as it was, and the chain goes on. Refused where memory ran out before the first block; then no
-    /// block is run, and the executor stays as it was.
+    /// Runs blocks in their order, each with its own number of workers. Each block runs over the storage that the last block
+    /// answered Ok left. A block of more than 1,024 calls is answered TooManyCalls, whatever its number of workers. Any other
+    /// block is answered as by `run_block`. A refused block leaves the storage as it was, and the chain continues. The chain is
+    /// refused if memory ran out before the first block; then no block is run, and the executor stays as it was.
     #[tactic(auto, using(crate::proofs::Chains::no_blocks, crate::proofs::Chains::one_block_more, crate::proofs::Chains::chain_store))]
     pub fn run_chain<R: Threads + Wait + Sync>(
         &mut self,

@@ -50,7 +50,7 @@ impl DoneCell {
     ghost use Rattle.crossbeam_utils.specs.Seq.{IsSamePass, cell_view};
     ghost use Rattle.workers.specs.DoneCell.{IsPassOf};
 
-    /// A cell that shows running; refused where memory ran out.
+    /// A cell that shows running; refused if memory ran out.
     pub fn new(alloc: Global) -> Result<DoneCell, AllocError> {
         let (cell, _) = RuledSeqCell::<[u64; 1], u64, OneWay, 1>::ruled(alloc, [RUNNING])?;
         Ok(DoneCell { cell })
@@ -76,9 +76,9 @@ impl DoneCell {
         self.cell.load_as::<Sees, R>(rt, pass)[0] == DONE
     }
 
-    /// Writes done into the cell, where a book answered that all is done.
+    /// Writes done into the cell, after a book answered that all is done.
     #[tactic(auto, using(crate::proofs::Ways::ends))]
-    pub fn set_done<R: Wait>(&self, rt: &R, pass: &mut DonePass, _is_done: AllDone)
+    pub(crate) fn set_done<R: Wait>(&self, rt: &R, pass: &mut DonePass, _is_done: AllDone)
         requires cell { IsPassOf self.now pass.old }
         ensures cell { IsSamePass pass.old pass.new }
         ensures shown { cell_view pass.new ≡ 1 }

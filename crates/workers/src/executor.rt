@@ -55,21 +55,20 @@ impl Executor {
         }
     }
 
-    /// The shares that the threads of the last block that was run gave back, one of each worker, in their order. None
-    /// where no block was run, and where not each worker of that block gave its share back. A block that is refused as BadCount,
-    /// or as TooManyCalls in a chain, is not run: the shares stay.
+    /// The shares that the threads of the last block that was run gave back, one of each worker, in their order. None if no block
+    /// was run, or if not each worker of that block gave its share back. A block that is refused as BadCount, or as TooManyCalls
+    /// in a chain, is not run: the shares stay.
     pub fn shares(&self) -> &[Share]
         ensures { result.now ≡ self.now.shares.items }
     {
         self.shares.as_slice()
     }
 
-    /// Runs a job on 1 to 32 threads. Refused as BadCount exactly where the number of workers is another;
-    /// this is tested first. Refused as ArenaFull or IncarnationLimit only where some list of worker steps of
-    /// this job meets that limit, and as StepLimit only where some list leads to 2^64 - 1 steps of a worker; as
-    /// Memory where memory ran out; as Spawn where a thread was refused; and as Foreign where a worker or the
-    /// core is not as it was left. After every answer the executor may be used again, and its shares are those of this block or none,
-    /// unless it is BadCount.
+    /// Runs a job on 1 to 32 threads. Refused as BadCount exactly if the number of workers is another; this is tested first.
+    /// Refused as ArenaFull or IncarnationLimit only if some list of worker steps of this job meets that limit, and as StepLimit
+    /// only if some list leads to 2^64 - 1 steps of a worker. Refused as Memory if memory ran out, as Spawn if a thread was
+    /// refused, and as Foreign if a worker or the core is not as it was left. After every answer the executor may be used again.
+    /// Its shares are those of this block or none, unless the answer is BadCount.
     pub fn run_block<R: Threads + Wait + Sync>(
         &mut self,
         rt: &R,
@@ -140,10 +139,10 @@ impl Executor {
         }
     }
 
-    /// Runs a block on 1 to 32 threads over what is lent in place of a storage; nothing is copied. Refused as
-    /// `run_block` is, and as StepLimit, where there is a limit, also where a worker has made so many steps, asks aside. Where it
-    /// answers Ok, each worker has made no more steps, asks aside, than the limit. The shares are those that the threads gave back,
-    /// one of each worker, or none.
+    /// Runs a block on 1 to 32 threads over what is lent in place of a storage; nothing is copied. Refused as `run_block` is; if
+    /// there is a limit, also as StepLimit if a worker has made this many steps, not counting asks. If it answers Ok, each worker
+    /// has made no more steps, not counting asks, than the limit. The shares are those that the threads gave back, one of each
+    /// worker, or none.
     pub(crate) fn run_lent<S: Contents + Sync, R: Threads + Wait + Sync, G: Gate + Sync>(
         &mut self,
         rt: &R,
@@ -171,9 +170,9 @@ impl Executor {
     }
 }
 
-/// Runs a block on threads over an arena and over what is lent in place of a storage. The arena comes back without
-/// records. Refused as `Executor::run_lent` is, but never as BadCount. Beside it the shares that the threads gave back, one of each
-/// worker, which has made no more steps, asks aside, than the limit; or none.
+/// Runs a block on threads over an arena and over what is lent in place of a storage. The arena comes back without records.
+/// Refused as `Executor::run_lent` is, but never as BadCount. Also returns the shares that the threads gave back: one of each
+/// worker, which has made no more steps, not counting asks, than the limit; or none.
 fn run_on_threads<
     J: JobName + Send + Sync,
     S: Contents + Sync,
@@ -216,8 +215,8 @@ fn run_on_threads<
     )
 }
 
-/// The answer of a core that has so many workers and of a book of such a limit, but Foreign where another number or limit was
-/// asked for.
+/// The answer of a core with `found` workers and of a book with the limit `own`, but Foreign if another number or limit was asked
+/// for.
 fn answer_by(
     answer: Result<Finished, RunFault>,
     found: usize,
@@ -234,8 +233,8 @@ fn answer_by(
     answer
 }
 
-/// The lock and the cell over the core of what is lent at its start, and its workers' shares. Where memory ran out the
-/// arena is handed back, without records.
+/// The lock and the cell over the core of what is lent at its start, and its workers' shares. If memory ran out, it returns the
+/// arena, without records.
 fn share_out<'a, J: JobName, S: Contents>(
     alloc: Global,
     arena: Arena,
@@ -255,8 +254,8 @@ fn share_out<'a, J: JobName, S: Contents>(
     Shared::over(alloc, core, LentJob { block, contents }, work_limit)
 }
 
-/// What a thread promises: a share that it gives back is of this worker, which has got exactly one ask answered Done, and has made
-/// no more steps, asks aside, than this limit.
+/// What a thread promises: a share that it gives back is of this worker, which got exactly one ask answered Done, and has made no
+/// more steps, not counting asks, than this limit.
 #[derive(Clone, Copy)]
 struct GivesBack {
     worker: usize,
@@ -273,7 +272,7 @@ impl Promise<Result<Share, WrittenFault>> for GivesBack {
 /// The handle of a thread that runs for a share.
 type Thread = PromisedHandle<Result<Share, WrittenFault>, GivesBack>;
 
-/// The shares that the threads give back, as `run_each_share` returns them; none where it is refused.
+/// The shares that the threads give back, as `run_each_share` returns them; none if it is refused.
 #[tactic(auto, using(crate::proofs::GivenBack::none_left, crate::proofs::GivenBack::all_left, crate::proofs::GivenBack::all_keep))]
 fn shares_back<
     J: JobName + Send + Sync,
@@ -300,8 +299,8 @@ fn shares_back<
     }
 }
 
-/// Runs a thread for each share, all of one limit, and waits for all of them. Returns all their shares, or a fault that
-/// stands written: that of a thread, Spawn where the system refuses a thread, and Memory where memory ran out.
+/// Runs a thread for each share, all of one limit, and waits for all of them. Returns all their shares, or a fault that is
+/// written: that of a thread, Spawn if the system refuses a thread, or Memory if memory ran out.
 fn run_each_share<
     J: JobName + Send + Sync,
     H: JobSource + Send + Sync,
@@ -335,7 +334,7 @@ fn run_each_share<
     )
 }
 
-/// Room for so many shares; refused as Memory where memory ran out.
+/// Room for this many shares; refused as Memory if memory ran out.
 fn room_for_shares<J: JobName, H: JobSource, R: Wait>(
     rt: &R,
     alloc: Global,
@@ -352,8 +351,8 @@ fn room_for_shares<J: JobName, H: JobSource, R: Wait>(
     }
 }
 
-/// Starts a thread for each share. Where the system refuses one, Spawn stands written in its place. Refused as
-/// Memory where memory ran out before the first.
+/// Starts a thread for each share. If the system refuses one, Spawn is written, and the fault takes the thread's place. Refused
+/// as Memory if memory ran out before the first.
 #[tactic(auto, using(crate::proofs::GivenBack::all_new))]
 fn start_threads<
     's,
@@ -387,8 +386,8 @@ fn start_threads<
     Ok(threads)
 }
 
-/// Starts a thread for a share of a worker that got no ask answered Done. It promises to give it back within the limit; refused as
-/// Spawn where the system refuses it.
+/// Starts a thread for a share of a worker that got no ask answered Done. The thread promises to give the share back within the
+/// limit. Refused as Spawn if the system refuses the thread.
 fn start_thread<
     's,
     E,
@@ -449,7 +448,7 @@ fn join_threads<R: Threads>(
     }
 }
 
-/// The share that a thread gives back, as it promised, or the fault that stands written in its place.
+/// The share that a thread gives back, as it promised, or the fault that is written in its place.
 fn join_thread<R: Threads>(rt: &R, thread: Result<Thread, MetFault>) -> Result<Share, WrittenFault>
     ensures given { IfOk result (IsGivenBy thread) }
     ensures refused { IfErr result (λ written. IfErr thread (λ met. written ≡ met.written)) }

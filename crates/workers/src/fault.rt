@@ -1,9 +1,9 @@
-//! Why the run of a block by threads comes to no outcome.
+//! Why the run of a block by threads has no outcome.
 
 use std::fmt;
 use thiserror::Error;
 
-/// Why the run of a block by threads comes to no outcome.
+/// Why the run of a block by threads has no outcome.
 #[derive(Clone, Copy, Debug, PartialEq, Eq, Error)]
 pub enum RunFault {
     /// The number of workers is not 1 to 32. The command line refuses such a number first.
@@ -18,8 +18,8 @@ pub enum RunFault {
     Memory = 5,
     /// The system refused to start a thread.
     Spawn = 6,
-    /// A worker made 2^64 - 1 steps, or as many steps beside its asks as a limit allows. The command line sets no
-    /// limit.
+    /// A worker made 2^64 - 1 steps. With a limit also: it made as many steps, not counting asks, or all passed as many versions.
+    /// The command line sets no limit.
     StepLimit = 7,
 }
 

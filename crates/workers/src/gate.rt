@@ -7,7 +7,7 @@ use stm_core::NextStep;
 
 /// What a thread does between the end of a run and its record, outside the lock. Tests hold a worker there.
 pub trait Gate {
-    /// A worker has come to the end of a run. Promises nothing.
+    /// A worker has reached the end of a run. Promises nothing.
     fn held(&self, worker: usize);
 }
 
@@ -30,12 +30,12 @@ pub trait Spin {
     /// The cell did not show done. Promises nothing.
     fn spin(&self);
 
-    /// Whether it looks before the ask that it is to make now. Promises nothing.
+    /// Whether it looks before the ask that it makes next. Promises nothing.
     fn backs_off(&self) -> bool;
 
     /// Another thread has the lock, so it waits for it. Promises nothing.
     fn meet_lock(&mut self);
 
-    /// After a step the worker owes this one. Promises nothing.
+    /// The worker made a step, and owes this one now. Promises nothing.
     fn learn(&mut self, owed: NextStep);
 }

@@ -1,4 +1,4 @@
-//! Runs of blocks by threads, which run the calls outside one lock, and make their steps on the core under it.
+//! Runs blocks on threads. The threads run the calls outside one lock, and make their steps on the core under it.
 #![tactic(auto)]
 
 mod answer;

@@ -17,7 +17,7 @@ impl Executor {
     ghost use Rattle.stm_state.specs.Steps as steps;
     ghost use Rattle.workers.specs.declared.fault.RunFault.TheVariants as faults;
     ghost use Rattle.workers.specs.Book.{KeepsLimit};
-    ghost use Rattle.workers.specs.History.{HasLimit, HasStepLimit, IsRunWithShares};
+    ghost use Rattle.workers.specs.History.{HasLimit, HasStepLimit, HasWorkLimit, IsRunWithShares};
     ghost use Rattle.workers.specs.Settle.{AreLeft};
 
     /// Runs the calls of a block by 1 to 32 threads on a storage, and changes it as they do in order. Refused as
@@ -58,9 +58,9 @@ impl Executor {
         }
     }
 
-    /// The same with calls that are lent, on a storage with changes over it. It adds the changes of the calls to these, and where it
-    /// is refused it leaves these as they were. Where there is a limit, it is refused as StepLimit also where a worker has made so
-    /// many steps, asks aside. Where it answers Ok, each worker has made no more steps, asks aside, than the limit.
+    /// The same with calls that are lent, on a storage with changes over it. It adds the changes of the calls to these; if it is
+    /// refused, it leaves these as they were. If there is a limit, it is also refused as StepLimit if a worker has made this many
+    /// steps, not counting asks. If it answers Ok, each worker has made no more steps, not counting asks, than the limit.
     #[tactic(auto, using(rv_step::proofs::CallsInOrder::receipts_applied, crate::proofs::Runs::run_with_shares))]
     pub fn run_over_changes_within<R: Threads + Wait + Sync>(
         &mut self,
@@ -80,7 +80,7 @@ impl Executor {
         ensures within { OnOk result (All (λ share. KeepsLimit work_limit share.counts) self.new.shares.items) }
         ensures full { IfErr result (λ e. e ≡ faults.ArenaFull → HasLimit (record { block = block.entry.calls.now; store = with_changes base.now over.old }) workers steps.ArenaFull) }
         ensures limit { IfErr result (λ e. e ≡ faults.IncarnationLimit → HasLimit (record { block = block.entry.calls.now; store = with_changes base.now over.old }) workers steps.IncarnationLimit) }
-        ensures step_limit { IfErr result (λ e. e ≡ faults.StepLimit → HasStepLimit (record { block = block.entry.calls.now; store = with_changes base.now over.old }) workers work_limit) }
+        ensures step_limit { IfErr result (λ e. e ≡ faults.StepLimit → HasWorkLimit (record { block = block.entry.calls.now; store = with_changes base.now over.old }) workers work_limit) }
         ensures left { result ≢ Err faults.BadCount → AreLeft work_limit workers self.new.shares.items }
         ensures kept { result ≡ Err faults.BadCount → self.new ≡ self.old }
     {

@@ -7,7 +7,7 @@ use crate::gate::Spin;
 use std::hint::spin_loop;
 use stm_core::{NextStep, StepKind};
 
-/// Spins so many times, with the processor's hint for a thread that spins.
+/// Spins this many times, with the processor's hint for a thread that spins.
 pub(crate) fn spin_for(times: u32)
     requires { times ≤ 512 }
 {
@@ -16,35 +16,35 @@ pub(crate) fn spin_for(times: u32)
     }
 }
 
-/// How often a worker looks after the first ask that gives no task. It is soon back, since many such an ask only takes the
-/// validation index past a call that still runs, and the next one gives a task.
+/// How often a worker looks after the first ask that gives no task. It is soon back, because such an ask often only moves the
+/// validation index past a call that still runs, and the next ask gives a task.
 const FIRST_LOOKS: usize = 2;
 
-/// How often a worker spins between two looks at the least.
+/// How often a worker spins between two looks, at least.
 const LEAST_SPINS: u32 = 8;
 
-/// How often a worker spins between two looks at the most.
+/// How often a worker spins between two looks, at most.
 const MOST_SPINS: u32 = 512;
 
 /// How often a worker spins between two looks when it begins to back off.
 const FIRST_BACKOFF: u32 = LEAST_SPINS;
 
-/// How often a worker spins between two looks when it backs off, at the most.
+/// How often a worker spins between two looks when it backs off, at most.
 const MOST_BACKOFF: u32 = 256;
 
-/// What a step counts for before which the worker waited for the lock. The end of a task takes a quarter of the count away,
-/// so where each task has one such step the count comes to 256.
+/// What a step adds to the count if the worker waited for the lock before it. The end of a task takes a quarter of the count
+/// away, so the count approaches 256 if each task has one such step.
 const WAIT: u32 = 64;
 
 /// From this count on a worker backs off after a task.
 const CROWDED: u32 = 448;
 
 /// How long a worker without a task stays away from the lock: how often it looks at the block's cell, and how often it spins
-/// between two looks. It stays away for longer where one ask after the other gives no task. Where runs meet one another's
-/// writes a worker that comes back soon runs calls that are to be run again, so it stays away for longer there, too.
+/// between two looks. It stays away for longer if one ask after the other gives no task. If runs meet one another's writes, a
+/// worker that comes back soon runs calls that must be run again, so it stays away for longer then, too.
 ///
-/// Where it often waits for the lock the calls are short, and each worker more makes the others slower. So it then backs off
-/// after each task: it stays away before it asks for the next one. Worker 0 never does, so that one works on.
+/// If it often waits for the lock, the calls are short, and each additional worker makes the others slower. So it then backs off
+/// after each task: it stays away before it asks for the next one. Worker 0 never backs off, so that one worker keeps working.
 #[derive(Clone, Copy, Debug)]
 pub(crate) struct Patience {
     looks: usize,
@@ -74,8 +74,8 @@ impl Patience {
 }
 
 impl Spin for Patience {
-    /// As often as its patience says, and twice as often the next time, at most 64 times, unless it is to run a call
-    /// before that. As long as it spins more often than at the least, or backs off, it looks 64 times.
+    /// As often as its patience says, and twice as often the next time, at most 64 times, unless it gets a call to run before
+    /// that. As long as it spins more often than the minimum, or backs off, it looks 64 times.
     fn looks(&mut self) -> usize {
         self.has_looked = true;
         if self.spins > LEAST_SPINS || self.backoff > 0 {
@@ -91,19 +91,19 @@ impl Spin for Patience {
         spin_for(self.spins.max(self.backoff));
     }
 
-    /// Where it often waited for the lock of late, and has not looked since its last task.
+    /// If it often waited for the lock lately, and has not looked since its last task.
     fn backs_off(&self) -> bool {
         self.backoff > 0 && !self.has_looked
     }
 
-    /// Counts how often it waited of late.
+    /// Counts how often it waited lately.
     fn meet_lock(&mut self) {
         self.waits = self.waits.saturating_add(WAIT);
     }
 
-    /// Where it is to run a call, it looks as seldom as at first. It spins four times as often from now on where a run met an
-    /// estimate and where a call is aborted, and a quarter less often where a run was recorded. After a task it backs off four
-    /// times as long as after the one before where it often waited for the lock, and else half as long.
+    /// If it gets a call to run, it looks as seldom as at first. From now on it spins four times as often if a run met an
+    /// estimate or a call is aborted, and a quarter less often if a run was recorded. After a task it backs off four times as
+    /// long as after the one before if it often waited for the lock, and otherwise half as long.
     fn learn(&mut self, owed: NextStep) {
         match owed {
             NextStep::Ask => self.end_task(),

@@ -40,9 +40,8 @@ impl<J: JobName> Shared<J> {
     ghost use Rattle.workers.specs.Book.{IsWithinLimit, zero_counts_of_all, counts_of_share};
     ghost use Rattle.workers.specs.DoneCell.{IsPassOf};
 
-    /// The lock over a core at its start, with a cell that shows running. Beside it one share per worker, in
-    /// their order, each with counts of zero, a pass of the cell, and no limit. Where memory ran out the core's arena is
-    /// handed back, without records.
+    /// The lock over a core at its start, with a cell that shows running; and one share per worker, in their order, each with
+    /// counts of zero, a pass of the cell, and no limit. If memory ran out, it returns the core's arena, without records.
     pub fn new(alloc: Global, core: Core) -> Result<(Shared<J>, Vec<Share>), Arena>
         requires { core.job ≡ J.job }
         ensures shares { IfOk result (λ made. map counts_of_share made.1.items ≡ zero_counts_of_all (length core.state.tasks)) }
@@ -63,8 +62,8 @@ impl<J: JobName, H: JobSource> Shared<J, H> {
     ghost use Rattle.workers.specs.Work.{IsWrittenOver};
     ghost use Rattle.workers.specs.DoneCell.{IsPassOf};
 
-    /// The same, where the threads run the calls and search the storage of another holder of the job, and where each makes no
-    /// more steps, asks aside, than a limit allows, if there is one.
+    /// The same with another holder of the job, whose calls the threads run and whose storage they search. If there is a limit,
+    /// each thread makes no more steps, not counting asks, than it allows.
     pub(crate) fn over(
         alloc: Global,
         core: Core<H>,
@@ -148,8 +147,7 @@ impl<J: JobName, H: JobSource> Shared<J, H> {
     }
 }
 
-/// One share per worker, in their order, each with counts of zero, a pass of the cell and the limit; refused where
-/// memory ran out.
+/// One share per worker, in their order, each with counts of zero, a pass of the cell and the limit; refused if memory ran out.
 #[tactic(auto, using(crate::proofs::Zeros::no_shares))]
 fn new_shares(
     alloc: Global,

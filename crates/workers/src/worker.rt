@@ -20,11 +20,11 @@ use std::alloc::Global;
 use std::sync::Wait;
 use stm_core::{JobSource, NextStep, StepKind};
 
-/// The work of one thread. It makes the steps of its share's worker until an ask is answered Done, and then
-/// hands the share back; the cell shows done then. Refused as the call for its next step was refused, as StepLimit where
-/// the worker has made as many steps, asks aside, as its share allows, and as Memory where memory ran out; or as a fault that
-/// was written before. The fault is written, and the steps that were made stand. Where the share kept its limit before, the worker
-/// has made no more steps, asks aside, than the limit.
+/// The work of one thread. It makes the steps of its share's worker until an ask is answered Done, and then returns the share;
+/// the cell shows done then. It is refused as the call for its next step was refused, as StepLimit if the worker has made as many
+/// steps, not counting asks, as its share allows, as Memory if memory ran out, or as a fault that was written before. The fault
+/// is written, and the steps that were made stay made. If the share kept its limit before, the worker has made no more steps, not
+/// counting asks, than the limit.
 pub fn work<J: JobName, H: JobSource, R: Wait, G: Gate>(
     rt: &R,
     alloc: Global,
@@ -43,7 +43,7 @@ pub fn work<J: JobName, H: JobSource, R: Wait, G: Gate>(
     work_spinning(rt, alloc, shared, share, gate, patience)
 }
 
-/// `work` with how long the worker stays away from the lock without a task.
+/// `work`, with `spin` deciding how long a worker without a task stays away from the lock.
 pub fn work_spinning<J: JobName, H: JobSource, R: Wait, G: Gate, S: Spin + Drop>(
     rt: &R,
     alloc: Global,
@@ -96,7 +96,7 @@ impl<J: JobName, H: JobSource, R: Wait, G: Gate, S: Spin + Drop> Worker<'_, J, H
     ghost use Rattle.stm_core.specs.CoreState.{IsWithin};
     ghost use Rattle.stm_core.specs.declared.next_step.NextStep.TheVariants as next_step;
     ghost use Rattle.workers.specs.Book.{IsSpent};
-    ghost use Rattle.workers.specs.Work.{IsMakeAnswer, IsSameWorkers, IsStepAnswer, IsStepFault, IsStoppedBy, IsWorkersEnd, LeavesShare, Steps, StepsOrEnds, fault_of};
+    ghost use Rattle.workers.specs.Work.{IsMakeAnswer, IsSameWorkers, IsStepAnswer, IsStepFault, IsStoppedBy, IsWorkersEnd, LeavesShare, Steps, StepsOrEnds, run_fault_of};
 
     /// Its share.
     fn into_share(self) -> Share
@@ -111,7 +111,7 @@ impl<J: JobName, H: JobSource, R: Wait, G: Gate, S: Spin + Drop> Worker<'_, J, H
     fn make_steps(&mut self) -> Result<(), WorkFault>
         ensures steps { LeavesShare (λ _. self.old.share.dones + 1) self.old.share self.new.share result }
         ensures shown { OnOk result (cell_view self.new.share.pass ≡ 1) }
-        ensures fault { IfErr result (λ e. IsWorkersEnd J.job self.old.share (fault_of e)) }
+        ensures fault { IfErr result (λ e. IsWorkersEnd J.job self.old.share (run_fault_of e)) }
     {
         let mut next = NextStep::Ask;
         for _ in self.rt.forever() {
@@ -124,8 +124,8 @@ impl<J: JobName, H: JobSource, R: Wait, G: Gate, S: Spin + Drop> Worker<'_, J, H
         unreachable!()
     }
 
-    /// Makes a step that the worker owes, and returns the step that it owes then. Returns None where an ask is
-    /// answered Done, and then the cell shows it.
+    /// Makes a step that the worker owes, and returns the step that it owes then. Returns None if an ask is answered Done, and
+    /// then the cell shows it.
     fn make_step(&mut self, step: NextStep) -> Result<Option<NextStep>, WorkFault>
         requires within { IsWithin (length J.job.block) step }
         ensures answer { IfOk result (λ next. IsStepAnswer J.job step self.old.share self.new.share next) }
@@ -153,8 +153,8 @@ impl<J: JobName, H: JobSource, R: Wait, G: Gate, S: Spin + Drop> Worker<'_, J, H
         }
     }
 
-    /// Has the book stop the worker, which makes no further step. The fault is StepLimit if the book agrees and no other was
-    /// written before.
+    /// Has the book stop the worker, which makes no further step. The fault is StepLimit if the book agrees and no other fault
+    /// was written before.
     fn stop_under_lock(&mut self) -> WrittenFault
         requires spent { IsSpent self.old.share.work_limit self.old.share.counts }
         ensures same { IsSameWorkers self.old.share self.new.share }
@@ -166,7 +166,7 @@ impl<J: JobName, H: JobSource, R: Wait, G: Gate, S: Spin + Drop> Worker<'_, J, H
         book.stop(&self.share)
     }
 
-    /// Makes a step of the worker's task that takes nothing else, if it may make one. Returns the step that it owes then.
+    /// Makes a step of the worker's task that takes nothing else, if the worker may make one. Returns the step that it owes then.
     fn make_task_step(
         &mut self,
         kind: StepKind,
@@ -187,7 +187,7 @@ impl<J: JobName, H: JobSource, R: Wait, G: Gate, S: Spin + Drop> Worker<'_, J, H
         }
     }
 
-    /// Makes the same step, as the book under the lock answers it.
+    /// Makes the same step on the book under the lock, and returns its answer.
     fn make_under_lock(
         &mut self,
         kind: StepKind,

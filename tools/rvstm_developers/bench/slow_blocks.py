@@ -4,17 +4,21 @@ import random
 from collections.abc import Callable, Sequence
 from dataclasses import dataclass, field
 from enum import Enum
+from pathlib import Path
 
 from rvstm_developers import machine_code as code
+from rvstm_developers import texts
 from rvstm_developers.bench import slow_programs
 from rvstm_developers.machine_code import PAGE, WORD, Segment
 from rvstm_developers.texts import word
+from rvstm_tools.sessions import frames, requests
 from rvstm_tools.texts.blocks import CallLine
 from rvstm_tools.texts.keys import KEY_LENGTH, Storage
 from rvstm_tools.texts.keys import numbered_key as key
 
 GAS = 10_000_000  # the most that a call may have
 MOST_CALLS, MOST_PROGRAMS, MOST_INPUT, MOST_KEYS, LONGEST_VALUE = 1_024, 64, 4_096, 256, 256
+RULES = 3
 DATA = code.FIRST_ADDRESS + PAGE
 NO_END = word(2**32 - 1)  # rounds that are not reached
 
@@ -39,6 +43,19 @@ class Content:
 
 def used_up(programs: Sequence[str | bytes], calls: Sequence[CallLine], store: Storage | None = None) -> Content:
     return Content(programs, calls, store or {}, sum(gas for _, gas, _ in calls))
+
+
+def write_block(place: Path, name: str, content: Content) -> None:
+    """Writes a block file NAME.block, and the requests of a session that hand in its programs and the block."""
+    paths = []
+    for number, program in enumerate(content.programs):
+        paths.append(f"{program}.elf" if isinstance(program, str) else f"{name}-{number}.elf")
+        if isinstance(program, bytes):
+            (place / paths[-1]).write_bytes(program)
+    text = texts.block_text(paths, content.store, content.calls, texts.head_of(RULES))
+    (place / f"{name}.block").write_text(text, encoding="utf-8")
+    named = frames.named(text.encode(), place)
+    (place / f"{name}.requests").write_bytes(requests.text_of((*named.programs(), named.frame())))
 
 
 @dataclass(frozen=True)

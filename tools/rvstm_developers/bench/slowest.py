@@ -5,16 +5,15 @@ from collections.abc import Callable, Sequence
 from dataclasses import dataclass
 from pathlib import Path
 
-from rvstm_developers import options as shared_options, texts
+from rvstm_developers import options as shared_options
 from rvstm_developers import texts
 from rvstm_developers.bench import blocks, slow_sessions, tables
 from rvstm_developers.bench.processes import Spent, sound, timed
-from rvstm_developers.bench.slow_blocks import BLOCKS, CHAIN, CHAIN_4, GAS, SEQ, Block, Content, Share, endless, used_up
+from rvstm_developers.bench.slow_blocks import BLOCKS, CHAIN, CHAIN_4, GAS, SEQ, Block, Content, Share, endless, used_up, write_block
 from rvstm_tools.errors import MisuseError
 from rvstm_tools.options import Command, argument
-from rvstm_tools.sessions import frames, requests
 
-CALLS, ROUNDS, WORK_CALLS, RULES = 16, 3, 4, 3
+CALLS, ROUNDS, WORK_CALLS = 16, 3, 4
 SOURCES = ("work", "reads", "bump", "turns", "sweep", "gather", "add-later", "read-later", "draw", "scatter")
 SESSIONS = {
     "one-hash": "read keys drawn at random of 1,048,576, all of which have one hash",
@@ -31,19 +30,6 @@ class Options:
     place: Path
     calls: int
     rounds: int
-
-
-def write_block(options: Options, name: str, content: Content) -> None:
-    """Writes a block file NAME.block, and the requests of a session that hand in its programs and the block."""
-    paths = []
-    for number, program in enumerate(content.programs):
-        paths.append(f"{program}.elf" if isinstance(program, str) else f"{name}-{number}.elf")
-        if isinstance(program, bytes):
-            (options.place / paths[-1]).write_bytes(program)
-    text = texts.block_text(paths, content.store, content.calls, texts.head_of(RULES))
-    (options.place / f"{name}.block").write_text(text, encoding="utf-8")
-    named = frames.named(text.encode(), options.place)
-    (options.place / f"{name}.requests").write_bytes(requests.text_of((*named.programs(), named.frame())))
 
 
 def words_of(name: str, way: str) -> list[str]:
@@ -74,7 +60,7 @@ def whole_of(options: Options, block: Block, content: Content) -> int:
 
 def print_block(options: Options, block: Block) -> None:
     content = block.make(options.calls)
-    write_block(options, block.name, content)
+    write_block(options.place, block.name, content)
     whole = whole_of(options, block, content)
     for way in block.ways:
         runs, ratios = [], []
@@ -121,7 +107,7 @@ NOTES = {block.name: block.what for block in BLOCKS} | SESSIONS  # each row, and
 def prepare(options: Options) -> None:
     for source in SOURCES:
         blocks.assemble(options.rvstm, options.place, source)
-    write_block(options, "reference", used_up(["work"], endless(WORK_CALLS)))
+    write_block(options.place, "reference", used_up(["work"], endless(WORK_CALLS)))
 
 
 def run(given: argparse.Namespace) -> int:

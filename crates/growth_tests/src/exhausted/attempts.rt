@@ -5,38 +5,38 @@ ghost use Rattle.std.specs.Prelude.{◌≤◌, ◌<◌};
 use crate::limits::{no_blocks, take_rest, take_space};
 use std::alloc::{AllocError, Global};
 
-/// The size of the piece of memory of which the call gets more and more.
+/// The size of the piece of memory; the call gets more and more of it.
 const PIECE: usize = 1 << 20;
 
-/// What the call gets more from one try to the next: the heap gives out no smaller parts.
+/// How much more the call gets from one try to the next: the heap gives out no smaller parts.
 const STEP: usize = 32;
 
-/// How often it gets so little more.
+/// How often it gets only this much more.
 const SMALL_STEPS: usize = 512;
 
-/// What it gets more from then on.
+/// How much more it gets from then on.
 const LARGE_STEP: usize = 1 << 10;
 
 /// How often a call is tried, at most.
 const TRIES: usize = 1500;
 
-/// What a try comes to.
+/// The result of a try.
 #[derive(Clone, Copy)]
 pub enum Tried {
-    /// It was refused as Memory, and what had to stay stands.
+    /// It was refused as Memory, and what had to stay is as it was.
     Refused,
     /// The right answer.
     Done,
-    /// Anything else.
+    /// Any other result.
     Wrong,
 }
 
-/// The end of a try that was refused: whether as Memory, and whether what had to stay stands.
+/// The result of a try that was refused: whether it was refused as Memory, and what had to stay is as it was.
 pub fn refused(stands: bool) -> Tried {
     if stands { Tried::Refused } else { Tried::Wrong }
 }
 
-/// The end of a try that was not refused: whether the answer is right.
+/// The result of a try that was not refused: whether the answer is right.
 pub fn done(is_right: bool) -> Tried {
     if is_right { Tried::Done } else { Tried::Wrong }
 }
@@ -47,7 +47,7 @@ pub trait Attempt {
     fn attempt(&mut self, alloc: Global) -> Tried;
 }
 
-/// A block of so many bytes.
+/// A block of this many bytes.
 fn block_of(alloc: Global, size: usize) -> Result<Vec<u8>, AllocError> {
     Ok(Vec::with_capacity(alloc, size)?)
 }
@@ -64,7 +64,7 @@ fn spare_at(step: usize) -> usize
     }
 }
 
-/// Takes the beginning of the piece again, in place of what was taken of it before: the call gets the rest.
+/// Takes the beginning of the piece again, in place of what was taken of it before. The call gets the rest.
 fn taken_again(alloc: Global, before: Vec<u8>, step: usize) -> Result<Vec<u8>, AllocError>
     requires { step < 1500 }
 {
@@ -72,10 +72,10 @@ fn taken_again(alloc: Global, before: Vec<u8>, step: usize) -> Result<Vec<u8>, A
     block_of(alloc, PIECE - spare_at(step))
 }
 
-/// Makes a call with more and more memory until it is not refused. Whether it was refused at first, stood then as it must,
-/// and came to the right answer in the end.
+/// Makes a call with more and more memory until it is not refused. Returns whether it was refused at first, left then what it
+/// must leave, and returned the right answer in the end.
 fn is_refused_first<A: Attempt>(alloc: Global, call: &mut A) -> Result<bool, AllocError> {
-    // The heap keeps blocks of up to this size from then on, and gives nothing back to the system.
+    // From then on the heap keeps blocks of up to this size, and returns nothing to the system.
     drop(block_of(alloc, 4 * PIECE)?);
     let mut taken = block_of(alloc, PIECE)?;
     let (mut space, mut rest) = (no_blocks(alloc)?, no_blocks(alloc)?);
@@ -92,7 +92,7 @@ fn is_refused_first<A: Attempt>(alloc: Global, call: &mut A) -> Result<bool, All
     Ok(false)
 }
 
-/// Makes a call, once more where it is refused. Whether it came to the right answer.
+/// Makes a call, and once more if it is refused. Returns whether it returned the right answer in the end.
 fn is_made_again<A: Attempt>(alloc: Global, call: &mut A) -> bool {
     match call.attempt(alloc) {
         Tried::Refused => matches!(call.attempt(alloc), Tried::Done),
@@ -110,7 +110,7 @@ pub enum Way {
     OneRequest,
 }
 
-/// Whether a call is refused in some way, stands then as it must, and comes to the right answer in the end.
+/// Whether a call that is refused in this way leaves then what it must leave, and returns the right answer in the end.
 pub fn comes_right<A: Attempt>(alloc: Global, call: &mut A, way: Way) -> Result<bool, AllocError> {
     match way {
         Way::Exhausted => is_refused_first(alloc, call),

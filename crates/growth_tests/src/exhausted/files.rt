@@ -14,7 +14,7 @@ use std::alloc::Global;
 /// The data of TOUCH.
 const TOUCH_DATA: &[u8] = b"\x07\0\0\0";
 
-/// Whether this is the program of TOUCH: its first line gives two of its nine words.
+/// Whether this is the program of TOUCH: the first source line makes two of its nine words.
 fn is_touch(program: &Program) -> bool {
     program.text().len() == 9 && program.data() == TOUCH_DATA
 }

@@ -1,4 +1,4 @@
-//! Runs, cores and replays that go on while memory is refused.
+//! Runs, cores and replays that continue while memory is refused.
 
 ghost use Rattle.stm_state.specs.Steps.{Record};
 ghost use Rattle.stm_core.specs.CoreState.{IsDue};
@@ -32,7 +32,7 @@ struct Storing {
     left: u32,
 }
 
-/// Stores to the first word of a page behind that of the word of TOUCH.
+/// Stores to the first word of the page that is this many pages after the page with the word of TOUCH.
 fn store(memory: &mut Memory, page: u32) -> Tried {
     let address = CELL.wrapping_add(page.wrapping_mul(4096));
     let before = memory.load32(address);
@@ -89,7 +89,7 @@ fn run_of(alloc: Global, source: &str, input: &[u8]) -> Result<Run, NotMade> {
 /// What a receipt shows of a call that returned: its gas, its pc, the number in a register, and the length of its output.
 type Shown = (u32, u32, Option<u32>, usize);
 
-/// What the receipt of a run shows that ends without asking for a key.
+/// What the receipt of a run that ends without asking for a key shows.
 fn end_of(mut run: Run, register: usize) -> Result<Option<Shown>, NotMade> {
     match run.go()? {
         Pause::Ended => Ok(shown(&run.finish().receipt, register)),
@@ -107,7 +107,7 @@ fn shown(receipt: &Receipt, register: usize) -> Option<Shown> {
 /// What the receipt of TOUCH_MANY shows.
 const TOUCHED: Option<Shown> = Some((689, TOUCHED_PC, Some(1830), 4));
 
-/// Whether stores are made by themselves, also the one of TOUCH (`touch_growth_refused`).
+/// Whether single stores are made, also the one of TOUCH (`touch_growth_refused`).
 fn stores_alone(alloc: Global, way: Way) -> Result<bool, NotMade> {
     let memory = Memory::of(alloc, &image_of(alloc, TOUCH)?, &[])?;
     let left = PAGES - 1;
@@ -124,19 +124,19 @@ fn stores_in_run(alloc: Global, way: Way) -> Result<bool, NotMade> {
     Ok(is_made && end_of(run, 29)? == TOUCHED)
 }
 
-/// Whether stores are made: by themselves, and as instructions.
+/// Whether stores are made: single ones, and as instructions.
 pub fn stores(alloc: Global, way: Way) -> Result<bool, NotMade> {
     Ok(stores_alone(alloc, way)? && stores_in_run(alloc, way)?)
 }
 
-/// A run that asks for one key, and is given its value.
+/// A run that asks for one key, and gets its value.
 #[derive(Drop)]
 struct Going {
     run: Run,
     value: Option<Value>,
 }
 
-/// Lets a run go on to its end.
+/// Continues a run to its end.
 fn go_to_end(run: &mut Run) -> Tried {
     match run.go() {
         Ok(pause) => done(matches!(pause, Pause::Ended)),
@@ -160,7 +160,7 @@ impl Attempt for Going {
     }
 }
 
-/// Whether a run of a source, which may ask for one key and is given its value, comes to an end that shows this.
+/// Whether a run of a source, which may ask for one key and gets its value, reaches an end that shows this.
 fn goes_to(
     alloc: Global,
     way: Way,
@@ -176,8 +176,8 @@ fn goes_to(
     Ok(is_made && end_of(run, register)? == wanted)
 }
 
-/// Whether runs of TOUCH_MANY, LEN (the row `length`), COUNT and ECHO come to their ends. ECHO returns 32 bytes, which take
-/// memory of their own.
+/// Whether runs of TOUCH_MANY, LEN (the row `length`), COUNT and ECHO reach their ends. ECHO returns 32 bytes, which take memory
+/// of their own.
 pub fn runs(alloc: Global, way: Way) -> Result<bool, NotMade> {
     let long = Value::of(&[0x11; 64]);
     let length = Some((214, 0x0001_0014, Some(0xffff_fffe), 0));
@@ -197,7 +197,7 @@ const TOUCHED_MOMENT: u64 = 554;
 /// The address of that instruction.
 const TOUCHED_PC: u32 = 0x0001_005c;
 
-/// A replay of TOUCH_MANY goes to that moment, and then one back.
+/// A replay of TOUCH_MANY goes to that moment, and then back by one.
 #[derive(Drop)]
 struct Rewinding {
     replay: Replay,
@@ -221,7 +221,7 @@ impl Attempt for Rewinding {
     }
 }
 
-/// Whether a replay goes on and back.
+/// Whether a replay moves forward and back.
 pub fn replays(alloc: Global, way: Way) -> Result<bool, NotMade> {
     let outcome = outcome_of_source(alloc, TOUCH_MANY)?;
     let replay = Replay::open(alloc, &outcome, 0)?;
@@ -237,12 +237,12 @@ struct Recording {
     run: Option<EndedRun>,
 }
 
-/// Makes room for a read of the second worker's run. Whether it is there.
+/// Makes room for a read of the second worker's run. Returns whether the room is there.
 fn make_room(core: &mut Core) -> bool {
     core.workers() > 1 && core.room_for_read(1).is_ok()
 }
 
-/// Hands a run of the first worker in; gives it back where it is refused.
+/// Hands in a run of the first worker; returns the run if it is refused.
 fn record(alloc: Global, core: &mut Core, run: EndedRun) -> (Tried, Option<EndedRun>) {
     if core.workers() == 0 || core.counts(0).steps >= COUNT_LIMIT {
         return (Tried::Wrong, None);
@@ -351,13 +351,13 @@ fn is_recorded(alloc: Global, way: Way, recording: &mut Recording) -> Result<boo
     Ok(has_room && is_taken)
 }
 
-/// Whether the workers make the rest, and come to the value of PUT.
+/// Whether the workers make the rest of the steps, and reach the value of PUT.
 fn ends_as_put(rt: &impl Abort, alloc: Global, core: &mut Core) -> Result<bool, NotMade> {
     follow(rt, alloc, core, &[0, 0, 1, 1, 1, 0, 0, 0, 0, 0, 0])?;
     is_put(alloc, core)
 }
 
-/// Whether room for a read is made, and a run is taken. Then the workers make the rest.
+/// Whether room for a read is made, and a run is taken; and whether the workers then make the rest of the steps.
 pub fn cores(rt: &impl Abort, alloc: Global, way: Way) -> Result<bool, NotMade> {
     let run = ended_put(alloc)?;
     let mut recording = Recording {
@@ -369,7 +369,7 @@ pub fn cores(rt: &impl Abort, alloc: Global, way: Way) -> Result<bool, NotMade> 
     Ok(is_right && ends_as_put(rt, alloc, &mut recording.core)?)
 }
 
-/// A block along its list of worker numbers.
+/// A block that is driven by its list of worker numbers.
 #[derive(Drop)]
 struct Driving<'a> {
     job: Job,
@@ -389,7 +389,7 @@ impl Attempt for Driving<'_> {
     }
 }
 
-/// Whether a row comes to its outcome.
+/// Whether a row has its right outcome in the end.
 fn is_driven(alloc: Global, way: Way, row: &Row) -> Result<bool, NotMade> {
     let job = job_of(alloc, row.calls)?;
     let mut driving = Driving {
@@ -404,7 +404,7 @@ fn is_driven(alloc: Global, way: Way, row: &Row) -> Result<bool, NotMade> {
     })
 }
 
-/// Whether blocks come to their outcomes.
+/// Whether blocks have their right outcomes in the end.
 pub fn drives(alloc: Global, way: Way) -> Result<bool, NotMade> {
     Ok(is_driven(alloc, way, &LATE_WRITER)? && is_driven(alloc, way, &WITHDRAWN_WRITE)?)
 }

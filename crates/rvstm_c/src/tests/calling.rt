@@ -1,4 +1,4 @@
-//! Calls as a C program makes them, and what they have to answer.
+//! Calls as a C program makes them, and what they must return.
 
 use crate::{
     CLOSED, DONE, Handle, REFUSED, RefusalParts, SHORT_BUFFER, SettingsForC, rvstm_answer,
@@ -26,7 +26,7 @@ pub enum Call {
     Close,
 }
 
-/// What the last request of a session was answered.
+/// The answer to the last request of a session.
 pub enum Answer {
     /// It is done, and the answer has these bytes.
     Bytes(&'static str),
@@ -36,13 +36,13 @@ pub enum Answer {
     NoSession,
 }
 
-/// A call, its status, and what the session tells as its last answer behind it.
+/// A call, its status, and what the session reports as its last answer after it.
 pub type Step = (Call, u32, Answer);
 
 /// The length of a buffer, above that of each answer here.
 const ROOM: usize = 1024;
 
-/// What stands in a buffer before an answer is copied.
+/// What a buffer holds before an answer is copied.
 const UNWRITTEN: [u8; ROOM] = [0xee; ROOM];
 
 /// The parts of no refusal.
@@ -112,7 +112,7 @@ fn are_parts(alloc: Global, handle: &mut Handle, status: u32, wanted: &RefusalPa
         && parts.name == wanted.name
 }
 
-/// Whether a session tells this as its last answer.
+/// Whether a session reports this as its last answer.
 fn is_told(alloc: Global, handle: &mut Handle, answer: &Answer) -> bool {
     let (asked, copied, text, parts) = match answer {
         Answer::Bytes(text) => (DONE, DONE, *text, &NO_PARTS),
@@ -125,7 +125,7 @@ fn is_told(alloc: Global, handle: &mut Handle, answer: &Answer) -> bool {
         && is_copied(alloc, handle, copied, text)
 }
 
-/// How many of some calls are answered as they have to be, up to the first one that is not.
+/// How many of the calls are answered as they must be, up to the first one that is not.
 pub fn count_right(alloc: Global, handle: &mut Handle, steps: &[Step]) -> usize {
     let mut count: usize = 0;
     for (call, status, answer) in steps {

@@ -1,5 +1,5 @@
-//! Calls, each with its status and the answer that the session then tells. The answers are worked out from docs/formats.md, which
-//! has the program's name, the frame of three counts, its answer and its digest as an example.
+//! Calls, each with its status and the answer that the session then reports. The answers are worked out from docs/formats.md,
+//! which has the program's name, the frame of three counts, its answer and its digest as an example.
 
 use super::calling::Answer::{Bytes, NoSession, Refused};
 use super::calling::Call::{
@@ -50,7 +50,7 @@ pub const COUNT: &str = "\
     program 0 07623d8ffdb2861eb07ce924f631f5b2bb2725cf80304e36b0a23ea1fafb0686\n\
     call 0 1000 0000000000000000000000000000000000000000000000000000000000000001\n";
 
-/// What it is answered over a storage without the key.
+/// The answer to it over a storage without the key.
 const COUNTED: &str = "\
     call 0 returned gas 639 pc 00010034 out -\n\
     regs 00000000 00000000 00110000 00000000 00000000 00000001 00000000 00000000 \
@@ -68,7 +68,7 @@ const THREE_COUNTS: &str = "\
     call 0 1000 0000000000000000000000000000000000000000000000000000000000000001\n\
     call 0 1000 0000000000000000000000000000000000000000000000000000000000000001\n";
 
-/// What it is answered, without registers.
+/// The answer to it, without registers.
 const THREE_COUNTED: &str = "\
     call 0 returned gas 639 pc 00010034 out -\n\
     write 0 0000000000000000000000000000000000000000000000000000000000000001 01000000\n\
@@ -120,7 +120,7 @@ const LONGER: SettingsForC = SettingsForC {
     brief: false,
 };
 
-/// A limit of a frame's gas that is too great, and does not stand for none.
+/// A limit of a frame's gas that is too great, and does not stand for no bound.
 const DEARER: SettingsForC = SettingsForC {
     frame_limit: 0,
     frame_gas: 0xffff_ffff_ffff_fffe,
@@ -152,7 +152,7 @@ const TOO_MUCH_GAS: Answer = Refused(RefusalParts {
     name: *b"TooMuchGas\0\0\0\0\0\0\0\0\0\0\0\0\0\0",
 });
 
-/// A digest where none is kept, or none where one is.
+/// A digest if none is kept, or none if one is.
 const OTHER_DIGEST: Answer = Refused(RefusalParts {
     line: 0,
     number: 8,
@@ -368,7 +368,7 @@ const LISTED: &str = "\
     store 0000000000000000000000000000000000000000000000000000000000000002 bb00\n\
     store ffffffffffffffffffffffffffffffffffffffffffffffffffffffffffffffff -\n";
 
-/// A session whose storage is told and put in the place of another.
+/// A session whose storage is dumped and put in the place of another.
 pub const STORAGES: &[Step] = &[
     (Open, DONE, Bytes("")),
     (Dump, DONE, Bytes("rvblock 2\ngas 1\n")),
@@ -401,7 +401,7 @@ pub const STORAGES: &[Step] = &[
     (Close, DONE, NoSession),
 ];
 
-/// What no line says, and the session goes on.
+/// What no line can say, and the session continues.
 pub const NO_LINES: &[Step] = &[
     (Open, DONE, Bytes("")),
     (Frame(ENTRIES), DONE, Bytes("end\n")),
@@ -437,7 +437,7 @@ pub const BEFORE_COUNTS: &[Step] = &[
     (Program(COUNTER), DONE, Bytes(NAMED)),
 ];
 
-/// Behind them.
+/// After them.
 pub const BEHIND_COUNTS: &[Step] = &[
     (Get(KEY), DONE, Bytes("value 64000000\n")),
     (

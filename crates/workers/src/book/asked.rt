@@ -18,8 +18,8 @@ impl Asked {
     ghost use Rattle.std.specs.Prelude.{◌≡◌};
     ghost use Rattle.workers.specs.Book.{owed_by};
 
-    /// The step that the worker owes now; None where all is done.
-    pub fn owed(self) -> Option<NextStep>
+    /// The step that the worker owes now; None if all is done.
+    pub(crate) fn owed(self) -> Option<NextStep>
         ensures { result ≡ owed_by self }
     {
         match self {
@@ -29,7 +29,7 @@ impl Asked {
     }
 }
 
-/// That all is done. Only a book makes one, where its core is done.
+/// That all is done. Only a book makes one, when its core is done.
 #[derive(Clone, Copy, Debug)]
 pub struct AllDone {
     by_book: (),

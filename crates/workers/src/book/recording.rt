@@ -18,10 +18,9 @@ impl<J: JobName, H: JobSource> Book<J, H> {
     ghost use Rattle.stm_core.specs.declared.next_step.NextStep.TheVariants as next_step;
     ghost use Rattle.workers.specs.Book.{IsCause, IsMade, LeavesWritten, Owes};
 
-    /// A worker hands in the ended run of a call at an incarnation. Returns the step that the worker owes
-    /// now. Refused as `ask` is, and as Foreign where the run is not of that call or its answers are not
-    /// those that were given. Otherwise refused as ArenaFull, IncarnationLimit or Memory, tested in this
-    /// order.
+    /// A worker hands in the ended run of a call at an incarnation. Returns the step that the worker owes now. Refused as `ask`
+    /// is, and as Foreign if the run is not of that call or its answers are not those that were given. Otherwise refused as
+    /// ArenaFull, IncarnationLimit or Memory, tested in this order.
     #[tactic(auto, using(crate::proofs::Stays::stays, crate::proofs::Causes::unready_cause))]
     pub fn record(
         &mut self,
@@ -42,15 +41,15 @@ impl<J: JobName, H: JobSource> Book<J, H> {
         stm_state::dones_grow_at_done();
         match self.core.record(alloc, share.worker, run) {
             Ok(_) => {
-                self.update(share);
+                self.update(share, 0);
                 Ok(self.core.doing(share.worker))
             }
             Err(refused) => Err(self.write(run_fault(refused.fault))),
         }
     }
 
-    /// The same, where the run is ready to be recorded, and known to be of that call. What the record leaves over stands
-    /// in its place then, so that it is dropped after the lock.
+    /// The same for a run that is ready to be recorded and known to be of that call. Afterwards `ready` holds what the record
+    /// left over, so that it is dropped after the lock is released.
     #[tactic(auto, using(crate::proofs::Stays::stays, crate::proofs::Causes::unready_cause))]
     pub(crate) fn record_ready(
         &mut self,
@@ -73,7 +72,7 @@ impl<J: JobName, H: JobSource> Book<J, H> {
         stm_state::dones_grow_at_done();
         match self.core.record_ready(share.worker, ready) {
             Ok(()) => {
-                self.update(share);
+                self.update(share, 0);
                 Ok(self.core.doing(share.worker))
             }
             Err(fault) => Err(self.write(run_fault(fault))),

@@ -6,8 +6,8 @@ ghost use Rattle.workers.specs.Book.{IsSpent};
 use crate::done_cell::DonePass;
 use rv_ledger::Counts;
 
-/// A worker's share of the counts, with its pass of the block's cell. The counts start at zero, and only the
-/// step calls of `Book` change them. Where there is a limit, the worker stops after so many steps, asks aside.
+/// A worker's share of the counts, with its pass of the block's cell. The counts start at zero, and only the step calls of `Book`
+/// change them. If there is a limit, the worker stops after this many steps, not counting asks.
 #[derive(Drop)]
 pub struct Share {
     pub(super) worker: usize,
@@ -71,8 +71,8 @@ impl Share {
     }
 }
 
-/// Whether a worker of these counts makes no further step: it has made 2^64 - 1 of them or, where there is a limit, so many
-/// that are no asks.
+/// Whether a worker with these counts makes no further step. This holds if it has made 2^64 - 1 steps, or if there is a limit and
+/// it has made at least this many steps that are not asks.
 #[inline(always)]
 pub(super) fn counts_are_spent(work_limit: Option<u64>, counts: Counts) -> bool
     ensures { (result ≡ true) ↔ IsSpent work_limit counts }

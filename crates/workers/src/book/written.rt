@@ -1,11 +1,11 @@
-//! A fault that stands written in a book, alone and with one that was met outside the lock.
+//! A fault that is written in a book, alone and with one that was met outside the lock.
 
 ghost use Rattle.std.specs.Prelude.{◌≡◌};
 
 use crate::fault::{OutsideFault, RunFault};
 use std::marker::Model;
 
-/// A fault that stands written in a book: who has one need not write it. Only a book makes one.
+/// A fault that is written in a book: whoever has one need not write it. Only a book makes one.
 #[derive(Clone, Copy, Debug, PartialEq, Eq)]
 pub struct WrittenFault {
     fault: RunFault,
@@ -42,8 +42,8 @@ impl WrittenFault {
     }
 }
 
-/// A fault that was met outside the lock, and the one that stands written since: its own, or an earlier one. Only a
-/// book makes one, when it is told of the fault.
+/// A fault that was met outside the lock, and the one that the book has since: this one, or an earlier one. Only a book makes
+/// one, when it gets the fault.
 #[derive(Clone, Copy, Debug)]
 pub(crate) struct MetFault {
     met: OutsideFault,
@@ -51,7 +51,7 @@ pub(crate) struct MetFault {
 }
 
 impl MetFault {
-    /// Of the fault that a book was told of, and the one that it has.
+    /// Of the fault that a book got, and the one that it has.
     pub(super) fn of(met: OutsideFault, written: WrittenFault) -> MetFault
         ensures met { result.met ≡ met }
         ensures written { result.written ≡ written }
@@ -59,7 +59,7 @@ impl MetFault {
         MetFault { met, written }
     }
 
-    /// The fault that stands written.
+    /// The fault that the book has.
     pub(crate) fn written(self) -> WrittenFault
         ensures { result ≡ self.written }
     {

@@ -15,8 +15,8 @@ impl<J: JobName, H: JobSource, R: Wait, G: Gate, S: Spin + Drop> Worker<'_, J, H
     ghost use Rattle.workers.specs.Book.{IsAskWithin, owed_by};
     ghost use Rattle.workers.specs.Work.{IsAskAnswer, IsStepAnswer, IsStepFault, Looks, StepsOrEnds};
 
-    /// Asks for work, and returns the step that the worker owes then. Returns None where all is done, and then
-    /// the cell shows it. A worker that gets no task looks at the cell before it asks again, and one that backs off before it asks.
+    /// Asks for work, and returns the step that the worker owes then. Returns None if all is done, and then the cell shows it. A
+    /// worker that gets no task looks at the cell before it asks again. One that backs off looks at it before this ask, too.
     pub(super) fn ask_for_work(&mut self) -> Result<Option<NextStep>, WorkFault>
         ensures answer { IfOk result (λ next. IsStepAnswer J.job next_step.Ask self.old.share self.new.share next) }
         ensures within { IfOk result (λ next. IfSome next (λ owed. IsWithin (length J.job.block) owed)) }
@@ -45,7 +45,7 @@ impl<J: JobName, H: JobSource, R: Wait, G: Gate, S: Spin + Drop> Worker<'_, J, H
         book.ask(&mut self.share)
     }
 
-    /// What a worker does after an ask: where all is done it makes the cell show it, and where it gets no task it looks at the cell.
+    /// What a worker does after an ask: if all is done, it makes the cell show it; if it gets no task, it looks at the cell.
     fn heed(&mut self, asked: Asked)
         ensures looks { Looks self.old.share self.new.share }
         ensures shown { owed_by asked ≡ None → cell_view self.new.share.pass ≡ 1 }
@@ -70,7 +70,7 @@ impl<J: JobName, H: JobSource, R: Wait, G: Gate, S: Spin + Drop> Worker<'_, J, H
             .look(self.rt, &mut self.share.pass, &mut self.spin);
     }
 
-    /// Looks at the cell where the worker backs off before an ask.
+    /// Looks at the cell if the worker backs off before an ask.
     fn back_off(&mut self)
         ensures { Looks self.old.share self.new.share }
     {

@@ -15,11 +15,11 @@ pub(crate) enum WorkFault {
 
 impl WorkFault {
     ghost use Rattle.std.specs.Prelude.{◌≡◌};
-    ghost use Rattle.workers.specs.Work.{fault_of};
+    ghost use Rattle.workers.specs.Work.{run_fault_of};
 
-    /// The fault that stands written.
+    /// The fault that the book has.
     pub(super) fn written_fault(self) -> WrittenFault
-        ensures { result ≡ fault_of self }
+        ensures { result ≡ run_fault_of self }
     {
         match self {
             WorkFault::Refused(written) => written,

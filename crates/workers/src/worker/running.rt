@@ -14,7 +14,7 @@ use stm_core::{JobSource, NextStep, ReadResult, ReadyRecord, StepKind, reads_mad
 
 impl<J: JobName, H: JobSource, R: Wait, G: Gate, S: Spin + Drop> Worker<'_, J, H, R, G, S> {
     ghost use Rattle.std.specs.FinMap as finite;
-    ghost use Rattle.std.specs.Prelude.{◌≡◌, ◌<◌, Ok, Some, false, true, length, slice_get, IfErr, IfOk};
+    ghost use Rattle.std.specs.Prelude.{◌≡◌, ◌≢◌, ◌<◌, Ok, Some, false, true, length, slice_get, IfErr, IfOk};
     ghost use Rattle.rv_ledger.specs.Lent.{lent_content};
     ghost use Rattle.rv_step.specs.Run.{IsEnded};
     ghost use Rattle.rv_step.specs.declared.ended_run.EndedRun.{EndedRun};
@@ -23,8 +23,8 @@ impl<J: JobName, H: JobSource, R: Wait, G: Gate, S: Spin + Drop> Worker<'_, J, H
     ghost use Rattle.stm_core.specs.declared.next_step.NextStep.TheVariants as next_step;
     ghost use Rattle.workers.specs.Work.{IsBlocked, IsReadAnswer, IsRecordAnswer, IsRunAnswer, IsStepFault, Steps};
 
-    /// Runs a call outside the lock up to a read that meets an estimate, or up to its end; then it passes the gate, and
-    /// hands the run in. Returns the step that the worker owes then. A run is large, so it stays here until it is finished.
+    /// Runs a call outside the lock up to a read that meets an estimate, or up to its end. At the end the worker passes the gate,
+    /// and hands the run in. Returns the step that it owes then. A run is large, so it stays here until it is finished.
     pub(super) fn run_call(&mut self, call: u16, incarnation: u16) -> Result<NextStep, WorkFault>
         requires within { call < length J.job.block }
         ensures answer { IfOk result (λ next. IsRunAnswer J.job call incarnation self.new.share next) }
@@ -53,12 +53,12 @@ impl<J: JobName, H: JobSource, R: Wait, G: Gate, S: Spin + Drop> Worker<'_, J, H
         };
         let mut ready = ReadyRecord::of(ended, reads);
         let next = self.hand_in(call, incarnation, &mut ready)?;
-        // What else the record left over in `ready` is dropped here, after the lock.
+        // The rest of what the record left over in `ready` is dropped here, after the lock is released.
         self.spare.keep_answers(ready.take_answers());
         Ok(next)
     }
 
-    /// Takes a call's run on to its end. Returns false where it meets an estimate before that.
+    /// Continues a call's run to its end. Returns false if it meets an estimate before that.
     fn run_to_end(&mut self, call: u16, incarnation: u16, run: &mut Run) -> Result<bool, WorkFault>
         ensures call { run.new.call ≡ run.old.call }
         ensures ended { IfOk result (λ ended. ended ≡ true → IsEnded run.new.stage) }
@@ -80,8 +80,8 @@ impl<J: JobName, H: JobSource, R: Wait, G: Gate, S: Spin + Drop> Worker<'_, J, H
         unreachable!()
     }
 
-    /// Reads the key that a call's run asks for, and answers the run. Returns false where the read meets an estimate. The
-    /// storage before the block is searched before the lock is taken.
+    /// Reads the key that a call's run asks for, and answers the run. Returns false if the read meets an estimate. The storage
+    /// before the block is searched before the lock is taken.
     fn read_key(
         &mut self,
         call: u16,
@@ -91,6 +91,7 @@ impl<J: JobName, H: JobSource, R: Wait, G: Gate, S: Spin + Drop> Worker<'_, J, H
     ) -> Result<bool, WorkFault>
         requires { run.old.stage ≡ stages.Asked key.now }
         ensures call { run.new.call ≡ run.old.call }
+        ensures given { IfOk result (λ given. given ≡ true → run.new.stage ≢ stages.Asked key.now) }
         ensures blocked { IfOk result (λ given. given ≡ false → IsBlocked J.job call incarnation self.new.share) }
         ensures steps { Steps self.old.share self.new.share result }
         ensures fault { IfErr result (λ e. IsStepFault J.job (next_step.Run call incarnation) self.new.share e) }
@@ -112,7 +113,7 @@ impl<J: JobName, H: JobSource, R: Wait, G: Gate, S: Spin + Drop> Worker<'_, J, H
         }
     }
 
-    /// Asks the book under the lock what a call's run reads at a key, where the storage before the block has `base` there.
+    /// Asks the book under the lock what a call's run reads at a key. The storage before the block has `base` there.
     fn read_under_lock(
         &mut self,
         call: u16,
@@ -152,8 +153,8 @@ impl<J: JobName, H: JobSource, R: Wait, G: Gate, S: Spin + Drop> Worker<'_, J, H
         }
     }
 
-    /// Hands in the ended run of a call, as the book under the lock answers it. What is left over of the run stands in its place
-    /// then.
+    /// Hands in the ended run of a call to the book under the lock, and returns its answer. Afterwards `ready` holds what is left
+    /// over of the run.
     fn record_under_lock(
         &mut self,
         call: u16,

@@ -2,7 +2,7 @@ use Rattle.std.proofs.Common.{length}
 use Rattle.byte_streams.specs.Written.{AtMostAs, IsWrittenBefore}
 use Rattle.byte_streams.proofs.write.write_whole.Given as goal
 
--- some first bytes are written, and what is left follows them; what may come now might have come before
+-- some first bytes are written, and what is left follows them; each refusal that is possible now was possible before
 abbrev pub invariant-loop-rest : goal.invariant-loop-rest
 invariant-loop-rest g l = record {
   written : IsWrittenBefore (g.W.Write.contents l.fn.out) (g.W.Write.contents l.out) l.rest l.bytes;

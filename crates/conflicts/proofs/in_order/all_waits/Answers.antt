@@ -5,12 +5,12 @@ use Rattle.std.proofs.lemmas.Option.{slice_get_read}
 use Rattle.rv_step.specs.Fold.{receipts_of, store_after_call, store_before}
 use Rattle.rv_step.specs.Chain.{ends}
 use Rattle.conflicts.specs.ByKey.{call_by_key}
-use Rattle.conflicts.specs.Calls.{count_at, with_changes, with_waits}
+use Rattle.conflicts.specs.Calls.{count_at, with_call_changes, with_waits}
 use Rattle.conflicts.specs.Greatest.{greatest_from}
 use Rattle.conflicts.specs.Paths.{ArePaths}
 use Rattle.conflicts.specs.Reads.{keys_read}
 use Rattle.conflicts.specs.Table.{after_changes, key_waits_in, waits_in}
-use Rattle.conflicts.specs.Waits.{call_of, calls_of, gas_in, gas_of}
+use Rattle.conflicts.specs.Waits.{call_view_of, calls_of, gas_in, gas_of_call}
 use Rattle.conflicts.proofs.Counted.{AreWriters, all_writers, counts_next, few_waits, no_writers, writers_next}
 use Rattle.conflicts.proofs.Earlier.{call_at, earlier}
 use Rattle.conflicts.proofs.Longest.{more_within, paths_more, paths_none, same_greatest}
@@ -64,7 +64,7 @@ loop-index-preserved c =
     let items = c.in_ok-next.ensures.path in
     let value = ap (λ s. (ends call s).gas + greatest_from old 0 (waits_in named (keys_read call s))) same
     ∙ ap (λ g. g + greatest_from old 0 (waits_in named (keys_read call before))) (ap gas_in (sym (receipt_at call block store index at)))
-    ∙ ap (λ n. gas_of block store index + n) (same_greatest old block store index call at named names) in
+    ∙ ap (λ n. gas_of_call block store index + n) (same_greatest old block store index call at named names) in
     record {
       all = c.in_ok-push.ensures.items ∙ calls_more (call_by_key block store) index c.loop-index.all.items c.in_ok-next.next c.loop-index.invariant.all
           (call_is block store index call at named c.in_ok-next.next names
@@ -75,14 +75,14 @@ loop-index-preserved c =
           (sym (c.in_ok-next.ensures.named ∙ ap (λ s. after_changes index (finite.entries (ends call s).writes) named) same))
           (names_next block store index call at named names);
       writers = subst (λ t. AreWriters t receipts (index + 1))
-          (sym (c.in_ok-next.ensures.writers ∙ ap (λ s. with_changes index (finite.entries (ends call s).writes) c.loop-index.progress.writers) same))
+          (sym (c.in_ok-next.ensures.writers ∙ ap (λ s. with_call_changes index (finite.entries (ends call s).writes) c.loop-index.progress.writers) same))
           (writers_next block store index call at c.loop-index.progress.writers c.loop-index.invariant.writers);
       waits = c.in_ok-next.ensures.counts ∙ ap (λ s. with_waits c.loop-index.progress.waits (waits_in named (keys_read call s))) same
           ∙ ap (λ m. with_waits m (waits_in named (keys_read call before))) c.loop-index.invariant.waits
           ∙ counts_next block store index call at named names;
       count = ap length items ∙ length-append old (path ∷ []) ∙ ap (λ n. n + 1) c.loop-index.invariant.count;
       paths = subst (ArePaths (calls_of block store)) (sym (items ∙ ap (λ p. old ++ p ∷ []) value))
-          (paths_more (calls_of block store) (earlier block store) old c.loop-index.invariant.paths (call_of block store index)
+          (paths_more (calls_of block store) (earlier block store) old c.loop-index.invariant.paths (call_view_of block store index)
           (ap (slice_get (calls_of block store)) c.loop-index.invariant.count ∙ call_at block store index call at));
       bound = subst (λ l. All (λ p. p ≤ (index + 1) * 2 ^ 32) l) (sym items)
           (more_within old path index c.loop-index.invariant.bound (c.in_ok-next.ensures.bound (index * 2 ^ 32) c.loop-index.invariant.bound));

@@ -1,12 +1,12 @@
 use Rattle.std.proofs.Common.{◌≡◌, ℕ, Bool, true, if◌then◌else◌, Some, None, Result, Ok, Err, OnErr, sym, ap, ◌∙◌, inl, rules}
 use Rattle.debugger.specs.More.{changes}
-use Rattle.debugger.specs.Replay.{ReplayState, RunsTo, is_in_memory}
+use Rattle.debugger.specs.Replay.{ReplayState, RunsTo, are_bytes_in_memory}
 use Rattle.debugger.specs.Session.{change_of, moved, stop_of}
 use Rattle.debugger.proofs.Stops.{stop_is}
 use Rattle.debugger.proofs.answer.changed_text.Goals as goal
 
--- a run to a change went where it is to go
-change_is : {X : Type 0} (address len : ℕ) (x : X) (old new : ReplayState) → is_in_memory address len ≡ true → RunsTo {X = X} (changes address len old) (Ok x) old new → change_of address len old ≡ Some new
+-- a run to a change reached the moment of `change_of`
+change_is : {X : Type 0} (address len : ℕ) (x : X) (old new : ReplayState) → are_bytes_in_memory address len ≡ true → RunsTo {X = X} (changes address len old) (Ok x) old new → change_of address len old ≡ Some new
 change_is address len x old new within ran =
     ap (λ (b : Bool). if b then stop_of (changes address len old) old else None) within
     ∙ stop_is (changes address len old) old new ran.0 ran.1 ran.2 ran.3

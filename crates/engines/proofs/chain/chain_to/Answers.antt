@@ -9,4 +9,4 @@ returns-in-Ok-clause-ok g c =
 pub returns-clause-err : goal.returns-clause-err
 returns-clause-err g c =
     session_cut (g.R.BufferedSource.may_fail c.args.input.now) c.args.settings c.new-state.result c.serve.new.session (g.W.Write.contents c.args.out.now) (g.W.Write.contents c.serve.new.out)
-    (g.R.Read.remaining c.args.input.now) c.cut_of.result c.in-Err.fault c.new-state.ensures c.cut_of.ensures c.in-Err.ensures.err
+    (g.R.Read.remaining c.args.input.now) c.from.result c.in-Err.fault c.new-state.ensures c.from.ensures c.in-Err.ensures.err

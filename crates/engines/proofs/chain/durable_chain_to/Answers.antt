@@ -19,7 +19,7 @@ returns-in-Ok-clause-stopped g c clean =
 pub returns-in-Err-clause-err : goal.returns-in-Err-clause-err
 returns-in-Err-clause-err g c = (
   c.in-Err.fault,
-  c.durably_cut.ensures,
+  c.from.ensures,
   IfSome_then (g.R.Read.remaining c.args.input.now) c.in-Err.ensures.err
       (λ bytes. ended (file_moment_of g.S.Store) (IsFileAnswer c.args.settings) (g.R.BufferedSource.may_fail c.args.input.now) (IsShutBy c.args.settings) c.in-Err.fault
       c.args.session.now bytes c.serve.new.session (g.W.Write.contents c.args.out.now) (g.W.Write.contents c.serve.new.out)),

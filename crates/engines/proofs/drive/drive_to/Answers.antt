@@ -2,14 +2,14 @@ use Rattle.std.proofs.Common.{◌≡◌, ◌∙◌, ap, refl, sym, inl, inr}
 use Rattle.std.proofs.lemmas.Result.{IfErr-weaker}
 use Rattle.std.specs.Prelude.{ℕ, List, Option, Some, None, Ok, IfSome}
 use Rattle.std.specs.Option.{option_map}
-use Rattle.block_file.specs.Schedule.{schedule_of}
+use Rattle.block_file.specs.Schedule.{parsed_schedule}
 use Rattle.engines.proofs.drive.drive_to.Goals as goal
 
 -- a refusal met in the schedule file
 pub returns-in-Err-clause-refused : goal.returns-in-Err-clause-refused
 returns-in-Err-clause-refused g c = inr (c.in_ok-job.job, c.in_ok-job.ensures.ok, inl (refl, c.in-Err.ensures.err))
 
-parsed : (bytes : Option (List ℕ)) (entries items : List ℕ) → entries ≡ items → IfSome bytes (λ b. schedule_of b ≡ Ok items) → IfSome (option_map schedule_of bytes) (λ wanted. wanted ≡ Ok entries)
+parsed : (bytes : Option (List ℕ)) (entries items : List ℕ) → entries ≡ items → IfSome bytes (λ b. parsed_schedule b ≡ Ok items) → IfSome (option_map parsed_schedule bytes) (λ wanted. wanted ≡ Ok entries)
 parsed None entries items same is = tt
 parsed (Some b) entries items same is = is ∙ ap Ok (sym same)
 

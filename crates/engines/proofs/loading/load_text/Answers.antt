@@ -10,5 +10,5 @@ use Rattle.engines.proofs.loading.load_text.Goals as goal
 pub returns-in-Err-clause-err : goal.returns-in-Err-clause-err
 returns-in-Err-clause-err g c =
     let content = g.P.Programs.content c.args.programs.now in
-    inr (subst (IsJobFault ⊥ content (Ok (block_value c.args.text))) (sym c.refusal_of.ensures) (job_fault content (block_value c.args.text) c.in-Err.fault
+    inr (subst (IsJobFault ⊥ content (Ok (block_value c.args.text))) (sym c.from.ensures) (job_fault content (block_value c.args.text) c.in-Err.fault
     (subst (λ paths. IsProgramFault (programs_of (programs_in content) (map string_bytes paths)) c.in-Err.fault) c.as_slice.ensures.value c.in-Err.ensures.err)))

@@ -26,7 +26,7 @@ pub returns-clause-refused : goal.returns-clause-refused
 returns-clause-refused g c =
     let told = c.in-Err.ensures.err in IfSome_then (g.R.Read.remaining c.args.requests.now) told.2 (λ _ ended. inr (inl (told.0, _, _, told.1, ended)))
 
--- or by the close behind all answers
+-- or by the close after all answers
 pub returns-in-Ok-clause-refused : goal.returns-in-Ok-clause-refused
 returns-in-Ok-clause-refused g c =
     IfErr-weaker c.close-closed.result _ _ (λ _ told. IfSome_then (g.R.Read.remaining c.args.requests.now) c.in-Ok.ensures.ok (λ _ served. inr (inr ((_, _, served), told)))) c.close-closed.ensures.refused

@@ -19,7 +19,7 @@ returns-in-Err-open_durably-clause-err g c =
 
 pub returns-in-Err-open_durably-clause-told : goal.returns-in-Err-open_durably-clause-told
 returns-in-Err-open_durably-clause-told g c =
-    not_wanted (g.R.Read.remaining c.args.requests.now) c.in-Err-open_durably.fault c.fault.result (g.K.SessionStores.asked c.args.stores.now) (g.K.SessionStores.asked c.abandon_store.new.self) c.args.path.now c.fault.ensures
+    not_wanted (g.R.Read.remaining c.args.requests.now) c.in-Err-open_durably.fault c.from.result (g.K.SessionStores.asked c.args.stores.now) (g.K.SessionStores.asked c.abandon_store.new.self) c.args.path.now c.from.ensures
     (asks_then (g.K.SessionStores.asked c.args.stores.now) (g.K.SessionStores.asked c.open_store.new.self) (g.K.SessionStores.asked c.abandon_store.new.self) _ _ c.in-Ok.ensures.asks c.abandon_store.ensures.asks)
 
 -- it was opened and closed

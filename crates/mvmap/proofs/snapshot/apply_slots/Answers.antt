@@ -2,8 +2,8 @@ use Rattle.std.proofs.Common.{◌∙◌, List, ap, arith, sym, subst}
 use Rattle.std.specs.FinMap as map
 use Rattle.std.specs.List.Sorted.{IsStrictlySortedBy}
 use Rattle.std.specs.Map.{keys_of}
-use Rattle.mvmap.specs.KeyTable.{AreIndexed, by_key, in_order, positions_of}
-use Rattle.mvmap.specs.Slots.{Slots, at_places, flat, value_over_slots}
+use Rattle.mvmap.specs.KeyTable.{AreSlotsIndexed, positions_of, slots_by_key, slots_in_order}
+use Rattle.mvmap.specs.Slots.{SlotsByPlace, at_places, flat, value_over_slots}
 use Rattle.mvmap.specs.Versions.{place_cmp}
 use Rattle.mvmap.specs.Writers.{ByWriter}
 use Rattle.mvmap.specs.declared.key_table.KeySlots.{KeySlots}
@@ -22,7 +22,7 @@ pub loop-at_key-preserved : goal.loop-at_key-preserved
 loop-at_key-preserved c =
     let rs = c.args.arena.now.records in
     let list = c.deref-at_key-items.result.now in
-    let h = subst (λ (xs : List KeySlots). AreIndexed (positions_of xs) xs) (sym c.deref-at_key-items.ensures.value) c.slots.invariant.positions in
+    let h = subst (λ (xs : List KeySlots). AreSlotsIndexed (positions_of xs) xs) (sym c.deref-at_key-items.ensures.value) c.slots.invariant.positions in
     let s = c.at_key-item.result in
     let i = c.loop-at_key.at_key-index in
     record {
@@ -39,16 +39,16 @@ returns-clause-values c = λ k.
     let rs = c.args.arena.now.records in
     let list = c.deref-at_key-items.result.now in
     let base = map.get c.args.store.now k in
-    let h = subst (λ (xs : List KeySlots). AreIndexed (positions_of xs) xs) (sym c.deref-at_key-items.ensures.value) c.slots.invariant.positions in
+    let h = subst (λ (xs : List KeySlots). AreSlotsIndexed (positions_of xs) xs) (sym c.deref-at_key-items.ensures.value) c.slots.invariant.positions in
     c.loop-at_key.invariant.values k
     ∙ all_before rs (positions_of list) list h c.loop-at_key.at_key-index c.loop-at_key-test.false k base
-    ∙ ap (λ (xs : List KeySlots). value_over_slots rs (flat (in_order (positions_of xs) xs)) k base) c.deref-at_key-items.ensures.value
-    ∙ ap (λ (es : Slots). value_over_slots rs es k base) c.slots.view_is
+    ∙ ap (λ (xs : List KeySlots). value_over_slots rs (flat (slots_in_order (positions_of xs) xs)) k base) c.deref-at_key-items.ensures.value
+    ∙ ap (λ (es : SlotsByPlace). value_over_slots rs es k base) c.slots.view_is
 
 pub returns-clause-ordered : goal.returns-clause-ordered
 returns-clause-ordered c =
     let t = c.slots.inside.table in
     let list = c.deref-at_key-items.result.now in
-    subst (λ (es : Slots). IsStrictlySortedBy place_cmp (keys_of es)) c.slots.view_is
-    (flat_sorted (by_key t) (in_order_sorted (positions_of t.list.items) t.list.items c.slots.invariant.positions)
-    (subst (λ (xs : List KeySlots). AreAllAscending (in_order (positions_of xs) xs)) c.deref-at_key-items.ensures.value (all_ascending (positions_of list) list c.loop-at_key.at_key-index c.loop-at_key-test.false c.loop-at_key.invariant.ascending)))
+    subst (λ (es : SlotsByPlace). IsStrictlySortedBy place_cmp (keys_of es)) c.slots.view_is
+    (flat_sorted (slots_by_key t) (in_order_sorted (positions_of t.list.items) t.list.items c.slots.invariant.positions)
+    (subst (λ (xs : List KeySlots). AreAllAscending (slots_in_order (positions_of xs) xs)) c.deref-at_key-items.ensures.value (all_ascending (positions_of list) list c.loop-at_key.at_key-index c.loop-at_key-test.false c.loop-at_key.invariant.ascending)))

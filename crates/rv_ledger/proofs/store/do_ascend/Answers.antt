@@ -9,7 +9,7 @@ use Rattle.rv_ledger.specs.Entries.{AreAscending}
 use Rattle.rv_ledger.specs.Key.{key_cmp}
 use Rattle.rv_ledger.proofs.store.do_ascend.Goals as goal
 
--- the keys of entries ascend, where each is below the next
+-- the keys of entries ascend if each is below the next
 ascending : (es : List (List ℕ × List ℕ)) → ((k : ℕ) (d : List ℕ × List ℕ) → k + 1 < length es → key_cmp (get_or es k d).0 (get_or es (k + 1) d).0 ≡ Less) → AreAscending es
 ascending es h = sorted_from_all_adjacent nat_list_cmp_total (keys_of es) [] (λ k l.
     let key_at = λ (i : ℕ). get_or-map (λ (e : List ℕ × List ℕ). e.0) es i ([], []) in

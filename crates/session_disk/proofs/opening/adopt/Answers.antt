@@ -91,7 +91,7 @@ returns-in-Ok-2-clause-cause g c clean =
     let mid = c.in-Err-open_numbered.ensures.falls clean in
     let was = c.read_catalog.ensures.honest mid in
     let first = c.read_catalog.ensures.kept mid in
-    rw c.store_fault.ensures (from_store _ _ _ _ _ _ _ c.in-Err-open_numbered.error first.counts inl
+    rw c.from.ensures (from_store _ _ _ _ _ _ _ c.in-Err-open_numbered.error first.counts inl
     (has_file c.args.files (c.requires.unopened.size was) c.read_catalog.new.self first c.in-Ok.rows.items (c.in-Ok.ensures.ok mid) (c.requires.some was)
     (c.read_catalog.ensures.schema ∙ c.requires.unopened.schema) (some_rows c.in-Ok.rows.items _ (rw c.as_slice.ensures.value at c.is_empty.ensures) c.if-is_empty.false)) (c.in-Err-open_numbered.ensures.cause clean))
 
@@ -109,7 +109,7 @@ returns-in-Ok-2-clause-unharmed g c clean =
 pub returns-clause-cause : goal.returns-clause-cause
 returns-clause-cause g c clean =
     let was = c.read_catalog.ensures.honest clean in
-    rw c.store_fault-in-Err.ensures (from_store _ _ _ _ _ _ _ c.in-Err.error (le_refl _) inl (has_some c.args.files (c.requires.unopened.size was) (c.requires.some was)) (c.in-Err.ensures.cause clean))
+    rw c.from-in-Err.ensures (from_store _ _ _ _ _ _ _ c.in-Err.error (le_refl _) inl (has_some c.args.files (c.requires.unopened.size was) (c.requires.some was)) (c.in-Err.ensures.cause clean))
 
 pub returns-clause-unharmed : goal.returns-clause-unharmed
 returns-clause-unharmed g c clean =

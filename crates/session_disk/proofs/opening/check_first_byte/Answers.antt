@@ -24,5 +24,5 @@ returns-then-head-ne83-clause-cause g c clean session =
 
 pub returns-in-Err-clause-cause : goal.returns-in-Err-clause-cause
 returns-in-Err-clause-cause g c clean =
-    rw c.probe_fault.ensures (log_cause _ _ _ (files_image g.D.Disk c.args.files.now) _ c.in-Err.error (rw c.session_page_size.ensures at (c.in-Err.ensures.cause.0 clean))
+    rw c.from.ensures (log_cause _ _ _ (files_image g.D.Disk c.args.files.now) _ c.in-Err.error (rw c.session_page_size.ensures at (c.in-Err.ensures.cause.0 clean))
     (λ session. let file = some_sound (files_image g.D.Disk c.args.files.now) session (c.requires.some (both_clean _ _ _ _ c.probe_first_page.ensures.log.clean c.probe_first_page.ensures.db.clean clean)) in (file.1.found.frames, file.1.found.replays)))

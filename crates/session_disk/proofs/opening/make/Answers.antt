@@ -35,5 +35,5 @@ returns-in-Ok-clause-ok g c clean =
 
 pub returns-in-Err-clause-cause : goal.returns-in-Err-clause-cause
 returns-in-Err-clause-cause g c clean =
-    rw c.store_fault.ensures (from_store _ _ _ _ _ _ _ c.in-Err.error (le_refl _) (λ stop. stop)
+    rw c.from.ensures (from_store _ _ _ _ _ _ _ c.in-Err.error (le_refl _) (λ stop. stop)
     (λ start. record { few = rw c.requires.unopened.schema few_tables; schema = subst CanBuild (sym c.requires.unopened.schema) can_build; files = start }) (c.in-Err.ensures.cause clean))

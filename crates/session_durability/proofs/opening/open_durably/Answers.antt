@@ -31,7 +31,7 @@ returns-in-Err-load_state-clause-refused g c clean =
     let (files, made, keeping) = c.in-Ok.ensures.ok in
     let now : IsClean (v c.in-Ok.opened.0) = subst (λ s. IsClean (v s)) c.into_store.ensures.store clean in
     let first : IsClean (v c.args.store) = omega (arith, now, c.in-Ok.ensures.read.quiet.clean) in
-    rw c.fault_of_load.ensures (unloaded c.args.settings (v c.args.store) _ (kept_of files c.in-Ok.opened.1) c.in-Err-load_state.fault
+    rw c.from-in-Err-load_state.ensures (unloaded c.args.settings (v c.args.store) _ (kept_of files c.in-Ok.opened.1) c.in-Err-load_state.fault
     (holds_found (v c.args.store) (v c.in-Ok.opened.0) (kept_of files c.in-Ok.opened.1) (g.met.S.Store.broken_if_shut c.args.store) (c.requires.fresh first) (c.in-Ok.ensures.read.same now) keeping)
     (c.in-Err-load_state.ensures.err files made))
 

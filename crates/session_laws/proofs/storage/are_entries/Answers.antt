@@ -1,4 +1,4 @@
--- An entry more, and none left.
+-- One more entry, and none left.
 use Rattle.std.proofs.Common.{◌∙◌, ℕ, List, All, subst, arith}
 use Rattle.std.proofs.lemmas.List.Elements.{All-cons}
 use Rattle.rv_ledger.specs.declared.rules.Rules.TheVariants.{Two}

@@ -1,5 +1,5 @@
 use Rattle.std.proofs.Common.{◌<◌, sym, subst, refl}
-use Rattle.session_requests.specs.Requests.{greatest_height}
+use Rattle.rv_ledger.specs.Height.{greatest_height}
 use Rattle.session_turns.specs.Failures.{MayFailFrame}
 use Rattle.session_turns.specs.Stages.{IsRequestAnswered}
 use Rattle.session_turns.specs.Turn.{try_turn}

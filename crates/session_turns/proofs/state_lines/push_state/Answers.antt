@@ -5,8 +5,9 @@ use Rattle.byte_streams.specs.declared.fault.WriteFault.{WriteFault}
 use Rattle.receipts.proofs.Buffers.{appended_then}
 use Rattle.receipts.specs.Buffer.{Appended}
 use Rattle.receipts.specs.declared.buffer.TextBuffer.{TextBuffer}
-use Rattle.receipts.specs.Text.{line_of}
-use Rattle.session_turns.specs.Telling.{digest_line, number_line, number_text_or_none, rules_number}
+use Rattle.receipts.specs.Text.{printed_line}
+use Rattle.rv_ledger.specs.Rules.{rules_number}
+use Rattle.session_turns.specs.Telling.{digest_line, number_line, number_text_or_none}
 use Rattle.session_turns.proofs.state_lines.push_state.Goals as goal
 
 module _ {S : Type 0} {contents : S → Option (List ℕ)} {may_refuse : S → WriteFault → Type 0} where
@@ -21,5 +22,5 @@ pub returns : goal.returns
 returns g c = all_parts
     (number_line (codes "rules") (rules_number c.args.state.now.rules)) (number_line (codes "height") c.args.state.now.height) (number_line (codes "keys") (len c.args.state.now.store))
     (number_line (codes "programs") (len c.args.state.now.programs)) (number_line (codes "frame-limit") c.args.settings.frame_limit)
-    (line_of (codes "frame-gas") (number_text_or_none c.args.settings.frame_gas ∷ [])) (number_line (codes "brief") (if c.args.settings.is_brief then 1 else 0)) (digest_line c.args.state.now.digest)
+    (printed_line (codes "frame-gas") (number_text_or_none c.args.settings.frame_gas ∷ [])) (number_line (codes "brief") (if c.args.settings.is_brief then 1 else 0)) (digest_line c.args.state.now.digest)
     c.push_counts.ensures c.push_settings.ensures c.push_digest.ensures

@@ -4,7 +4,7 @@ use Rattle.std.specs.Result.{is_ok}
 use Rattle.mvmap.specs.declared.hints.TheConstants.{BUCKET_COUNT, NO_HINT}
 use Rattle.mvmap.proofs.hints.Hints.open.Goals as goal
 
--- of no elements, made `count` long, or where that was refused
+-- a list without elements is made `count` long, or stays empty if that was refused
 made : (ok : Bool) (was now : List ℕ) (n count content : ℕ) → was ≡ [] → n ≡ 0 → now ≡ cond ok (take count was ++ replicate (count - n) content) was → (now ≡ []) ⊎ (now ≡ replicate count content)
 made true was now n count content none empty is =
     let all : count - n ≡ count = omega arith in

@@ -1,5 +1,5 @@
 use Rattle.std.proofs.Common.{◌≡◌, ◌∙◌, ◌++◌, ◌∷◌, List, [], ap, arith, length, sym, subst}
-use Rattle.mvmap.specs.KeyTable.{AreFound, AreIndexed, positions_of}
+use Rattle.mvmap.specs.KeyTable.{AreFound, AreSlotsIndexed, positions_of}
 use Rattle.mvmap.specs.declared.key_table.KeySlots.{KeySlots}
 use Rattle.mvmap.proofs.KeyTables.{added_at, added_found, added_in_order, added_indexed, no_keys, none_found, still_found}
 use Rattle.mvmap.proofs.key_table.KeyTable.add.Goals as goal
@@ -8,7 +8,7 @@ use Rattle.mvmap.proofs.key_table.KeyTable.add.Goals.{After-note_position, After
 last : (c : After-note_position) → c.len-position.result ≡ length c.args.self.now.list.items
 last c = omega (arith, c.reserve.new.self.ok.0, ap length c.reserve.ensures.items)
 
--- with the buckets made or not, the keys stand where they stood and are found
+-- whether the buckets were made or not, the keys stay at their positions and are found
 opened : (c : After-note_position) → (c.if-position-eq0.self.list.items ≡ c.args.self.now.list.items)
     × AreFound c.if-position-eq0.self.hints.buckets.items c.if-position-eq0.self.others.entries (positions_of c.args.self.now.list.items)
 opened c =
@@ -29,7 +29,7 @@ returns-in_err-note_position-clause-indexed c =
     let b = c.if-position-eq0.self in
     let same = opened at in
     record {
-      positions = subst (λ (list : List KeySlots). AreIndexed (positions_of list) list) (sym (kept at)) c.requires.indexed.positions;
+      positions = subst (λ (list : List KeySlots). AreSlotsIndexed (positions_of list) list) (sym (kept at)) c.requires.indexed.positions;
       searched = rw (kept at, c.note_position.ensures.buckets) (still_found b.hints.buckets.items b.others.entries (positions_of t.list.items) same.1 c.args.key.now c.len-position.result c.note_position.new.self.others.entries c.in_err-note_position.ensures.unchanged);
     }
 

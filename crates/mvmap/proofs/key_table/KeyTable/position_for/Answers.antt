@@ -1,5 +1,5 @@
 use Rattle.std.proofs.Common.{OnOk, subst, sym, ◌∙◌}
-use Rattle.mvmap.specs.KeyTable.{IsSetAt, by_key, positions_of}
+use Rattle.mvmap.specs.KeyTable.{AreSlotsSetAt, positions_of, slots_by_key}
 use Rattle.mvmap.specs.Writers.{ByWriter}
 use Rattle.mvmap.proofs.KeyTables.{no_writers_in_order, stays}
 use Rattle.mvmap.proofs.key_table.KeyTable.position_for.Goals as goal
@@ -12,5 +12,5 @@ returns-in-Some-clause-set c =
 pub returns-in-None-clause-set : goal.returns-in-None-clause-set
 returns-in-None-clause-set c =
     let t = c.args.self.now in
-    subst (λ (ws : ByWriter). OnOk c.add.result (IsSetAt (by_key t) (by_key c.add.new.self) c.args.key.now ws))
+    subst (λ (ws : ByWriter). OnOk c.add.result (AreSlotsSetAt (slots_by_key t) (slots_by_key c.add.new.self) c.args.key.now ws))
     (sym (no_writers_in_order (positions_of t.list.items) t.list.items c.args.key.now (sym c.find.ensures ∙ c.in-None.is))) c.add.ensures.set

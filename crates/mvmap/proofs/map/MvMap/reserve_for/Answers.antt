@@ -8,7 +8,7 @@ use Rattle.mvmap.specs.Slots.{versions_of}
 use Rattle.mvmap.proofs.Fills.{on_err, opened_places, opened_stays, opened_versions, place_there, table_is, there_at_place}
 use Rattle.mvmap.proofs.map.MvMap.reserve_for.Goals as goal
 
--- where room for entries is refused
+-- if room for entries is refused
 pub returns-in_err-open_all-clause-versions : goal.returns-in_err-open_all-clause-versions
 returns-in_err-open_all-clause-versions c =
     opened_versions c.self.inside.arena.records c.self.inside.slots c.open_all.new.self c.open_all.ensures.opened
@@ -37,7 +37,7 @@ returns-in_err-open_all-clause-succeeds c = λ there fits.
     let err : c.open_all.result ≡ Err c.in_err-open_all.field-0.0 = c.in_err-open_all.was in
     cc
 
--- where there is room for entries
+-- if there is room for entries
 pub returns-clause-ok : goal.returns-clause-ok
 returns-clause-ok c =
     on_ok_weaker c.reserve.result (λ room. (λ k d l. place_there c.open_all.new.self _ (c.in_ok-open_all.ensures.ok k d l), room.0, room.1)) c.reserve.ensures.ok

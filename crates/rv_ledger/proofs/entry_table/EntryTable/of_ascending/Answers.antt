@@ -23,7 +23,7 @@ pub loop-position-preserved : goal.loop-position-preserved
 loop-position-preserved c =
     c.in_ok-push.ensures.items ∙ numbered_more c.args.list.items c.loop-position.position c.index.result.now c.loop-position.positions.items (omega (arith, c.args.list.ok.0)) c.index.ensures c.loop-position.invariant
 
--- the tree says the number of each key
+-- the tree has the number of each key
 made : (c : After-note) → (q : List ℕ) → position_of c.in_ok-tree.tree.entries q ≡ update_all (eq_by_cmp key_cmp) (λ _. None) (numbered 0 c.args.list.items) q
 made c q =
     let all : take c.loop-position.position c.args.list.items ≡ c.args.list.items = take_all c.loop-position.position c.args.list.items (omega (arith, c.args.list.ok.0)) in

@@ -30,7 +30,7 @@ left c =
       apart = λ k d ne l. c.swap_remove.ensures.by_index.1 k d ne (omega (arith, old.ok.0));
     }
 
--- what then stands where: the list without the entry, and a tree that says so
+-- the list and the tree at the end: the list without the entry, and a tree with the new positions
 joined : (c : After-note_removal) → (c.if-position-len.self.list.items ≡ c.swap_remove.new.self.items)
     × ((q : List ℕ) → position_of c.if-position-len.self.tree.entries q ≡ cond (is_at (key_cmp c.args.key.now) q) None (option_map (moved (length c.swap_remove.new.self.items) c.in-Some.position) (position_of c.args.self.now.tree.entries q)))
 joined c =

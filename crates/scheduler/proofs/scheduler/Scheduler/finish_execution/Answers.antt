@@ -7,7 +7,7 @@ use Rattle.stm_state.specs.declared.state.CallState.{CallState}
 use Rattle.stm_state.specs.declared.state.Task.{Task}
 use Rattle.stm_state.specs.declared.state.Task.TheVariants.{Idle, Validating}
 use Rattle.stm_state.specs.State.{State, fresh, with_call, with_task}
-use Rattle.stm_state.specs.Steps.{reads_of}
+use Rattle.stm_state.specs.Steps.{recorded_reads}
 use Rattle.scheduler.specs.declared.calls.TheConstants.{LAST_INCARNATION}
 use Rattle.scheduler.specs.declared.worker.TaskKind.{TaskKind}
 use Rattle.scheduler.specs.Schedule.{Schedule, state_of}
@@ -15,7 +15,7 @@ use Rattle.scheduler.specs.Workers.{task_with}
 use Rattle.scheduler.proofs.Counted.{all_finished}
 use Rattle.scheduler.proofs.scheduler.Scheduler.finish_execution.Goals as goal
 
--- the incarnations of ABORTING calls are bounded as before where a call is EXECUTED
+-- the incarnations of ABORTING calls are bounded as before if a call becomes EXECUTED
 executed_within : (calls : List CallState) (at limit : ℕ) → at < length calls → ((i : ℕ) → (get_or calls i fresh).status ≡ Aborting → (get_or calls i fresh).incarnation ≤ limit)
     → (new : List CallState) → new ≡ set calls at (record (get_or calls at fresh) { status = Executed }) → (i : ℕ) → (get_or new i fresh).status ≡ Aborting → (get_or new i fresh).incarnation ≤ limit
 executed_within calls at limit within before new is i h =
@@ -56,9 +56,9 @@ returns-clause-state c =
     let i = c.args.call in
     let new = c.args.new_key in
     let task = task_with c.validation_of-task_kind.result [] [] in
-    let is_task : task ≡ Validating i (get_or c.args.self.now.calls i fresh).incarnation (length (reads_of (get_or c.args.self.now.calls i fresh).last)) false =
+    let is_task : task ≡ Validating i (get_or c.args.self.now.calls i fresh).incarnation (length (recorded_reads (get_or c.args.self.now.calls i fresh).last)) false =
     ap (λ (d : TaskKind). task_with d [] []) c.validation_of-task_kind.ensures
-    ∙ ap (λ (k : CallState). Validating i k.incarnation (length (reads_of k.last)) false) (c.call.ensures ∙ ap (λ (t : Schedule). get_or t.calls i fresh) c.count_step.ensures) in
+    ∙ ap (λ (k : CallState). Validating i k.incarnation (length (recorded_reads k.last)) false) (c.call.ensures ∙ ap (λ (t : Schedule). get_or t.calls i fresh) c.count_step.ensures) in
     λ v p. c.to_validate.ensures.state v p
     ∙ all_finished w i new task (state_of v p c.args.self.now) (state_of v p c.end_moving.new.self) (state_of v p c.resume_dependents.new.self)
     (c.end_moving.ensures.state v p ∙ ap (λ (t : Schedule). with_task w Idle (with_call i (record (get_or t.calls i fresh) { status = Executed }) (state_of v p t))) c.count_step.ensures)

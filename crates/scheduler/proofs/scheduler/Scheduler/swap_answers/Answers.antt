@@ -1,5 +1,5 @@
 use Rattle.std.proofs.Common.{◌-◌, ◌∙◌, ap, sym, vec_capacity, vec_len}
-use Rattle.scheduler.specs.Workers.{room_of, with_answers}
+use Rattle.scheduler.specs.Workers.{with_answers, worker_room}
 use Rattle.scheduler.proofs.Seen.{answers_swapped, room_after, room_before, task_before}
 use Rattle.scheduler.proofs.scheduler.Scheduler.swap_answers.Goals as goal
 
@@ -13,7 +13,7 @@ returns-clause-room c = c.swap_answers.ensures.room ∙ sym (room_before c.self.
 pub returns-clause-own_room : goal.returns-clause-own_room
 returns-clause-own_room c =
     room_after c.self.inside.calls.items c.self.inside.execution c.self.inside.validation c.self.inside.key_room c.self.inside.workers.items c.args.worker c.args.self.now c.self.view_is c.requires c.index_mut.result.now c.swap_answers.new.self c.index_mut.ensures.value
-    ∙ ap room_of c.swap_answers.ensures.worker
+    ∙ ap worker_room c.swap_answers.ensures.worker
 
 pub returns-clause-schedule : goal.returns-clause-schedule
 returns-clause-schedule c =

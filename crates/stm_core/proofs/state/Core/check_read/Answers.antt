@@ -1,7 +1,7 @@
 use Rattle.std.proofs.Common.{◌≡◌, ◌-◌, ◌+◌, ◌∙◌, length, get_or, slice_get, false, Some, Ok, ap, arith, refl, sym}
 use Rattle.stm_state.specs.declared.state.CallState.{CallState}
 use Rattle.stm_state.specs.declared.state.Task.TheVariants.{Idle, Validating}
-use Rattle.stm_state.specs.Steps.{CheckRead, after_check_read, counted, next_stands, one_step, read_stands, reads_of}
+use Rattle.stm_state.specs.Steps.{CheckRead, after_check_read, counted, next_stands, one_step, read_stands, recorded_reads}
 use Rattle.stm_state.specs.Done.{block_of}
 use Rattle.stm_core.specs.Inner.{state_in}
 use Rattle.stm_core.proofs.MadeSteps.{check_made, due_at, goes_on_quietly, may_count, named_in}
@@ -34,7 +34,7 @@ invariant_of-self g c =
     let less : next.0 ≡ c.in-Validating.left - 1 = omega (arith, left) in
     let stands : next_stands c.in-Validating.call (c.in-Validating.left - 1 + 1) s ≡ c.next_stands-stands.result =
     ap (λ x. next_stands c.in-Validating.call x s) whole
-    ∙ ap (λ (x : CallState). read_stands s.versions c.in-Validating.call (slice_get (reads_of x.last) (length (reads_of x.last) - c.in-Validating.left))) (sym c.call.ensures)
+    ∙ ap (λ (x : CallState). read_stands s.versions c.in-Validating.call (slice_get (recorded_reads x.last) (length (recorded_reads x.last) - c.in-Validating.left))) (sym c.call.ensures)
     ∙ sym c.next_stands-stands.ensures in
     goes_on_quietly (g.H.JobSource.job c.self.inside.job) c.self.inside.map c.self.inside.promised c.self.inside.scheduler c.self.invariant c.args.self.now c.self.view_is c.args.worker CheckRead c.requires c.self.inside.map c.finish_validation.new.self tt
     (check_made (block_of (g.H.JobSource.job c.self.inside.job).block (g.H.JobSource.job c.self.inside.job).store) c.args.worker s c.in-Validating.call c.in-Validating.incarnation next.0 next.2

@@ -3,7 +3,7 @@ use Rattle.rv_ledger.specs.declared.job.Job.{Job}
 use Rattle.mvmap.specs.Table.{Table}
 use Rattle.stm_state.specs.State.{State}
 use Rattle.stm_state.specs.Steps.{Block}
-use Rattle.stm_state.specs.Parts.{HoldsWhereReached, IsSized}
+use Rattle.stm_state.specs.Parts.{HoldsWhereReached, IsStateSized}
 use Rattle.stm_state.proofs.Parted.{attended_kept, borne_out_kept, estimates_kept, watched_kept}
 use Rattle.scheduler.specs.Schedule.{Schedule}
 use Rattle.stm_core.specs.CoreState.{CoreState, PassedRoom, ValueRoom, block_in}
@@ -18,7 +18,7 @@ part_at b P kept is h = subst (λ (x : CoreState). P (block_in x) x.state) is (k
 
 pub returns-clause-sized : goal.returns-clause-sized
 returns-clause-sized g c =
-    subst (λ (b : CoreState). IsSized (length b.job.block) (length b.state.tasks) b.state) c.self.view_is
+    subst (λ (b : CoreState). IsStateSized (length b.job.block) (length b.state.tasks) b.state) c.self.view_is
     (invariant_at (g.H.JobSource.job c.self.inside.job) c.self.inside.map c.self.inside.promised c.self.inside.scheduler c.self.invariant).sized
 
 pub returns-clause-attended : goal.returns-clause-attended

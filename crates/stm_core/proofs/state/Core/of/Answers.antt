@@ -1,5 +1,5 @@
 use Rattle.std.proofs.Common.{◌∙◌, length, ap}
-use Rattle.stm_state.specs.State.{start}
+use Rattle.stm_state.specs.State.{start_state}
 use Rattle.stm_core.proofs.MadeSteps.{start_is, start_reached}
 use Rattle.stm_core.proofs.state.Core.of.Goals as goal
 
@@ -10,4 +10,4 @@ invariant_of-result g c =
 pub returns-in-Ok-clause-state : goal.returns-in-Ok-clause-state
 returns-in-Ok-clause-state g c =
     start_is _ c.args.workers c.over-map.result c.in-Ok.scheduler c.over-map.ensures.versions c.over-map.ensures.records c.in-Ok.ensures
-    ∙ ap (λ calls. start (length calls) c.args.workers) c.calls.ensures.value
+    ∙ ap (λ calls. start_state (length calls) c.args.workers) c.calls.ensures.value

@@ -6,7 +6,7 @@ use Rattle.version_arena.specs.StoredRecords.{IsStored, record_of}
 use Rattle.version_arena.proofs.StoredRecords.{all_stored, map_push, records_same, state_is}
 use Rattle.version_arena.proofs.arena.Arena.place_lent.Goals as goal
 
--- there is a place
+-- there is room for one more record
 there : (c : goal.After-at) → c.self.inside.len < length c.self.inside.stored.items
 there c = omega (arith, c.requires.room, ap (λ (a : ArenaState). a.room) c.self.view_is)
 

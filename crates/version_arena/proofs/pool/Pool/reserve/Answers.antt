@@ -8,7 +8,7 @@ pub overflow_add-self : goal.overflow_add-self
 overflow_add-self c =
     omega (arith, c.self.invariant.0, c.self.invariant.2, spare-within c.self.inside.chunks.items c.self.inside.current, c.in-Some.ensures)
 
--- the chunks with one more
+-- the chunks after one is added
 chunks : (c : goal.After-self-2-1) → c.push_reserved.new.self.items ≡ c.self.inside.chunks.items ++ empty_chunk c.max-size.result ∷ []
 chunks c = c.push_reserved.ensures.items ∙ ap (λ cs. cs ++ c.in_ok-chunk.chunk ∷ []) c.reserve.ensures.items ∙ ap (λ x. c.self.inside.chunks.items ++ x ∷ []) c.in_ok-chunk.ensures
 

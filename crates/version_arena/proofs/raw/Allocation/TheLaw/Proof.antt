@@ -1,4 +1,4 @@
--- A `&` to a allocation holds nothing. Assumes `Logic`.
+-- A `&` to an allocation holds nothing. Assumes `Logic`.
 use denote.RattleType.{RattleType}
 use denote.Param.Laws.{Laws}
 use denote.Param.Shared.{copy_shared}

@@ -1,4 +1,4 @@
--- `clear` gives the written bytes up as room, and no code runs. Assumes `Logic`.
+-- `clear` turns the written bytes into room, and no code runs. Assumes `Logic`.
 use Rattle.std.proofs.Common.{◌≡◌, ℕ, ◌+◌, ◌<◌, ◌^◌, List, [], ◌∷◌, length, refl, sym, arith}
 use Rattle.std.proofs.raw_atomic.Walks.{proved}
 use base.Fml.{ftrue, flft, froom}

@@ -1,4 +1,4 @@
--- `lend` lends the written bytes as they lie. Assumes `Logic`.
+-- `lend` lends the written bytes in their place. Assumes `Logic`.
 use Rattle.std.proofs.Common.{◌≡◌, ℕ, ◌*◌, ◌<◌, ◌^◌, List, [], ◌∷◌, length, refl, ap, ◌∙◌, w64, arith}
 use Rattle.std.proofs.raw_atomic.Walks.{proved}
 use Rattle.std.proofs.RcSteps.{word, word-Good}

@@ -26,7 +26,7 @@ use denote.Signature.{plain}
 use denote.Steps.{nothing, opens, closes, heard}
 use denote.Struct.Laws as struct_law
 use denote.Triple.Walked.{Stays, walk_of, says, stay_dropped, stay_ref, Goes-dropped, Goes-ref, ends_at}
-use Rattle.version_arena.specs.Ownership.{bytes_type, bytes_at, bytes_own}
+use Rattle.version_arena.specs.Ownership.{bytes_type, owns_bytes_at, bytes_own}
 use Rattle.version_arena.proofs.Memory.{put_in}
 use Rattle.version_arena.specs.contracts.raw.Bytes as bytes
 use Rattle.version_arena.specs.contracts.raw.BaseAddress as base_type
@@ -73,7 +73,7 @@ put_spec 𝓤 𝓛 𝓜 𝓡 wired =
     let xs = h.bytes ++ byte ∷ [] in let long : length xs ≡ length h.bytes + 1 = omega (arith, length-append h.bytes (byte ∷ [])) in
     let next : end + 1 ≡ o + length xs = omega (arith, long) in let fits : length xs + k < 2 ^ 63 = omega (arith, long, one, small) in
     use1 𝓛 (‵ (part_at u8 full_share byte b (at + o))) (uint_in 𝓛 full_share w8 byte b (at + o)) $ move ! (2 ∷ 0 ∷ []) $
-    use2 𝓛 (‵ (bytes_at b o xs)) (put_in 𝓛 b h.bytes byte o (at + o) (sym here)) $ move ! (1 ∷ []) $
+    use2 𝓛 (‵ (owns_bytes_at b o xs)) (put_in 𝓛 b h.bytes byte o (at + o) (sym here)) $ move ! (1 ∷ []) $
     rewrite ! 0 (λ (n : ℕ). ‵ (froom (bytes_type k) b n)) next refl $ move ! (1 ∷ 0 ∷ []) $ fjoin ! $ flt_i ! (length xs + k) (2 ^ 63) fits $ fjoin ! $
     rewrite ! 0 (λ (p : Ptr). ‵ (bytes_own p xs k)) (sym e) refl $ move ! (1 ∷ 0 ∷ []) $ fjoin ! $ move ! (1 ∷ 0 ∷ []) $
     let new = record h { bytes = xs; room = k } in

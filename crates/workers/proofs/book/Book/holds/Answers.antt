@@ -1,6 +1,6 @@
 use Rattle.std.proofs.Common.{length, subst}
 use Rattle.stm_state.specs.Done.{Reached}
-use Rattle.stm_state.specs.Parts.{CallsAreAttended, IsSized, OthersHaveEstimates, ReadsAreWatched, RunsAreBorneOut}
+use Rattle.stm_state.specs.Parts.{CallsAreAttended, IsStateSized, OthersHaveEstimates, ReadsAreWatched, RunsAreBorneOut}
 use Rattle.stm_core.specs.CoreState.{block_in}
 use Rattle.workers.specs.Book.{BookState}
 use Rattle.workers.proofs.book.Book.holds.Goals as goal
@@ -11,7 +11,7 @@ returns-clause-reached g c =
 
 pub returns-clause-sized : goal.returns-clause-sized
 returns-clause-sized g c =
-    subst (λ (b : BookState). IsSized (length b.core.job.block) (length b.core.state.tasks) b.core.state) c.self.view_is c.holds.ensures.sized
+    subst (λ (b : BookState). IsStateSized (length b.core.job.block) (length b.core.state.tasks) b.core.state) c.self.view_is c.holds.ensures.sized
 
 pub returns-clause-attended : goal.returns-clause-attended
 returns-clause-attended g c = subst (λ (b : BookState). CallsAreAttended (block_in b.core) b.core.state) c.self.view_is c.holds.ensures.attended
