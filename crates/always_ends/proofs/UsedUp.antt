@@ -1,14 +1,11 @@
 -- Each step that is not an idle asking uses up some of what is left, except for what an incarnation brings.
 use Rattle.std.proofs.Common.{◌≡◌, ◌≢◌, ◌<◌, ◌≤◌, ◌+◌, ◌*◌, ◌==◌, ◌&&◌, ◌++◌, min, nat_lt, not, ℕ, suc, Bool, true, false, cond, List, [], ◌∷◌, length, set, Option, None, Some, arith, refl, sym, ap, subst, ◌∙◌, inl, inr, length-append}
-use Rattle.std.specs.FinMap.{contains_key, entries, len, len-entries}
+use Rattle.std.specs.FinMap.{entries, len-entries}
 use Rattle.std.proofs.lemmas.Bool.{and_parts, cond_both}
 use Rattle.std.specs.Cmp.Derive.{both_true}
 use Rattle.std.specs.List.{list_all}
 use Rattle.std.proofs.lemmas.List.{get_or-set_same, get_or-set_other, length-map}
 use Rattle.std.proofs.Math.Nat.{mul-le-mul_left}
-use Rattle.std.proofs.lemmas.List.Sums.{length-filter, count_by-le-length}
-use Rattle.rv_ledger.specs.Key.{WriteMap}
-use Rattle.rv_ledger.specs.Change.{ContentChange}
 use Rattle.rv_ledger.specs.declared.receipt.Receipt.{Receipt}
 use Rattle.rv_step.specs.Replies.{reply_of, replies_of}
 use Rattle.rv_step.specs.declared.answer.StorageAnswer.{StorageAnswer}
@@ -19,7 +16,7 @@ use Rattle.stm_state.specs.declared.state.Recorded.{Recorded}
 use Rattle.stm_state.specs.declared.state.Task.{Task}
 use Rattle.stm_state.specs.declared.state.Task.TheVariants.{Idle, Running, Moving, Validating, Marking}
 use Rattle.stm_state.specs.State.{State, fresh, call_at, task_at, with_call, with_task, is_done, is_executed, is_idle, is_ready}
-use Rattle.stm_state.specs.Steps.{Step, Ask, ReadKey, counted, one_asking, one_execution, one_step, one_validation, next_incarnation, ask_validation, ask_execution, after_ask, answered_with, after_read_key, after_park, after_record, after_move_key, after_finish_execution, after_check_read, after_decide, after_mark_estimate, after_finish_abort, has_new_key, is_executed_at, keys_of, keys_to_move, least_parked_call, left_over, next_stands, read_of, recorded_reads, recorded_run, resume_dependents, resume_if_parked, to_validate, written_by}
+use Rattle.stm_state.specs.Steps.{Step, Ask, ReadKey, counted, one_asking, one_execution, one_step, one_validation, next_incarnation, ask_validation, ask_execution, after_ask, answered_with, after_read_key, after_park, after_record, after_move_key, after_finish_execution, after_check_read, after_decide, after_mark_estimate, after_finish_abort, has_new_key, is_executed_at, keys_of, keys_to_move, least_parked_call, next_stands, read_of, recorded_reads, recorded_run, resume_dependents, resume_if_parked, to_validate, written_by}
 use Rattle.stm_state.proofs.Invariant.{Invariant, named_by, run_by}
 use Rattle.stm_state.proofs.Lists.{ChangesAt, each_at, stays_at, set_at}
 use Rattle.stm_state.proofs.StepsByTask.{IsMade, by_ask, by_read, by_park, by_record, by_move, by_finish, by_check, by_decide, by_mark, by_abort}
@@ -28,26 +25,10 @@ use Rattle.stm_state.proofs.Resumptions.{readied_cases}
 use Rattle.stm_state.proofs.Tests.{equal_says, equal_itself, is_executed_says, is_ready_says, lt_says, not_lt_says}
 use Rattle.never_stuck.proofs.RunReads.{ReadOutcome, answers_run, blocks_run, blocker_is, read_outcome}
 use Rattle.always_ends.specs.Work.{work_of}
+use Rattle.never_stuck.proofs.KeysLeft.{keys_few}
 use Rattle.always_ends.proofs.Sums.{sum_pair_at, sum_more_at, sum_none}
 use Rattle.always_ends.proofs.Finished.{ended, resumed, resumed_at, resumed_other}
 use Rattle.always_ends.proofs.Measure.{Bounds, check, run, executed, executing, cost, check_is, executed_is, executing_is, ready_is, cost_is, stage, waiting_left, reads_left, task_left, indices_left, is_executed_in, calls_left, tasks_left, brought, Uses, first_run, task_grows, task_most, validation_passes, execution_passes, indices_most, execution_lowered}
-
--- the keys that a run must move are at most those that it wrote and those that the run before it wrote
-keys_few : (most : ℕ) (last : Option Recorded) (writes : WriteMap) → len writes ≤ most → length (keys_of (written_by last)) ≤ most → length (keys_to_move last writes) ≤ 2 * most
-keys_few most last writes few before =
-    let p : List ℕ × ContentChange → Bool = λ write. not (contains_key writes write.0) in
-    omega (
-      arith,
-      few,
-      before,
-      len-entries writes,
-      length-append (keys_of (entries writes)) (keys_of (left_over last writes)),
-      length-map (entries writes) (λ write. write.0),
-      length-map (left_over last writes) (λ write. write.0),
-      length-map (written_by last) (λ write. write.0),
-      length-filter p (written_by last),
-      count_by-le-length p (written_by last),
-    )
 
 -- what a step counts for
 abbrev pub work_in : Bounds → Step → State → ℕ

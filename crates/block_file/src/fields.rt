@@ -26,7 +26,7 @@ pub fn parts(alloc: Global, text: &[u8], byte: u8) -> Result<Vec<&[u8]>, AllocEr
 }
 
 /// What a text has before the first occurrence of a byte, and what it has after it. None if the byte does not occur.
-pub fn cut_once(text: &[u8], byte: u8) -> Option<(&[u8], &[u8])>
+pub(crate) fn cut_once(text: &[u8], byte: u8) -> Option<(&[u8], &[u8])>
     ensures parts { MatchOption result (cut byte text.now ≡ text.now ∷ []) (λ parts. cut byte text.now ≡ parts.0.now ∷ cut byte parts.1.now) }
     ensures shorter { IfSome result (λ parts. length parts.1.now < length text.now) }
 {
@@ -69,7 +69,7 @@ fn is_path(text: &[u8]) -> bool
 }
 
 /// A path of bytes 0x21 to 0x7e. Otherwise BadLine, or Memory if memory ran out.
-pub fn path(alloc: Global, text: &[u8]) -> Result<String, Cause>
+pub(crate) fn path(alloc: Global, text: &[u8]) -> Result<String, Cause>
     ensures { GivesValue string_bytes result (path_of text.now) }
 {
     if !is_path(text) {
@@ -89,7 +89,7 @@ pub fn is_lower_hex(text: &[u8]) -> bool
 }
 
 /// The bytes that a text gives in lower-case hex; `-` gives none. Otherwise BadHex, or Memory if memory ran out.
-pub fn hex_bytes(alloc: Global, text: &[u8]) -> Result<Vec<u8>, Cause>
+pub(crate) fn hex_bytes(alloc: Global, text: &[u8]) -> Result<Vec<u8>, Cause>
     ensures { GivesValue (λ v. v.items) result (field_bytes text.now) }
 {
     if text == b"-".as_slice() {
@@ -107,7 +107,7 @@ pub fn hex_bytes(alloc: Global, text: &[u8]) -> Result<Vec<u8>, Cause>
 
 /// The value that a text gives in lower-case hex; `-` gives the empty one, and None stands for more than 256 bytes.
 /// BadHex if the text is no such hex.
-pub fn value(text: &[u8]) -> Result<Option<Value>, Cause>
+pub(crate) fn value(text: &[u8]) -> Result<Option<Value>, Cause>
     ensures { result ≡ result_map_both (λ bytes. if nat_lt 256 (length bytes) then None else Some bytes) (λ cause. cause) (field_bytes text.now) }
 {
     if text == b"-".as_slice() {

@@ -23,21 +23,21 @@ impl HotKey {
     ghost use Rattle.std.specs.Prelude.{◌≡◌};
 
     /// The key.
-    pub fn key(&self) -> &Key
+    pub(crate) fn key(&self) -> &Key
         ensures { result.now ≡ self.now.key }
     {
         &self.key
     }
 
     /// The calls that change it: that wrote it, removed it or added to it, ascending.
-    pub fn writers(&self) -> &[u16]
+    pub(crate) fn writers(&self) -> &[u16]
         ensures { result.now ≡ self.now.writers }
     {
         self.writers.as_slice()
     }
 
     /// How many waits there are at it, over all calls.
-    pub fn waits(&self) -> u64
+    pub(crate) fn waits(&self) -> u64
         ensures { result ≡ self.now.waits }
     {
         self.waits

@@ -44,14 +44,14 @@ impl CallWaits {
     ghost use Rattle.std.specs.Prelude.{◌≡◌};
 
     /// The waits, by ascending key. Each key occurs once.
-    pub fn waits(&self) -> &[KeyWaits]
+    pub(crate) fn waits(&self) -> &[KeyWaits]
         ensures { result.now ≡ self.now.waits }
     {
         self.waits.as_slice()
     }
 
     /// The gas that the call used.
-    pub fn gas(&self) -> u32
+    pub(crate) fn gas(&self) -> u32
         ensures { result ≡ self.now.gas }
     {
         self.gas

@@ -20,10 +20,6 @@ going_is at s Running h e = h
 going_is at s (Asked key) h e = h.0
 going_is at s (Ended end out) h e = let t : true ≡ false = ap is_over (sym h) ∙ e in cc
 
--- and so it can make a step
-pub goes_on : (at : Progress) (run : RunView) → IsRunAt at run → is_over at ≡ false → IsRunAt (Going run.machine) run
-goes_on at run h e = subst (λ (x : Progress). IsRunAt x run) (going_is at run.machine run.stage h e) h
-
 -- the call is not over at one more moment
 pub goes_on_more : (call : Invocation) (store : Storage) (n : ℕ) → GoesOnUntil call store n → is_over (moment_over call store n) ≡ false → GoesOnUntil call store (n + 1)
 goes_on_more call store n before here = below_more (λ (k : ℕ). is_over (moment_over call store k) ≡ false) n before here

@@ -1,7 +1,7 @@
 //! The commands of `debug`, and the lines that give them.
 
 ghost use Rattle.std.specs.Prelude.{◌≡◌, map, IfOk};
-ghost use Rattle.debugger.specs.Command.{bytes_command, change_command, command_of_fields, heard_of, moment_of, more_command_of_fields, more_operand_command, more_word_command, run_to_command, typed_address, typed_byte_count, typed_command, word_command};
+ghost use Rattle.debugger.specs.Command.{bytes_command, change_command, command_of_fields, heard_of, moment_of, more_command_of_fields, more_operand_command, more_word_command, run_to_command, typed_address, typed_byte_count, word_command};
 
 use block_file::fields::{decimal, is_lower_hex, key, parts};
 use rv_ledger::Key;
@@ -43,16 +43,13 @@ pub enum Command {
     Help,
 }
 
-/// The command of a line without its LF, or None if the line is not a command. Refused if memory ran out.
-pub fn command_of(alloc: Global, line: &[u8]) -> Result<Option<Command>, AllocError>
-    ensures { IfOk result (λ command. command ≡ typed_command line.now) }
-{
-    let fields = parts(alloc, line, b' ')?;
-    Ok(command_of_fields(fields.as_slice()))
-}
-
-/// The same as `command_of`. If `has_more` is true, the lines of `--more` are commands too.
-pub fn heard_of(alloc: Global, has_more: bool, line: &[u8]) -> Result<Option<Command>, AllocError>
+/// The command of a line without its LF, or None if the line is not a command. If `has_more` is true, the lines of `--more` are
+/// commands, too. Refused if memory ran out.
+pub(crate) fn heard_of(
+    alloc: Global,
+    has_more: bool,
+    line: &[u8],
+) -> Result<Option<Command>, AllocError>
     ensures { IfOk result (λ command. command ≡ heard_of has_more line.now) }
 {
     let fields = parts(alloc, line, b' ')?;

@@ -13,7 +13,6 @@ mod running;
 mod session;
 mod storage;
 
-pub use command::{Command, command_of, heard_of};
 pub use fault::{DebugFault, ReplayFault};
 pub use laws::{last_moment_is_the_receipts, opens_over_its_storage, replay_ends_as_its_receipt};
 pub use replay::Replay;

@@ -259,7 +259,7 @@ impl Replay {
     }
 
     /// What a READ of a key would find now: what the storage has, with the call's own change of the key.
-    pub fn content(&self, key: &Key) -> Option<Value>
+    pub(crate) fn content(&self, key: &Key) -> Option<Value>
         ensures { result ≡ content_now self.now key.now }
     {
         content_with(self.machine().own.get(key), self.store.get(key))
@@ -274,7 +274,7 @@ impl Replay {
     }
 
     /// Whether the call is over.
-    pub fn is_at_end(&self) -> bool
+    pub(crate) fn is_at_end(&self) -> bool
         ensures { result ≡ is_at_end self.now }
     {
         matches!(self.run.stage(), Stage::Ended(_, _))

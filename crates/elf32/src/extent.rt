@@ -13,4 +13,4 @@ pub const INPUT_ADDRESS: u32 = 0x0010_0000;
 pub const PAGE_SIZE: usize = 4096;
 
 /// The number of pages of memory.
-pub const PAGE_COUNT: usize = 256;
+pub(crate) const PAGE_COUNT: usize = 256;

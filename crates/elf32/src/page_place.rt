@@ -30,7 +30,7 @@ impl Model for PagePlace {
 impl PagePlace {
     /// The page at this place among those of the program.
     #[inline(always)]
-    pub fn of_program(place: usize) -> PagePlace
+    pub(crate) fn of_program(place: usize) -> PagePlace
         requires { place < first_own }
         ensures { result ≡ place }
     {

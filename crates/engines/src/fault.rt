@@ -27,14 +27,14 @@ pub enum FileFault {
 
 impl FileFault {
     /// The number in the refusal's line, 1 to 3.
-    pub fn number(self) -> u8
+    pub(crate) fn number(self) -> u8
         ensures { result ≡ file_number self }
     {
         self as u8
     }
 
     /// The name in the refusal's line.
-    pub fn name(self) -> &'static str
+    pub(crate) fn name(self) -> &'static str
         ensures text { result.now ≡ file_name self }
         ensures short { length result.now ≤ 16 }
     {
@@ -68,14 +68,14 @@ pub enum SeqFault {
 
 impl SeqFault {
     /// The number in the refusal's line, 1.
-    pub fn number(self) -> u8
+    pub(crate) fn number(self) -> u8
         ensures { result ≡ seq_number self }
     {
         self as u8
     }
 
     /// The name in the refusal's line.
-    pub fn name(self) -> &'static str
+    pub(crate) fn name(self) -> &'static str
         ensures text { result.now ≡ seq_name self }
         ensures short { length result.now ≤ 16 }
     {
@@ -111,14 +111,14 @@ pub enum InputFault {
 
 impl InputFault {
     /// The number in the refusal's line, 1 to 3.
-    pub fn number(self) -> u8
+    pub(crate) fn number(self) -> u8
         ensures { result ≡ input_number self }
     {
         self as u8
     }
 
     /// The name in the refusal's line.
-    pub fn name(self) -> &'static str
+    pub(crate) fn name(self) -> &'static str
         ensures text { result.now ≡ input_name self }
         ensures short { length result.now ≤ 16 }
     {

@@ -4,21 +4,10 @@ use mathlib.Core.Bool.{false≢true}
 use Rattle.std.proofs.lemmas.Bool.{cases_eq, cases_lt}
 use Rattle.std.proofs.lemmas.Bool.Decides.{Decides-eqb}
 use Rattle.mvmap.specs.Hints.{bucket_of, filled, hint_in, hint_of, last_hint, no_hint, noted}
+use Rattle.rv_ledger.proofs.Positions.{get_set_apart, get_set_here}
 use Rattle.mvmap.specs.declared.hints.Hint.TheVariants.{Nothing, At}
 
 -- ---- a list, one element of which was replaced
-
-pub get_set_here : {A : Type 0} (list : List A) (p : ℕ) (s : A) → p < length list → slice_get (set list p s) p ≡ Some s
-get_set_here [] p s l = absurd (omega arith)
-get_set_here (x ∷ list) zero s l = refl
-get_set_here (x ∷ list) (suc p) s l = get_set_here list p s (omega arith)
-
-pub get_set_apart : {A : Type 0} (list : List A) (p q : ℕ) (s : A) → p ≢ q → slice_get (set list p s) q ≡ slice_get list q
-get_set_apart [] p q s ne = refl
-get_set_apart (x ∷ list) zero zero s ne = absurd (ne refl)
-get_set_apart (x ∷ list) zero (suc q) s ne = refl
-get_set_apart (x ∷ list) (suc p) zero s ne = refl
-get_set_apart (x ∷ list) (suc p) (suc q) s ne = get_set_apart list p q s (λ e. ne (ap suc e))
 
 get_set_past : {A : Type 0} (list : List A) (p : ℕ) (s : A) → length list ≤ p → slice_get (set list p s) p ≡ None
 get_set_past [] p s l = refl

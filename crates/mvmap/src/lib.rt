@@ -21,4 +21,3 @@ pub use laws::{
 };
 pub use map::MvMap;
 pub use read_set::{Origin, Version};
-pub use walk::with_amount;

@@ -111,7 +111,7 @@ fn total_amount(amount: u64, sum: Option<u64>) -> u64
 }
 
 /// What a key has after an amount is added, if there is one. Takes no memory.
-pub fn with_amount(content: Option<LentValue>, sum: Option<u64>) -> Option<Value>
+pub(crate) fn with_amount(content: Option<LentValue>, sum: Option<u64>) -> Option<Value>
     ensures { result ≡ with_amount (lent_content content.entry) sum }
 {
     match (sum, content) {

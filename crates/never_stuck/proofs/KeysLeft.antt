@@ -1,5 +1,5 @@
 -- In each state that steps lead to, a worker has at most 512 keys left to move or to mark.
-use Rattle.std.proofs.Common.{◌≡◌, ◌<◌, ◌≤◌, ◌&&◌, nat_lt, not, ℕ, suc, Bool, false, List, length, set, Option, Some, Ok, arith, sym, subst, length-append}
+use Rattle.std.proofs.Common.{◌≡◌, ◌<◌, ◌≤◌, ◌*◌, ◌&&◌, nat_lt, not, ℕ, suc, Bool, false, List, length, set, Option, Some, Ok, arith, sym, subst, length-append}
 use Rattle.std.specs.FinMap.{contains_key, entries, len, len-entries}
 use Rattle.std.specs.List.{All}
 use Rattle.std.proofs.lemmas.Bool.{cond_both}
@@ -93,8 +93,8 @@ unfolding resume_dependents
 executed_few w s h i new = to_validate_few w _ h i (call_at s i).incarnation _ new
 
 -- the keys that a run must move are at most those that it wrote and those that the run before it wrote
-few_to_move : (last : Option Recorded) (writes : WriteMap) → len writes ≤ 256 → length (keys_of (written_by last)) ≤ 256 → length (keys_to_move last writes) ≤ 512
-few_to_move last writes few before =
+pub keys_few : (most : ℕ) (last : Option Recorded) (writes : WriteMap) → len writes ≤ most → length (keys_of (written_by last)) ≤ most → length (keys_to_move last writes) ≤ 2 * most
+keys_few most last writes few before =
     let p : List ℕ × ContentChange → Bool = λ write. not (contains_key writes write.0) in
     omega (
       arith,
@@ -118,7 +118,7 @@ module _ (setting : Setting) where
   made_few w s inv h own step t (by_read i answers key at) = read_few w s h setting.store key i answers
   made_few w s inv h own step t (by_park i b answers at below) = parked_few w s h i b
   made_few w s inv h own step t (by_record i answers receipt at bears below) =
-      takes w s h _ (few_to_move (call_at s i).last receipt.writes (borne_small setting i (replies_of answers) receipt bears).0 (written_few setting s inv.facts i))
+      takes w s h _ (keys_few 256 (call_at s i).last receipt.writes (borne_small setting i (replies_of answers) receipt bears).0 (written_few setting s inv.facts i))
   made_few w s inv h own step t (by_move i key keys new at) = takes w s h _ (let few : suc (length keys) ≤ 512 = subst HasFewKeys at own in omega (arith, few))
   made_few w s inv h own step t (by_finish i new at) = executed_few w s h i new
   made_few w s inv h own step t (by_check i n left at) = checked_few w s h i n left

@@ -56,7 +56,7 @@ impl Model for ReadSet {
 
 impl ReadSet {
     /// No reads. Takes no memory.
-    pub fn new(alloc: Global) -> ReadSet
+    pub(crate) fn new(alloc: Global) -> ReadSet
         ensures { result ≡ [] }
     {
         ReadSet {

@@ -44,7 +44,7 @@ impl SharedVersions {
     }
 
     /// The versions, from the nearest call on.
-    pub fn versions(&self) -> &[Version]
+    pub(crate) fn versions(&self) -> &[Version]
         ensures { result.now ≡ self.now }
     {
         self.list.as_slice()

@@ -21,6 +21,6 @@ pub const OP_IMM: u32 = 0b0010011;
 /// The computations of two registers.
 pub const OP: u32 = 0b0110011;
 /// FENCE.
-pub const MISC_MEM: u32 = 0b0001111;
+pub(crate) const MISC_MEM: u32 = 0b0001111;
 /// ECALL and EBREAK.
-pub const SYSTEM: u32 = 0b1110011;
+pub(crate) const SYSTEM: u32 = 0b1110011;

@@ -6,7 +6,7 @@ ghost use Rattle.rv_ledger.specs.Rules.{longest_value, rules_number};
 use crate::inline_bytes::VALUE_LIMIT;
 
 /// The greatest length of a value under rules one, in bytes.
-pub const SHORT_VALUE_LIMIT: usize = 64;
+pub(crate) const SHORT_VALUE_LIMIT: usize = 64;
 
 /// The rules of a call: how long its values may be, what its reads cost, and whether it may add.
 #[derive(Clone, Copy, Debug, PartialEq, Eq)]

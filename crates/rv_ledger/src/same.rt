@@ -73,7 +73,7 @@ fn same_segment(left: &Segment, right: &Segment) -> bool
 
 /// Whether two storages have the same keys, each with the same value.
 #[tactic(auto, using(crate::proofs::Storages::same_storage))]
-pub fn same_store(left: &Store, right: &Store) -> bool
+pub(crate) fn same_store(left: &Store, right: &Store) -> bool
     ensures { (result ≡ true) ↔ (left.now ≡ right.now) }
 {
     let mut rest = right.iter();

@@ -16,7 +16,7 @@ use std::alloc::{AllocError, Global};
 use std::marker::Model;
 
 /// The greatest number of keys that one call may write.
-pub const WRITE_LIMIT: usize = 256;
+pub(crate) const WRITE_LIMIT: usize = 256;
 
 /// How many writes the list gets room for at first. Most calls write no more keys.
 const FIRST_ROOM: usize = 2;

@@ -12,7 +12,7 @@ use std::alloc::{AllocError, Global};
 use stm_state::{CallState, Recorded, Status};
 
 /// The last incarnation at which a run is recorded.
-pub const LAST_INCARNATION: u16 = 65_534;
+pub(crate) const LAST_INCARNATION: u16 = 65_534;
 
 /// The incarnation at which no run is recorded, and from which a call is not readied again.
 pub const INCARNATION_LIMIT: u16 = 65_535;

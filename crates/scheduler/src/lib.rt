@@ -10,7 +10,7 @@ mod scheduler;
 mod validating;
 mod worker;
 
-pub use calls::{INCARNATION_LIMIT, LAST_INCARNATION};
+pub use calls::INCARNATION_LIMIT;
 pub use counting::COUNT_LIMIT;
 pub use scheduler::Scheduler;
 pub use worker::TaskKind;
