@@ -15,14 +15,14 @@ use Rattle.stm_state.specs.Done.{block_of}
 use Rattle.stm_state.proofs.Invariant.{named_by}
 use Rattle.stm_state.proofs.Tests.{equal_itself, equal_says}
 use Rattle.scheduler.specs.Schedule.{KeepsRooms, Schedule}
-use Rattle.stm_core.specs.CoreState.{CoreState, IsDue, IsReadyOf, Makes, PassedRoom, ValueRoom, runs}
+use Rattle.stm_core.specs.CoreState.{CoreState, IsDue, IsReadyOf, Makes, ReadSizes, runs}
 use Rattle.stm_core.specs.declared.ready_record.ReadyRecord.{ReadyRecord}
 use Rattle.stm_core.specs.Inner.{AreOpen, IsGrown, IsPromised, IsReached, KeepsPromises, core_state_of, state_in, writes_at}
 use Rattle.stm_core.proofs.EntryPlaces.{Within, marked_within, moved_within}
 use Rattle.stm_core.proofs.MadeSteps.{IsHanded, due_at, goes_on, goes_on_quietly, invariant_at, makes, mark_has_place, mark_made, move_made, named_in, own_made}
 use Rattle.stm_core.proofs.Promises.{moved_kept, next_has_place, next_is_promised, recorded_kept}
 
-module _ (job : Job) (table : Table) (promised : ℕ) (schedule : Schedule) (h : IsReached job table promised schedule) {passed : PassedRoom} {values : ValueRoom} (b : CoreState) (is : core_state_of job table promised schedule passed values ≡ b) (w i : ℕ) where
+module _ (job : Job) (table : Table) (promised : ℕ) (schedule : Schedule) (h : IsReached job table promised schedule) {room : ReadSizes} (b : CoreState) (is : core_state_of job table promised schedule room ≡ b) (w i : ℕ) where
   -- ---- record
 
   -- a run that is known to be of the job's call is handed in with the answers that it was given
@@ -86,7 +86,7 @@ module _ (job : Job) (table : Table) (promised : ℕ) (schedule : Schedule) (h :
           i more key keys new after_table at places placed taken room bytes))
 
       -- and it is made
-      pub move_makes : KeepsRooms w schedule.rooms after.rooms → Makes w MoveKey b (core_state_of job after_table more after passed values)
+      pub move_makes : KeepsRooms w schedule.rooms after.rooms → Makes w MoveKey b (core_state_of job after_table more after room)
       move_makes rooms = makes job table promised schedule h b is w MoveKey due after_table more after move_is_made rooms
 
   -- ---- mark estimate
@@ -107,5 +107,5 @@ module _ (job : Job) (table : Table) (promised : ℕ) (schedule : Schedule) (h :
           (marked_within table.places i key table.versions (mark_has_place job table promised schedule h w i key keys at) h.places) refl refl
 
       -- and it is made
-      pub mark_makes : KeepsRooms w schedule.rooms after.rooms → Makes w MarkEstimate b (core_state_of job with_estimate promised after passed values)
+      pub mark_makes : KeepsRooms w schedule.rooms after.rooms → Makes w MarkEstimate b (core_state_of job with_estimate promised after room)
       mark_makes rooms = makes job table promised schedule h b is w MarkEstimate due with_estimate promised after mark_is_made rooms

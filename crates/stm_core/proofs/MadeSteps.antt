@@ -28,7 +28,7 @@ use Rattle.stm_state.proofs.InvariantKept.{invariant_kept}
 use Rattle.stm_state.proofs.Counted.{counts_within}
 use Rattle.scheduler.specs.Schedule.{KeepsRooms, Schedule, MayCount, state_of}
 use Rattle.scheduler.specs.Workers.{NobodyMoves}
-use Rattle.stm_core.specs.CoreState.{CoreState, IsDue, Makes, PassedRoom, ValueRoom, is_due, is_read}
+use Rattle.stm_core.specs.CoreState.{CoreState, IsDue, Makes, ReadSizes, is_due, is_read}
 use Rattle.stm_core.specs.Inner.{AreVersionsPlaced, IsGrown, IsReached, KeepsPromises, core_state_of, state_in}
 use Rattle.stm_core.proofs.TaskChanges.{turn}
 use Rattle.stm_core.proofs.Promises.{IsQuiet, grown_kept, none_promised, quiet_kept}
@@ -112,9 +112,9 @@ module _ (job : Job) (table : Table) (promised : ℕ) (schedule : Schedule) (h :
           ap (λ v. state_of v (length grown.arena.records + promised) schedule) grows.versions
           ∙ ap (λ (rs : List Placing). state_of table.versions (length rs + promised) schedule) grows.records
 
-  module _ {passed : PassedRoom} {values : ValueRoom} (b : CoreState) (is : core_state_of job table promised schedule passed values ≡ b) (w : ℕ) (step : Step) (due : IsDue w step b) where
+  module _ {room : ReadSizes} (b : CoreState) (is : core_state_of job table promised schedule room ≡ b) (w : ℕ) (step : Step) (due : IsDue w step b) where
     -- what is due of the parts
-    pub due_at : IsDue w step (core_state_of job table promised schedule passed values)
+    pub due_at : IsDue w step (core_state_of job table promised schedule room)
     due_at = subst (IsDue w step) (sym is) due
 
     -- a worker whose step is due may count it
@@ -143,12 +143,12 @@ module _ (job : Job) (table : Table) (promised : ℕ) (schedule : Schedule) (h :
           }
 
       -- the step is made
-      pub makes : KeepsRooms w schedule.rooms after.rooms → Makes w step b (core_state_of job after_table more after passed values)
-      makes rooms = subst (λ x. Makes w step x (core_state_of job after_table more after passed values)) is (made, refl, rooms, λ other. (refl, refl))
+      pub makes : KeepsRooms w schedule.rooms after.rooms → Makes w step b (core_state_of job after_table more after room)
+      makes rooms = subst (λ x. Makes w step x (core_state_of job after_table more after room)) is (made, refl, rooms, λ other. refl)
 
-      -- so is a read, whatever room for passed versions and for values is left
-      pub makes_read : (left : PassedRoom) (left_values : ValueRoom) → is_read step ≡ true → KeepsRooms w schedule.rooms after.rooms → Makes w step b (core_state_of job after_table more after left left_values)
-      makes_read left left_values reads rooms = subst (λ x. Makes w step x (core_state_of job after_table more after left left_values)) is (made, refl, rooms, λ other. absurd (both reads other))
+      -- so is a read, whatever room for reads is left
+      pub makes_read : (left : ReadSizes) → is_read step ≡ true → KeepsRooms w schedule.rooms after.rooms → Makes w step b (core_state_of job after_table more after left)
+      makes_read left reads rooms = subst (λ x. Makes w step x (core_state_of job after_table more after left)) is (made, refl, rooms, λ other. absurd (both reads other))
 
     -- so it is if the step neither hands a run in nor moves a key
     pub goes_on_quietly : (after_table : Table) (after : Schedule) → IsQuiet step → worker_step (block_of job.block job.store) w step (state_in table promised schedule) ≡ Some (Ok (state_in after_table promised after))

@@ -34,14 +34,18 @@ pub record ValueRoom : Type 0 where
   pub kept : ℕ
   pub lent : ℕ
 
--- a job, the state of its run, the number of further answers that each worker's run has room for, how many versions the next
--- read of a worker may pass, and how long a value it may find
+-- both, for the next read of any worker
+pub record ReadSizes : Type 0 where
+  pub passed : PassedRoom
+  pub values : ValueRoom
+
+-- a job, the state of its run, the number of further answers that each worker's run has room for, and how much the next read of
+-- a worker may pass and find
 pub record CoreState : Type 0 where
   pub job : Job
   pub state : State
   pub rooms : List ℕ
-  pub passed : PassedRoom
-  pub values : ValueRoom
+  pub room : ReadSizes
 
 abbrev pub block_in : CoreState → Block
 block_in b = block_of b.job.block b.job.store
@@ -73,11 +77,11 @@ is_read (ReadKey key) = true
 is_read step = false
 
 -- a worker's step was made; the other workers' runs have room for as many answers as before, and unless it is a read there is
--- room for as many passed versions and for values as long
+-- as much room for reads
 abbrev pub Makes : ℕ → Step → CoreState → CoreState → Type 0
 Makes w step old new =
     (worker_step (block_in old) w step old.state ≡ Some (Ok new.state)) × (new.job ≡ old.job) × KeepsRooms w old.rooms new.rooms
-    × (is_read step ≡ false → (new.passed ≡ old.passed) × (new.values ≡ old.values))
+    × (is_read step ≡ false → new.room ≡ old.room)
 
 -- a worker's step is refused
 abbrev pub IsRefused : ℕ → Step → Limit → CoreState → Type 0
@@ -145,20 +149,23 @@ abbrev pub index_run : Task → ℕ
 index_run (Running i answers blocked) = i
 index_run task = 0
 
--- a read of the call that a task runs may pass all calls below it
-pub record IsRoomFor (task : Task) (room : PassedRoom) : Type 0 where
-  pub kept : index_run task ≤ room.kept
-  pub lent : index_run task ≤ room.lent
-
--- there is no less room than before
-pub record IsNoLess (old new : PassedRoom) : Type 0 where
-  pub kept : old.kept ≤ new.kept
-  pub lent : old.lent ≤ new.lent
-
 -- a read may find any value
 pub record HasValueRoom (room : ValueRoom) : Type 0 where
   pub kept : 256 ≤ room.kept
   pub lent : 256 ≤ room.lent
+
+-- a read of the call that a task runs may pass all calls below it, and find any value
+pub record IsRoomFor (task : Task) (room : ReadSizes) : Type 0 where
+  pub kept : index_run task ≤ room.passed.kept
+  pub lent : index_run task ≤ room.passed.lent
+  pub values : HasValueRoom room.values
+
+-- there is no less room than before
+pub record IsNoLess (old new : ReadSizes) : Type 0 where
+  pub kept : old.passed.kept ≤ new.passed.kept
+  pub lent : old.passed.lent ≤ new.passed.lent
+  pub kept_value : old.values.kept ≤ new.values.kept
+  pub lent_value : old.values.lent ≤ new.values.lent
 
 -- a content takes no memory of its own: it is absent, or has at most 16 bytes
 abbrev pub IsInPlace : Option (List ℕ) → Type 0
@@ -169,17 +176,11 @@ abbrev pub GivesInPlace : ReadResult → Type 0
 GivesInPlace (read_result.Given content origin) = IsInPlace content
 GivesInPlace read_result.Blocked = Unit {0}
 
--- there is no less room for values than before
-pub record IsNoLessForValues (old new : ValueRoom) : Type 0 where
-  pub kept : old.kept ≤ new.kept
-  pub lent : old.lent ≤ new.lent
-
 -- there is room for a worker's next read: for one more answer, for as many passed versions as there are calls below its own,
 -- and for any value
 pub record HasReadRoom (w : ℕ) (b : CoreState) : Type 0 where
   pub answer : 1 ≤ get_or b.rooms w 0
-  pub passed : IsRoomFor (task_at b.state w) b.passed
-  pub values : HasValueRoom b.values
+  pub room : IsRoomFor (task_at b.state w) b.room
 
 -- a run is a run of the call that a worker's task runs, and was given exactly the answers of that task
 pub record IsOwn (w : ℕ) (run : EndedRun) (b : CoreState) : Type 0 where

@@ -18,7 +18,7 @@ use Rattle.stm_state.specs.State.{State, fresh, call_at, task_at}
 use Rattle.stm_state.specs.Steps.{write_of}
 use Rattle.stm_state.specs.Done.{Reached, block_of}
 use Rattle.scheduler.specs.Schedule.{Schedule, state_of}
-use Rattle.stm_core.specs.CoreState.{CoreState, PassedRoom, ValueRoom}
+use Rattle.stm_core.specs.CoreState.{CoreState, PassedRoom, ReadSizes, ValueRoom}
 use Rattle.stm_core.specs.declared.passed_lists.PassedLists.{PassedLists}
 use Rattle.stm_core.specs.declared.value_lists.ValueLists.{ValueLists}
 
@@ -72,8 +72,8 @@ pub record IsPromised (i : ℕ) (writes : WriteMap) (table : Table) (before afte
 abbrev pub state_in : Table → ℕ → Schedule → State
 state_in table promised schedule = state_of table.versions (length table.arena.records + promised) schedule
 
-abbrev pub core_state_of : Job → Table → ℕ → Schedule → PassedRoom → ValueRoom → CoreState
-core_state_of job table promised schedule passed values = record { job = job; state = state_in table promised schedule; rooms = schedule.rooms; passed = passed; values = values }
+abbrev pub core_state_of : Job → Table → ℕ → Schedule → ReadSizes → CoreState
+core_state_of job table promised schedule room = record { job = job; state = state_in table promised schedule; rooms = schedule.rooms; room = room }
 
 -- how many versions two lists have room for
 abbrev pub room_of : PassedLists → PassedRoom
@@ -82,6 +82,10 @@ room_of lists = record { kept = vec_capacity lists.kept; lent = vec_capacity lis
 -- how long a value two lists have room for
 abbrev pub value_room_of : ValueLists → ValueRoom
 value_room_of lists = record { kept = vec_capacity lists.kept; lent = vec_capacity lists.lent }
+
+-- both
+abbrev pub sizes_of : PassedLists → ValueLists → ReadSizes
+sizes_of passed values = record { passed = room_of passed; values = value_room_of values }
 
 -- some list of worker steps leads to the state, each version has a place, and the promises are kept
 pub record IsReached (job : Job) (table : Table) (promised : ℕ) (schedule : Schedule) : Type 0 where

@@ -2,7 +2,6 @@
 
 use crate::job_source::JobSource;
 use crate::next_step::ReadResult;
-use crate::reading::{has_read_room, make_read_room, read_at, read_sharing_at};
 use crate::state::Core;
 use rv_ledger::{Key, LentValue, StoredValue};
 use scheduler::TaskKind;
@@ -16,7 +15,7 @@ impl<H: JobSource> Core<H> {
     ghost use Rattle.stm_state.specs.State.{task_at};
     ghost use Rattle.stm_state.specs.Steps as steps;
     ghost use Rattle.scheduler.specs.Schedule.{KeepsRooms};
-    ghost use Rattle.stm_core.specs.CoreState.{GivesInPlace, HasReadRoom, IsDue, IsNoLess, IsNoLessForValues, Makes, read_result_of, runs};
+    ghost use Rattle.stm_core.specs.CoreState.{GivesInPlace, HasReadRoom, IsDue, IsNoLess, Makes, read_result_of, runs};
 
     /// Makes room for the next read of a worker's run: for one more answer, for as many passed versions as the index of
     /// its call, and for any value. The versions and the value get room both in the answer that is kept and in the one
@@ -27,23 +26,16 @@ impl<H: JobSource> Core<H> {
         ensures room { OnOk result (HasReadRoom worker self.new) }
         ensures kept { get_or self.old.rooms worker 0 ≤ get_or self.new.rooms worker 0 }
         ensures rooms { KeepsRooms worker self.old.rooms self.new.rooms }
-        ensures passed { IsNoLess self.old.passed self.new.passed }
-        ensures values { IsNoLessForValues self.old.values self.new.values }
+        ensures grows { IsNoLess self.old.room self.new.room }
         ensures job { self.new.job ≡ self.old.job }
         ensures state { self.new.state ≡ self.old.state }
         ensures unchanged { OnErr result (self.new ≡ self.old) }
         ensures succeeds { HasReadRoom worker self.old → result ≡ Ok tt }
     {
-        if has_read_room(&self.scheduler, worker, &self.passed, &self.values) {
+        if self.read_room.suffices(&self.scheduler, worker) {
             return Ok(());
         }
-        make_read_room(
-            &mut self.scheduler,
-            worker,
-            &mut self.spare_answers,
-            &mut self.passed,
-            &mut self.values,
-        )
+        self.read_room.grow(&mut self.scheduler, worker)
     }
 
     /// A worker's run reads the key that it asks for, in room that `room_for_read` made. Takes no memory.
@@ -52,8 +44,8 @@ impl<H: JobSource> Core<H> {
         requires room { HasReadRoom worker self.old }
         ensures makes { Makes worker (steps.ReadKey key.now) self.old self.new }
         ensures answers { (i : ℕ) → runs (task_at self.old.state worker) i ≡ true → result ≡ read_result_of self.old.job.store key.now (reading self.old.state.versions key.now i) }
-        ensures passed { (i : ℕ) → runs (task_at self.old.state worker) i ≡ true → passed_in (reading self.old.state.versions key.now i) ≡ [] → self.new.passed ≡ self.old.passed }
-        ensures values { GivesInPlace result → self.new.values ≡ self.old.values }
+        ensures passed { (i : ℕ) → runs (task_at self.old.state worker) i ≡ true → passed_in (reading self.old.state.versions key.now i) ≡ [] → self.new.room.passed ≡ self.old.room.passed }
+        ensures values { GivesInPlace result → self.new.room.values ≡ self.old.room.values }
     {
         let base = StoredValue::value_of(self.job.content(key));
         self.read_over(worker, key, base.as_ref().map(|base| base.lend()))
@@ -66,22 +58,14 @@ impl<H: JobSource> Core<H> {
         requires base { lent_content base ≡ finite.get self.old.job.store key.now }
         ensures makes { Makes worker (steps.ReadKey key.now) self.old self.new }
         ensures answers { (i : ℕ) → runs (task_at self.old.state worker) i ≡ true → result ≡ read_result_of self.old.job.store key.now (reading self.old.state.versions key.now i) }
-        ensures passed { (i : ℕ) → runs (task_at self.old.state worker) i ≡ true → passed_in (reading self.old.state.versions key.now i) ≡ [] → self.new.passed ≡ self.old.passed }
-        ensures values { GivesInPlace result → self.new.values ≡ self.old.values }
+        ensures passed { (i : ℕ) → runs (task_at self.old.state worker) i ≡ true → passed_in (reading self.old.state.versions key.now i) ≡ [] → self.new.room.passed ≡ self.old.room.passed }
+        ensures values { GivesInPlace result → self.new.room.values ≡ self.old.room.values }
     {
         let TaskKind::Running { call, .. } = self.scheduler.task_kind(worker) else {
             unreachable!();
         };
-        read_at(
-            base,
-            &self.map,
-            &mut self.scheduler,
-            &mut self.passed,
-            &mut self.values,
-            worker,
-            call,
-            key,
-        )
+        self.read_room
+            .read_from_map(base, &self.map, &mut self.scheduler, worker, call, key)
     }
 
     /// Like `read_over`. Then the answer that is kept and the one that is handed out share a list of the versions that
@@ -93,21 +77,12 @@ impl<H: JobSource> Core<H> {
         requires base { lent_content base ≡ finite.get self.old.job.store key.now }
         ensures makes { Makes worker (steps.ReadKey key.now) self.old self.new }
         ensures answers { (i : ℕ) → runs (task_at self.old.state worker) i ≡ true → result ≡ read_result_of self.old.job.store key.now (reading self.old.state.versions key.now i) }
-        ensures values { GivesInPlace result → self.new.values ≡ self.old.values }
+        ensures values { GivesInPlace result → self.new.room.values ≡ self.old.room.values }
     {
         let TaskKind::Running { call, .. } = self.scheduler.task_kind(worker) else {
             unreachable!();
         };
-        read_sharing_at(
-            base,
-            &self.map,
-            &mut self.scheduler,
-            &mut self.spare_answers,
-            &mut self.passed,
-            &mut self.values,
-            worker,
-            call,
-            key,
-        )
+        self.read_room
+            .read_and_share(base, &self.map, &mut self.scheduler, worker, call, key)
     }
 }

@@ -9,16 +9,15 @@ use crate::fault::{IncarnationLimit, RecordFault, Refused};
 use crate::job_source::JobSource;
 use crate::next_step::{AskResult, NextStep, StepKind};
 use crate::outcome::{Finished, finished_of};
-use crate::passed_lists::PassedLists;
-use crate::reading::{check_of, next_step_of};
+use crate::owed_step::{check_of, next_step_of};
+use crate::read_room::ReadRoom;
 use crate::reads::{next_passed, next_stands};
 use crate::ready_record::{ReadyRecord, reads_made};
 use crate::recording::{SpentRun, check_limits, has_own_answers, is_run_of, record_run};
-use crate::value_lists::ValueLists;
 use crate::versions::{mark_key, move_key};
 use mvmap::MvMap;
 use rv_ledger::{Counts, Job};
-use rv_step::{EndedRun, StorageAnswer};
+use rv_step::EndedRun;
 use scheduler::{INCARNATION_LIMIT, Scheduler, TaskKind};
 use std::alloc::{AllocError, Global};
 use std::marker::Model;
@@ -34,12 +33,7 @@ pub struct Core<H: JobSource = Job> {
     /// The number of records that are promised to runs whose keys are being moved.
     promised: usize,
     pub(crate) map: MvMap,
-    /// The lists of the versions that a read passes.
-    pub(crate) passed: PassedLists,
-    /// The lists of the bytes of a value that a read finds.
-    pub(crate) values: ValueLists,
-    /// A list that takes the place of a run's answers while room is made for one more.
-    pub(crate) spare_answers: Vec<StorageAnswer>,
+    pub(crate) read_room: ReadRoom,
     pub(crate) job: H,
 }
 
@@ -52,13 +46,13 @@ impl<H: JobSource> Model for Core<H> {
     ghost use Rattle.stm_state.specs.contracts.state.CallState.{the_row as call_row};
     ghost use Rattle.stm_state.specs.contracts.state.Task.{the_row as task_row};
     ghost use Rattle.stm_core.specs.CoreState.{CoreState};
-    ghost use Rattle.stm_core.specs.Inner.{IsReached, core_state_of, room_of, value_room_of};
+    ghost use Rattle.stm_core.specs.Inner.{IsReached, core_state_of};
 
     ghost Value = { CoreState };
 
     ghost coded = { Prim.hlevel (codes, job_row.coded, call_row.coded, task_row.coded, finite.code {R = place_cmp} coded_place coded_entry) };
 
-    ghost view = { λ c. core_state_of (H.job c.job) c.map c.promised c.scheduler (room_of c.passed) (value_room_of c.values) };
+    ghost view = { λ c. core_state_of (H.job c.job) c.map c.promised c.scheduler c.read_room };
 
     ghost invariant = { λ c. IsReached (H.job c.job) c.map c.promised c.scheduler };
 }
@@ -91,9 +85,7 @@ impl<H: JobSource> Core<H> {
                 map,
                 scheduler,
                 promised: 0,
-                spare_answers: Vec::new(alloc),
-                passed: PassedLists::new(alloc),
-                values: ValueLists::new(alloc),
+                read_room: ReadRoom::new(alloc),
             }),
             Err(AllocError) => Err(map.into_arena()),
         }

@@ -6,14 +6,14 @@ use Rattle.stm_state.specs.Steps.{Block}
 use Rattle.stm_state.specs.Parts.{HoldsWhereReached, IsStateSized}
 use Rattle.stm_state.proofs.Parted.{attended_kept, borne_out_kept, estimates_kept, watched_kept}
 use Rattle.scheduler.specs.Schedule.{Schedule}
-use Rattle.stm_core.specs.CoreState.{CoreState, PassedRoom, ValueRoom, block_in}
+use Rattle.stm_core.specs.CoreState.{CoreState, ReadSizes, block_in}
 use Rattle.stm_core.specs.Inner.{IsReached, core_state_of}
 use Rattle.stm_core.proofs.MadeSteps.{invariant_at}
 use Rattle.stm_core.proofs.state.Core.holds.Goals as goal
 
 -- what holds of each state that is reached holds of a core's
-part_at : {job : Job} {table : Table} {promised : ℕ} {schedule : Schedule} {passed : PassedRoom} {values : ValueRoom} (b : CoreState) (P : Block → State → Type 0) → HoldsWhereReached P
-    → core_state_of job table promised schedule passed values ≡ b → IsReached job table promised schedule → P (block_in b) b.state
+part_at : {job : Job} {table : Table} {promised : ℕ} {schedule : Schedule} {room : ReadSizes} (b : CoreState) (P : Block → State → Type 0) → HoldsWhereReached P
+    → core_state_of job table promised schedule room ≡ b → IsReached job table promised schedule → P (block_in b) b.state
 part_at b P kept is h = subst (λ (x : CoreState). P (block_in x) x.state) is (kept _ _ _ h.reached)
 
 pub returns-clause-sized : goal.returns-clause-sized

@@ -4,7 +4,7 @@ use Rattle.scheduler.specs.Schedule.{state_of}
 use Rattle.stm_core.specs.declared.next_step.NextStep.TheVariants as next_step
 use Rattle.stm_core.specs.declared.next_step.StepKind.TheVariants as kinds
 use Rattle.stm_core.proofs.StepParts.{marks_next, marks_none}
-use Rattle.stm_core.proofs.reading.marking_step.Goals as goal
+use Rattle.stm_core.proofs.owed_step.marking_step.Goals as goal
 
 pub returns-in-Some : goal.returns-in-Some
 returns-in-Some c = λ keys at v p.

@@ -3,7 +3,7 @@ use Rattle.stm_state.specs.declared.state.Task.TheVariants.{Idle}
 use Rattle.scheduler.specs.Schedule.{state_of}
 use Rattle.stm_core.specs.CoreState.{next_step_of}
 use Rattle.stm_core.proofs.StepParts.{marking_at, marking_has_keys, moving_at, moving_has_keys, running_at, validates_at}
-use Rattle.stm_core.proofs.reading.next_step_of.Goals as goal
+use Rattle.stm_core.proofs.owed_step.next_step_of.Goals as goal
 
 pub call-requires : goal.call-requires
 call-requires c =

@@ -4,7 +4,7 @@ use Rattle.scheduler.specs.Schedule.{state_of}
 use Rattle.stm_core.specs.declared.next_step.NextStep.TheVariants as next_step
 use Rattle.stm_core.specs.declared.next_step.StepKind.TheVariants as kinds
 use Rattle.stm_core.proofs.StepParts.{moves_next, moves_none}
-use Rattle.stm_core.proofs.reading.moving_step.Goals as goal
+use Rattle.stm_core.proofs.owed_step.moving_step.Goals as goal
 
 pub returns-in-Some : goal.returns-in-Some
 returns-in-Some c = λ keys new at v p.

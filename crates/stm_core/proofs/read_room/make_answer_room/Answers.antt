@@ -1,7 +1,7 @@
 use Rattle.std.proofs.Common.{◌-◌, ◌∙◌, ap, vec_capacity, vec_len}
 use Rattle.scheduler.specs.Schedule.{state_of}
 use Rattle.stm_core.proofs.Swapped.{all_back, room_back, room_made, swapped_back, where_refused}
-use Rattle.stm_core.proofs.reading.make_answer_room.Goals as goal
+use Rattle.stm_core.proofs.read_room.make_answer_room.Goals as goal
 
 pub returns-clause-room : goal.returns-clause-room
 returns-clause-room c =

@@ -1,7 +1,7 @@
 use Rattle.std.proofs.Common.{◌∙◌, ap}
 use Rattle.scheduler.specs.Schedule.{state_of}
 use Rattle.stm_core.proofs.Swapped.{swapped_back}
-use Rattle.stm_core.proofs.reading.share_passed.Goals as goal
+use Rattle.stm_core.proofs.read_room.share_passed.Goals as goal
 
 pub returns-clause-same : goal.returns-clause-same
 returns-clause-same c = λ v p. ap (state_of v p)

@@ -5,7 +5,7 @@ use Rattle.stm_state.specs.State.{with_task}
 use Rattle.stm_state.specs.Steps.{counted, one_step}
 use Rattle.scheduler.specs.Schedule.{state_of}
 use Rattle.scheduler.specs.Workers.{with_answer}
-use Rattle.stm_core.proofs.reading.give.Goals as goal
+use Rattle.stm_core.proofs.read_room.give.Goals as goal
 
 pub returns-clause-state : goal.returns-clause-state
 returns-clause-state c = λ v p.

@@ -9,7 +9,7 @@ use Rattle.stm_state.specs.Steps.{counted, one_step}
 use Rattle.scheduler.specs.Schedule.{state_of}
 use Rattle.scheduler.specs.Workers.{blocked_on, with_answer}
 use Rattle.stm_core.proofs.Answered.{blocked_task, given_task}
-use Rattle.stm_core.proofs.reading.read_at.Goals as goal
+use Rattle.stm_core.proofs.read_room.ReadRoom.read_from_map.Goals as goal
 
 pub returns-in-Base-clause-state : goal.returns-in-Base-clause-state
 returns-in-Base-clause-state c = λ store is answers runs v p.
