@@ -1,6 +1,6 @@
 //! How often an idle worker looks at its block's cell before it asks for work again.
 
-ghost use Rattle.std.specs.Prelude.{◌≡◌};
+ghost use Rattle.std.specs.Prelude.{◌≡◌, None};
 ghost use Rattle.workers.specs.DoneCell.{IsPassOf};
 
 use crate::calls::job_of;
@@ -142,7 +142,8 @@ fn rows_and_looks<J: JobName + Send + Sync, R: Threads + Wait + Sync + Abort>(
     alloc: Global,
     job: &Job,
 ) -> Result<(u64, u64), Fail>
-    requires { job.now ≡ J.job }
+    requires job { job.now ≡ J.job }
+    requires limit { J.work_limit ≡ None }
 {
     let held = Held {
         here: AtomicBool::new(false),

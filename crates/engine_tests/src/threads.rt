@@ -1,7 +1,7 @@
 //! Blocks run by threads: whatever their number, what is printed is what running the calls in order
 //! prints.
 
-ghost use Rattle.std.specs.Prelude.{◌≡◌, ◌≤◌, All, IfOk};
+ghost use Rattle.std.specs.Prelude.{◌≡◌, ◌≤◌, All, IfOk, None};
 ghost use Rattle.workers.specs.DoneCell.{IsPassOf};
 
 use crate::blocks::{forty_count_lines, is_forty_counts};
@@ -106,6 +106,7 @@ pub fn shares_of<J: JobName, R: Abort>(
     workers: usize,
 ) -> Result<(Shared<J>, Vec<Share>), Fail>
     requires job { job.now ≡ J.job }
+    requires limit { J.work_limit ≡ None }
     requires count { (1 ≤ workers) × (workers ≤ 32) }
     ensures { IfOk result (λ made. All (λ share. IsPassOf made.0.cell share.pass) made.1.items) }
 {
@@ -200,7 +201,8 @@ fn is_alone<J: JobName, R: Wait + Abort>(
     job: &Job,
     first: usize,
 ) -> Result<bool, Fail>
-    requires { job.now ≡ J.job }
+    requires job { job.now ≡ J.job }
+    requires limit { J.work_limit ≡ None }
 {
     let (shared, shares) = shares_of::<J, R>(rt, alloc, job, 3)?;
     let back = work_from(rt, alloc, &shared, shares, first)?;
@@ -233,7 +235,8 @@ fn one_share_alone(rt: HostRuntime) -> Result<(), Fail> {
 
 /// Whether a job whose second worker's share is not given back is refused as Foreign.
 fn is_foreign<J: JobName, R: Wait + Abort>(rt: &R, alloc: Global, job: &Job) -> Result<bool, Fail>
-    requires { job.now ≡ J.job }
+    requires job { job.now ≡ J.job }
+    requires limit { J.work_limit ≡ None }
 {
     let (shared, shares) = shares_of::<J, R>(rt, alloc, job, 2)?;
     let mut back = work_in_turn(rt, alloc, &shared, shares)?;

@@ -1,6 +1,6 @@
 //! Blocks run while memory, or a thread, is refused. The tests take the memory away themselves.
 
-ghost use Rattle.std.specs.Prelude.{◌≡◌, ◌≤◌, All, IfOk};
+ghost use Rattle.std.specs.Prelude.{◌≡◌, ◌≤◌, All, IfOk, None};
 ghost use Rattle.workers.specs.DoneCell.{IsPassOf};
 
 use crate::exhausted::attempts::Way;
@@ -192,7 +192,8 @@ fn shares_of<J: JobName, R: Abort>(
     alloc: Global,
     job: &Job,
 ) -> Result<(Shared<J>, Vec<Share>), NotMade>
-    requires { job.now ≡ J.job }
+    requires job { job.now ≡ J.job }
+    requires limit { J.work_limit ≡ None }
     ensures { IfOk result (λ made. All (λ share. IsPassOf made.0.cell share.pass) made.1.items) }
 {
     let core = Core::new(alloc, job.copy()?, 2)?;
@@ -254,7 +255,8 @@ fn answer_on_spare<J: JobName, R: Wait + Abort>(
     spare: usize,
     rest: &mut Vec<Vec<u8>>,
 ) -> Result<Result<Outcome, RunFault>, NotMade>
-    requires { job.now ≡ J.job }
+    requires job { job.now ≡ J.job }
+    requires limit { J.work_limit ≡ None }
 {
     let (shared, mut shares) = shares_of::<J, R>(rt, alloc, job)?;
     assert!(rt; first < shares.len());

@@ -4,18 +4,12 @@ use lib.ListN.{length-map}
 use Rattle.std.proofs.lemmas.List.{length_push}
 use Rattle.std.proofs.lemmas.List.Elements.{All-cons, All-nil}
 use Rattle.std.specs.Global.{Vec}
-use Rattle.std.specs.declared.thread.PromisedHandle.{PromisedHandle}
 use Rattle.workers.specs.declared.book.share.Share.{Share}
-use Rattle.workers.specs.declared.book.written.MetFault.{MetFault}
-use Rattle.workers.specs.declared.executor.GivesBack.{GivesBack}
 use Rattle.workers.specs.declared.fault.RunFault.{RunFault}
 use Rattle.workers.specs.Book.{KeepsLimit, ShareCounts, counts_of_share, zero_counts, zero_counts_of_all}
 use Rattle.workers.specs.Settle.{AreLeft, IsGivenBack}
-use Rattle.workers.specs.Work.{AreGivenBy, HasPromised, HoldFrom, IsGivenBy}
+use Rattle.workers.specs.Work.{AreGivenBy, HasPromised, HoldFrom, IsGivenBy, Started}
 use Rattle.workers.proofs.Zeros.{no_shares, one_zero_more}
-
-abbrev Started : Type 0
-Started = Result (PromisedHandle (Result Share RunFault) GivesBack) MetFault
 
 -- ---- a fact of each element
 
@@ -69,34 +63,34 @@ new_count workers shares new = sym (length-map shares counts_of_share) ∙ ap le
 -- ---- threads and their shares
 
 -- a thread more, and the share that it gives
-pub given_push : (threads : List Started) (back : List Share) (thread : Started) (share : Share) → AreGivenBy threads back → IsGivenBy thread share
-    → AreGivenBy (threads ++ thread ∷ []) (back ++ share ∷ [])
-given_push [] [] thread share all given = (given, tt)
-given_push [] (b ∷ bs) thread share all given = absurd all
-given_push (t ∷ ts) [] thread share all given = absurd all
-given_push (t ∷ ts) (b ∷ bs) thread share all given = (all.0, given_push ts bs thread share all.1 given)
+pub given_push : (limit : Option ℕ) (threads : List Started) (back : List Share) (thread : Started) (share : Share) → AreGivenBy limit threads back → IsGivenBy limit thread share
+    → AreGivenBy limit (threads ++ thread ∷ []) (back ++ share ∷ [])
+given_push limit [] [] thread share all given = (given, tt)
+given_push limit [] (b ∷ bs) thread share all given = absurd all
+given_push limit (t ∷ ts) [] thread share all given = absurd all
+given_push limit (t ∷ ts) (b ∷ bs) thread share all given = (all.0, given_push limit ts bs thread share all.1 given)
 
-given_count : (threads : List Started) (back : List Share) → AreGivenBy threads back → length back ≡ length threads
-given_count [] [] all = refl
-given_count [] (b ∷ bs) all = absurd all
-given_count (t ∷ ts) [] all = absurd all
-given_count (t ∷ ts) (b ∷ bs) all = let rest = given_count ts bs all.1 in omega (arith, rest)
+given_count : (limit : Option ℕ) (threads : List Started) (back : List Share) → AreGivenBy limit threads back → length back ≡ length threads
+given_count limit [] [] all = refl
+given_count limit [] (b ∷ bs) all = absurd all
+given_count limit (t ∷ ts) [] all = absurd all
+given_count limit (t ∷ ts) (b ∷ bs) all = let rest = given_count limit ts bs all.1 in omega (arith, rest)
 
-given_hold : (limit : Option ℕ) (n : ℕ) (threads : List Started) (back : List Share) → HoldFrom (HasPromised limit) n threads → AreGivenBy threads back
+given_hold : (limit : Option ℕ) (n : ℕ) (threads : List Started) (back : List Share) → HoldFrom HasPromised n threads → AreGivenBy limit threads back
     → HoldFrom (IsGivenBack limit) n back
 given_hold limit n [] [] promised all = tt
 given_hold limit n [] (b ∷ bs) promised all = absurd all
 given_hold limit n (t ∷ ts) [] promised all = absurd all
 given_hold limit n (Err met ∷ ts) (b ∷ bs) promised all = absurd all.0
 given_hold limit n (Ok started ∷ ts) (b ∷ bs) promised all = (
-  subst (λ (w : ℕ). IsGivenBack limit w b) promised.0.0 (subst (λ (l : Option ℕ). IsGivenBack l started.promise.worker b) promised.0.1 all.0),
+  subst (λ (w : ℕ). IsGivenBack limit w b) promised.0 all.0,
   given_hold limit (n + 1) ts bs promised.1 all.1,
 )
 
 -- if each thread promised the share of its worker, those are the shares that come back
-pub all_given : (limit : Option ℕ) (count : ℕ) (threads : List Started) (answer : Result (Vec Share) RunFault) → HoldFrom (HasPromised limit) 0 threads → length threads ≡ count
-    → IfOk answer (λ back. AreGivenBy threads back.items) → IfOk answer (λ back. (length back.items ≡ count) × HoldFrom (IsGivenBack limit) 0 back.items)
-all_given limit count threads (Ok back) promised long all = (given_count threads back.items all ∙ long, given_hold limit 0 threads back.items promised all)
+pub all_given : (limit : Option ℕ) (count : ℕ) (threads : List Started) (answer : Result (Vec Share) RunFault) → HoldFrom HasPromised 0 threads → length threads ≡ count
+    → IfOk answer (λ back. AreGivenBy limit threads back.items) → IfOk answer (λ back. (length back.items ≡ count) × HoldFrom (IsGivenBack limit) 0 back.items)
+all_given limit count threads (Ok back) promised long all = (given_count limit threads back.items all ∙ long, given_hold limit 0 threads back.items promised all)
 all_given limit count threads (Err fault) promised long all = tt
 
 -- ---- what a block leaves

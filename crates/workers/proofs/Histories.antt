@@ -20,7 +20,7 @@ use Rattle.workers.specs.declared.fault.RunFault.{RunFault}
 use Rattle.workers.specs.declared.fault.RunFault.TheVariants as faults
 use Rattle.workers.specs.Book.{AreAllPassed, BookState, FaultFits, HasSpentWorker, IsAtLimit, IsOnTheWay, KeepsLimit, MayWrite, counts_of_share}
 use Rattle.workers.specs.Settle.{AreLeft, AreSettled, AreSharesOf, IsShareOf, IsFinishedOf, IsThatOrMemory, IsFinishedAfter}
-use Rattle.workers.specs.History.{HasHistory, HasLimit, HasStepLimit, HasWorkLimit, AreOneWorkerCounts}
+use Rattle.workers.specs.History.{HasHistory, HasLimit, HasWorkLimit, AreOneWorkerCounts}
 use Rattle.workers.specs.Run.{IsRun}
 
 -- ---- what an answer says of the book
@@ -97,7 +97,7 @@ size_is core b found same is = is ∙ ap (λ (x : CoreState). length x.state.tas
 
 module _ (job : Job) (workers : ℕ) (shares : List Share) (b : BookState) (same : b.core.job ≡ job) (settled_answer : Result Finished RunFault) (settled : IsFinishedAfter b.fault b.core shares settled_answer)
     (reached : Reached (block_in b.core) (length b.core.state.tasks) b.core.state) (sized : IsStateSized (length b.core.job.block) (length b.core.state.tasks) b.core.state)
-    (fits : FaultFits b.work_limit b.passed b.core b.fault) (way : IsOnTheWay b.passed b.core) (found : ℕ) (size : found ≡ length b.core.state.tasks) where
+    (fits : FaultFits b.work_limit b.passed b.core b.fault) (way : IsOnTheWay b.passed b.core) (limit : Option ℕ) (limited : b.work_limit ≡ limit) (found : ℕ) (size : found ≡ length b.core.state.tasks) where
   -- if the answer is Ok
   finished_is : (o : Finished) → settled_answer ≡ Ok o → found ≡ workers → ReachedByList → LastEntryIsDone → OneWorkerCountsWhereReached
       → (o.receipts.items ≡ receipts_of job.block job.store) × HasHistory job workers o.counts.items × (workers ≡ 1 → AreOneWorkerCounts (length job.block) o.counts.items) × AreSharesOf o.counts.items shares
@@ -114,45 +114,42 @@ module _ (job : Job) (workers : ℕ) (shares : List Share) (b : BookState) (same
       )
 
   -- a limit that was written is met by some list
-  limit_met : (limit : Limit) → IsAtLimit limit b.core → found ≡ workers → HasLimit job workers limit
-  limit_met limit at asked = subst (λ (j : Job). HasLimit j workers limit) same (subst (λ n. HasLimit b.core.job n limit) (sym size ∙ asked)
+  limit_met : (which : Limit) → IsAtLimit which b.core → found ≡ workers → HasLimit job workers which
+  limit_met which at asked = subst (λ (j : Job). HasLimit j workers which) same (subst (λ n. HasLimit b.core.job n which) (sym size ∙ asked)
       (record { state = b.core.state; reached = reached; worker = at.worker; within = at.within; step = at.step; refused = at.refused }))
 
   -- so is a limit of the steps and of the versions that they pass
-  work_limit_here : (limit : Option ℕ) → HasSpentWorker limit b.core ⊎ AreAllPassed limit b.passed → HasWorkLimit b.core.job (length b.core.state.tasks) limit
+  work_limit_here : (most : Option ℕ) → HasSpentWorker most b.core ⊎ AreAllPassed most b.passed → HasWorkLimit b.core.job (length b.core.state.tasks) most
   work_limit_here None (inl at) = record { state = b.core.state; reached = reached; worker = at.worker; within = at.within; spent = at.spent }
   work_limit_here None (inr never) = absurd never
-  work_limit_here (Some limit) (inl at) = inl (record { state = b.core.state; reached = reached; worker = at.worker; within = at.within; spent = at.spent })
-  work_limit_here (Some limit) (inr all) = let most = way.2 in inr (record { state = b.core.state; passed = way.0; reached = way.1; all = omega (arith, all, most) })
+  work_limit_here (Some most) (inl at) = inl (record { state = b.core.state; reached = reached; worker = at.worker; within = at.within; spent = at.spent })
+  work_limit_here (Some most) (inr all) = let low = way.2 in inr (record { state = b.core.state; passed = way.0; reached = way.1; all = omega (arith, all, low) })
 
-  work_limit_met : HasSpentWorker b.work_limit b.core ⊎ AreAllPassed b.work_limit b.passed → found ≡ workers → HasWorkLimit job workers b.work_limit
-  work_limit_met at asked = subst (λ (j : Job). HasWorkLimit j workers b.work_limit) same (subst (λ n. HasWorkLimit b.core.job n b.work_limit) (sym size ∙ asked) (work_limit_here b.work_limit at))
+  work_limit_met : HasSpentWorker b.work_limit b.core ⊎ AreAllPassed b.work_limit b.passed → found ≡ workers → HasWorkLimit job workers limit
+  work_limit_met at asked = subst (HasWorkLimit job workers) limited (subst (λ (j : Job). HasWorkLimit j workers b.work_limit) same (subst (λ n. HasWorkLimit b.core.job n b.work_limit) (sym size ∙ asked) (work_limit_here b.work_limit at)))
 
-  module _ (own limit : Option ℕ) (limited : own ≡ b.work_limit) where
-    -- a fault that is answered: that of the settled answer, if the core has this number of workers and the book this limit;
-    -- otherwise Foreign
-    abbrev pub IsAnswered : RunFault → Type 0
-    IsAnswered f = ((settled_answer ≡ Err f) × (found ≡ workers) × (own ≡ limit)) ⊎ ((f ≡ faults.Foreign) × ((found ≢ workers) ⊎ (own ≢ limit)))
+  -- a fault that is answered: that of the settled answer, if the core has this number of workers; otherwise Foreign
+  abbrev pub IsAnswered : RunFault → Type 0
+  IsAnswered f = ((settled_answer ≡ Err f) × (found ≡ workers)) ⊎ ((f ≡ faults.Foreign) × (found ≢ workers))
 
-    -- a fault that is neither Foreign nor Memory was written
-    written : (f : RunFault) → IsAnswered f → f ≢ faults.Foreign → f ≢ faults.Memory
-        → MayWrite f b.work_limit b.passed b.core × (found ≡ workers) × (own ≡ limit)
-    written f (inl h) foreign memory = elim (err_after b.fault b.core shares settled_answer f settled h.0) [
-      | inl k ↦ (subst (FaultFits b.work_limit b.passed b.core) k fits, h.1, h.2)
-      | inr (inl k) ↦ absurd (foreign k)
-      | inr (inr k) ↦ absurd (memory k)
-    ]
-    written f (inr h) foreign memory = absurd (foreign h.0)
+  -- a fault that is neither Foreign nor Memory was written
+  written : (f : RunFault) → IsAnswered f → f ≢ faults.Foreign → f ≢ faults.Memory → MayWrite f b.work_limit b.passed b.core × (found ≡ workers)
+  written f (inl h) foreign memory = elim (err_after b.fault b.core shares settled_answer f settled h.0) [
+    | inl k ↦ (subst (FaultFits b.work_limit b.passed b.core) k fits, h.1)
+    | inr (inl k) ↦ absurd (foreign k)
+    | inr (inr k) ↦ absurd (memory k)
+  ]
+  written f (inr h) foreign memory = absurd (foreign h.0)
 
-    pub never_bad_count : (answer : Result Finished RunFault) → IfErr answer IsAnswered → IfErr answer (λ f. f ≢ faults.BadCount)
-    never_bad_count answer err = IfErr-weaker answer _ _ (λ f h e. (written faults.BadCount (subst IsAnswered e h) (λ k. cc) (λ k. cc)).0) err
+  pub never_bad_count : (answer : Result Finished RunFault) → IfErr answer IsAnswered → IfErr answer (λ f. f ≢ faults.BadCount)
+  never_bad_count answer err = IfErr-weaker answer _ _ (λ f h e. (written faults.BadCount (subst IsAnswered e h) (λ k. cc) (λ k. cc)).0) err
 
-    pub is_run : ReachedByList → LastEntryIsDone → OneWorkerCountsWhereReached → AreLeft limit workers shares → All (λ share. KeepsLimit limit share.counts) shares
-        → (answer : Result Finished RunFault) → IfOk answer (λ o. (settled_answer ≡ Ok o) × (found ≡ workers)) → IfErr answer IsAnswered → IsRun job workers limit shares answer
-    is_run by_list last law left keeps (Ok o) ok err = let made = finished_is o ok.0 ok.1 by_list last law in (made.0, made.1, made.2, made.3, keeps, left)
-    is_run by_list last law left keeps (Err f) ok err = (
-      (λ e. let w = written faults.ArenaFull (subst IsAnswered e err) (λ k. cc) (λ k. cc) in limit_met steps.ArenaFull w.0 w.1),
-      (λ e. let w = written faults.IncarnationLimit (subst IsAnswered e err) (λ k. cc) (λ k. cc) in limit_met steps.IncarnationLimit w.0 w.1),
-      (λ e. let w = written faults.StepLimit (subst IsAnswered e err) (λ k. cc) (λ k. cc) in subst (HasWorkLimit job workers) (sym limited ∙ w.2) (work_limit_met w.0 w.1)),
-      (λ _. left),
-    )
+  pub is_run : ReachedByList → LastEntryIsDone → OneWorkerCountsWhereReached → AreLeft limit workers shares → All (λ share. KeepsLimit limit share.counts) shares
+      → (answer : Result Finished RunFault) → IfOk answer (λ o. (settled_answer ≡ Ok o) × (found ≡ workers)) → IfErr answer IsAnswered → IsRun job workers limit shares answer
+  is_run by_list last law left keeps (Ok o) ok err = let made = finished_is o ok.0 ok.1 by_list last law in (made.0, made.1, made.2, made.3, keeps, left)
+  is_run by_list last law left keeps (Err f) ok err = (
+    (λ e. let w = written faults.ArenaFull (subst IsAnswered e err) (λ k. cc) (λ k. cc) in limit_met steps.ArenaFull w.0 w.1),
+    (λ e. let w = written faults.IncarnationLimit (subst IsAnswered e err) (λ k. cc) (λ k. cc) in limit_met steps.IncarnationLimit w.0 w.1),
+    (λ e. let w = written faults.StepLimit (subst IsAnswered e err) (λ k. cc) (λ k. cc) in work_limit_met w.0 w.1),
+    (λ _. left),
+  )

@@ -13,7 +13,7 @@ use Rattle.stm_state.proofs.InvariantKept.{invariant_kept}
 use Rattle.stm_core.specs.CoreState.{block_in}
 use Rattle.stm_core.specs.declared.next_step.NextStep.{NextStep}
 use Rattle.workers.specs.declared.book.share.Share.{Share}
-use Rattle.workers.specs.Book.{BookState, IsMade, IsSpent, IsWithinLimit, KeepsLimit, counts_of_share, zero_counts}
+use Rattle.workers.specs.Book.{BookState, IsMade, IsSpent, KeepsLimit, counts_of_share, zero_counts}
 use Rattle.workers.specs.Work.{IsBookOf}
 
 -- one more step, which is not an asking
@@ -87,7 +87,7 @@ step_keeps (Some limit) before after adds on = below_limit limit before after ad
 
 -- ---- a step call that is answered Ok
 
-module _ (job : Job) (before after : BookState) (share left : Share) (of : IsBookOf job before) where
+module _ (job : Job) (limit : Option ℕ) (before after : BookState) (share left : Share) (of : IsBookOf job limit before) where
   made_by_share : (owed : NextStep) (step : Step) → IsMade owed step before after share left → Adds step share.counts left.counts
   made_by_share owed step is =
       let b = before.core in
@@ -100,22 +100,19 @@ module _ (job : Job) (before after : BookState) (share left : Share) (of : IsBoo
       subst (λ (c : Counts). Adds step c left.counts) (sym is.owes.agrees.counts)
       (subst (λ (c : Counts). Adds step (get_or b.state.counts w no_counts) c) (sym same) turn)
 
-  pub asking_made : (owed : NextStep) → IsMade owed Ask before after share left → KeepsLimit share.work_limit share.counts → KeepsLimit left.work_limit left.counts
-  asking_made owed is kept =
-      subst (λ limit. KeepsLimit limit left.counts) (sym is.limit) (asking_keeps share.work_limit share.counts left.counts (made_by_share owed Ask is) kept)
+  pub asking_made : (owed : NextStep) → IsMade owed Ask before after share left → KeepsLimit limit share.counts → KeepsLimit limit left.counts
+  asking_made owed is kept = asking_keeps limit share.counts left.counts (made_by_share owed Ask is) kept
 
-  pub step_made : (owed : NextStep) (step : Step) → step ≢ Ask → IsMade owed step before after share left → (IsSpent share.work_limit share.counts → ⊥)
-      → KeepsLimit left.work_limit left.counts
+  pub step_made : (owed : NextStep) (step : Step) → step ≢ Ask → IsMade owed step before after share left → (IsSpent before.work_limit share.counts → ⊥) → KeepsLimit limit left.counts
   step_made owed step not is on =
-      subst (λ limit. KeepsLimit limit left.counts) (sym is.limit)
-      (step_keeps share.work_limit share.counts left.counts (adds_step step share.counts left.counts not (made_by_share owed step is)) on)
+      step_keeps limit share.counts left.counts (adds_step step share.counts left.counts not (made_by_share owed step is)) (subst (λ own. IsSpent own share.counts → ⊥) of.same_limit on)
 
 -- ---- shares
 
--- a share of a worker that has done nothing yet keeps each limit
 none_kept : (limit : Option ℕ) → KeepsLimit limit no_counts
 none_kept None = tt
 none_kept (Some limit) = omega arith
 
-pub new_within : (limit : Option ℕ) (worker : ℕ) (share : Share) → counts_of_share share ≡ zero_counts worker → share.work_limit ≡ limit → IsWithinLimit limit share
-new_within limit worker share new is = (is, subst (KeepsLimit limit) (sym (ap (λ told. told.counts) new)) (none_kept limit))
+-- a share of a worker that has done nothing yet keeps each limit
+pub new_keeps : (limit : Option ℕ) (worker : ℕ) (share : Share) → counts_of_share share ≡ zero_counts worker → KeepsLimit limit share.counts
+new_keeps limit worker share new = subst (KeepsLimit limit) (sym (ap (λ told. told.counts) new)) (none_kept limit)

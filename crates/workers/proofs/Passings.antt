@@ -47,17 +47,17 @@ way_on w step old new passed more way made within is =
     step_passes w step old new passed (passed_with passed more) way made within (subst (λ n. passed_with passed more ≤ passed + n) is (min-le_left (passed + more) 18446744073709551615))
 
 -- a book between a step of its core and its count of versions: no fault was written, and what it promises of the core still holds
-pub between : (job : Job) (limit : Option ℕ) (passed : ℕ) (fault : Option RunFault) (w : ℕ) (step : Step) (old new : CoreState)
-    → FaultFits limit passed old fault × (old.job ≡ job) × IsOnTheWay passed old → fault ≡ None → Makes w step old new → w < length old.state.tasks
-    → FaultFits limit passed new fault × (new.job ≡ job) × IsOnTheWay passed new
-between job limit passed fault w step old new was none made within =
-    (subst (FaultFits limit passed new) (sym none) tt, made.1 ∙ was.1, way_kept w step old new passed was.2 made within)
+pub between : (job : Job) (named limit : Option ℕ) (passed : ℕ) (fault : Option RunFault) (w : ℕ) (step : Step) (old new : CoreState)
+    → FaultFits limit passed old fault × (old.job ≡ job) × IsOnTheWay passed old × (limit ≡ named) → fault ≡ None → Makes w step old new → w < length old.state.tasks
+    → FaultFits limit passed new fault × (new.job ≡ job) × IsOnTheWay passed new × (limit ≡ named)
+between job named limit passed fault w step old new was none made within =
+    (subst (FaultFits limit passed new) (sym none) tt, made.1 ∙ was.1, way_kept w step old new passed was.2 made within, was.3)
 
 -- so it does of a core with the same job and state
-pub same_state : (job : Job) (limit : Option ℕ) (passed : ℕ) (fault : Option RunFault) (old new : CoreState)
-    → FaultFits limit passed old fault × (old.job ≡ job) × IsOnTheWay passed old → fault ≡ None → new.job ≡ old.job → new.state ≡ old.state
-    → FaultFits limit passed new fault × (new.job ≡ job) × IsOnTheWay passed new
-same_state job limit passed fault old new was none same is = (
+pub same_state : (job : Job) (named limit : Option ℕ) (passed : ℕ) (fault : Option RunFault) (old new : CoreState)
+    → FaultFits limit passed old fault × (old.job ≡ job) × IsOnTheWay passed old × (limit ≡ named) → fault ≡ None → new.job ≡ old.job → new.state ≡ old.state
+    → FaultFits limit passed new fault × (new.job ≡ job) × IsOnTheWay passed new × (limit ≡ named)
+same_state job named limit passed fault old new was none same is = (
   subst (FaultFits limit passed new) (sym none) tt,
   same ∙ was.1,
   (
@@ -66,6 +66,7 @@ same_state job limit passed fault old new was none same is = (
         (subst (λ (j : Job). ReachedPassing (block_of j.block j.store) (length old.state.tasks) old.state was.2.0) (sym same) was.2.1),
     was.2.2,
   ),
+  was.3,
 )
 
 -- a worker that owes a run runs the call of this index

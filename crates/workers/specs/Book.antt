@@ -3,9 +3,8 @@ use Rattle.std.specs.Prelude.{⊤, Result, Ok, Err, ◌≡◌, ◌<◌, ◌+◌,
 use Rattle.rv_ledger.specs.declared.outcome.Counts.{Counts}
 use Rattle.mvmap.specs.Reading.{reading}
 use Rattle.stm_state.specs.State.{task_at, no_counts, is_done}
-use Rattle.stm_state.specs.Steps.{Step, Ask, ReadKey, Park, Record}
+use Rattle.stm_state.specs.Steps.{Step, Ask, ReadKey}
 use Rattle.stm_state.specs.Steps as steps
-use Rattle.scheduler.specs.Schedule.{count_limit}
 use Rattle.stm_core.specs.CoreState.{CoreState, HasReadRoom, IsRefused, IsWithin, Makes, block_in, next_step_of, read_result_of, step_of}
 use Rattle.stm_core.specs.Passed.{ReachedPassing, passed_by_step}
 use Rattle.stm_core.specs.declared.next_step.NextStep.{NextStep}
@@ -22,8 +21,8 @@ use Rattle.workers.specs.declared.fault.OutsideFault.TheVariants as outside
 use Rattle.workers.specs.declared.fault.RunFault.{RunFault}
 use Rattle.workers.specs.declared.fault.RunFault.TheVariants as faults
 
--- a core; the first fault that was written, if any; how many versions the steps of all workers passed; and the limit, if there is
--- one, of the steps of each worker that are no asks, and of those versions
+-- a core; the first fault that was written, if any; how many versions the steps of all workers passed; and the limit of work, if
+-- there is one: of the steps of each worker that are no asks, and of those versions
 pub record BookState : Type 0 where
   pub core : CoreState
   pub fault : Option RunFault
@@ -120,10 +119,6 @@ unfoldable pub zero_counts_of_all : ℕ → List ShareCounts
 zero_counts_of_all zero = []
 zero_counts_of_all (suc n) = zero_counts_of_all n ++ zero_counts n ∷ []
 
--- a share has this limit, if there is one, and its worker keeps it
-abbrev pub IsWithinLimit : Option ℕ → Share → Type 0
-IsWithinLimit limit share = (share.work_limit ≡ limit) × KeepsLimit limit share.counts
-
 -- a share agrees with the core on the counts of its worker
 pub record AgreesWith (share : Share) (b : CoreState) : Type 0 where
   pub within : share.worker < length b.state.tasks
@@ -137,16 +132,29 @@ pub record Owes (next : NextStep) (share : Share) (b : CoreState) : Type 0 where
 
 -- ---- step calls
 
--- the share's worker owed this step, and the step was made. No fault is written, the share agrees with the core before and after
--- the step, and its pass and its limit stay
+-- the limit of a worker's steps before it makes this one; asks have none
+abbrev pub limit_before : NextStep → Option ℕ → Option ℕ
+limit_before next_step.Ask limit = None
+limit_before next limit = limit
+
+-- a share's worker may count one step more, and more versions may be passed
+abbrev pub MayCountStep : NextStep → Share → BookState → Type 0
+MayCountStep owed share b = (IsSpent (limit_before owed b.work_limit) share.counts → ⊥) × (AreAllPassed b.work_limit b.passed → ⊥)
+
+-- it counts no further step, or no more versions may be passed
+abbrev pub CountsNoStep : NextStep → Share → BookState → Type 0
+CountsNoStep owed share b = IsSpent (limit_before owed b.work_limit) share.counts ⊎ AreAllPassed b.work_limit b.passed
+
+-- the share's worker owed this step and could count it, and the step was made. No fault is written, the share agrees with the core
+-- before and after the step, and its pass stays
 pub record IsMade (owed : NextStep) (step : Step) (before after : BookState) (share counted : Share) : Type 0 where
   pub none_before : before.fault ≡ None
   pub owes : Owes owed share before.core
+  pub may : MayCountStep owed share before
   pub makes : Makes share.worker step before.core after.core
   pub none_after : after.fault ≡ None
   pub worker : counted.worker ≡ share.worker
   pub pass : counted.pass ≡ share.pass
-  pub limit : counted.work_limit ≡ share.work_limit
   pub agrees : AgreesWith counted after.core
   pub passed : after.passed ≡ passed_with before.passed (passed_by_step share.worker step before.core.state)
 
@@ -156,34 +164,26 @@ pub record LeavesWritten (fault : RunFault) (before after : BookState) (share le
   pub written : after.fault ≡ Some fault
   pub kept : left ≡ share
 
--- a worker may count one step more, and more versions may be passed
-abbrev pub MayCountStep : ℕ → BookState → Type 0
-MayCountStep w b = ((get_or b.core.state.counts w no_counts).steps < count_limit) × (AreAllPassed b.work_limit b.passed → ⊥)
-
--- a worker can't count another step, or no more versions may be passed
-abbrev pub CountsNoStep : ℕ → BookState → Type 0
-CountsNoStep w b = ((get_or b.core.state.counts w no_counts).steps ≡ count_limit) ⊎ AreAllPassed b.work_limit b.passed
-
 -- why a step call is refused: the first of these that applies. The fault that was written before; Foreign if the worker does not
 -- owe the step; StepLimit if it can't count another one, or if as many versions were passed as the limit; Foreign if the run is
 -- not its own; a limit that the step meets; Memory if `Wants` holds
-abbrev pub IsCauseAfter : Option RunFault → (Owed : Type 0) → (Own : Type 0) → (Wants : Type 0) → Step → ℕ → BookState → RunFault → Type 0
-IsCauseAfter (Some first) Owed Own Wants step w b fault = fault ≡ first
-IsCauseAfter None Owed Own Wants step w b faults.BadCount = ⊥
-IsCauseAfter None Owed Own Wants step w b faults.Foreign = (Owed → ⊥) ⊎ (Owed × MayCountStep w b × (Own → ⊥))
-IsCauseAfter None Owed Own Wants step w b faults.ArenaFull = Owed × MayCountStep w b × Own × IsRefused w step steps.ArenaFull b.core
-IsCauseAfter None Owed Own Wants step w b faults.IncarnationLimit = Owed × MayCountStep w b × Own × IsRefused w step steps.IncarnationLimit b.core
-IsCauseAfter None Owed Own Wants step w b faults.Memory = Owed × MayCountStep w b × Own × Wants
-IsCauseAfter None Owed Own Wants step w b faults.Spawn = ⊥
-IsCauseAfter None Owed Own Wants step w b faults.StepLimit = Owed × CountsNoStep w b
+abbrev pub IsCauseAfter : Option RunFault → NextStep → Share → (Own : Type 0) → (Wants : Type 0) → Step → BookState → RunFault → Type 0
+IsCauseAfter (Some first) owed share Own Wants step b fault = fault ≡ first
+IsCauseAfter None owed share Own Wants step b faults.BadCount = ⊥
+IsCauseAfter None owed share Own Wants step b faults.Foreign = (Owes owed share b.core → ⊥) ⊎ (Owes owed share b.core × MayCountStep owed share b × (Own → ⊥))
+IsCauseAfter None owed share Own Wants step b faults.ArenaFull = Owes owed share b.core × MayCountStep owed share b × Own × IsRefused share.worker step steps.ArenaFull b.core
+IsCauseAfter None owed share Own Wants step b faults.IncarnationLimit = Owes owed share b.core × MayCountStep owed share b × Own × IsRefused share.worker step steps.IncarnationLimit b.core
+IsCauseAfter None owed share Own Wants step b faults.Memory = Owes owed share b.core × MayCountStep owed share b × Own × Wants
+IsCauseAfter None owed share Own Wants step b faults.Spawn = ⊥
+IsCauseAfter None owed share Own Wants step b faults.StepLimit = Owes owed share b.core × CountsNoStep owed share b
 
-abbrev pub IsCause : (Owed : Type 0) → (Own : Type 0) → (Wants : Type 0) → Step → ℕ → BookState → RunFault → Type 0
-IsCause Owed Own Wants step w b fault = IsCauseAfter b.fault Owed Own Wants step w b fault
+abbrev pub IsCause : NextStep → Share → (Own : Type 0) → (Wants : Type 0) → Step → BookState → RunFault → Type 0
+IsCause owed share Own Wants step b fault = IsCauseAfter b.fault owed share Own Wants step b fault
 
 -- the result of a step call: its step was made and `Tells` holds of what it returns, or its refusal is written for a cause
 abbrev pub IsStepCall : {X : Type 0} → NextStep → Step → (Own : Type 0) → (Wants : Type 0) → (Tells : X → Type 0) → (before after : BookState) → (share counted : Share) → Result X RunFault → Type 0
 IsStepCall owed step Own Wants Tells before after share counted (Ok x) = IsMade owed step before after share counted × Tells x
-IsStepCall owed step Own Wants Tells before after share counted (Err fault) = LeavesWritten fault before after share counted × IsCause (Owes owed share before.core) Own Wants step share.worker before fault
+IsStepCall owed step Own Wants Tells before after share counted (Err fault) = LeavesWritten fault before after share counted × IsCause owed share Own Wants step before fault
 
 -- a call returns the step that its worker owes now; no asking was answered Done
 abbrev pub TellsNext : BookState → Share → Share → NextStep → Type 0
@@ -208,17 +208,7 @@ IsUnready None next share b faults.ArenaFull = ⊥
 IsUnready None next share b faults.IncarnationLimit = ⊥
 IsUnready None next share b faults.Memory = ⊥
 IsUnready None next share b faults.Spawn = ⊥
-IsUnready None next share b faults.StepLimit = Owes next share b.core × CountsNoStep share.worker b
-
--- a share's worker is the core's, and makes no further step
-abbrev pub IsSpentShare : Option ℕ → Share → CoreState → Type 0
-IsSpentShare limit share b = AgreesWith share b × IsSpent limit share.counts
-
--- the fault that the book has after it stopped a worker: the one that was written before; otherwise StepLimit if the worker makes
--- no further step, and Foreign if it is not the core's or might make one
-abbrev pub IsStopped : Option RunFault → Option ℕ → Share → CoreState → RunFault → Type 0
-IsStopped (Some first) limit share b fault = fault ≡ first
-IsStopped None limit share b fault = (IsSpentShare limit share b × (fault ≡ faults.StepLimit)) ⊎ ((IsSpentShare limit share b → ⊥) × (fault ≡ faults.Foreign))
+IsUnready None next share b faults.StepLimit = Owes next share b.core × CountsNoStep next share b
 
 -- the answer to an asking: Done if all was done, with one more answer Done in the share; otherwise the step that is owed now
 abbrev pub IsAsked : Asked → CoreState → CoreState → Share → Share → Type 0

@@ -5,7 +5,7 @@ mod recording;
 pub mod share;
 pub mod written;
 
-ghost use Rattle.std.specs.Prelude.{◌≡◌, ℕ, [], List};
+ghost use Rattle.std.specs.Prelude.{◌≡◌, ℕ, [], List, None, Option};
 ghost use Rattle.std.specs.FinMap as finite;
 ghost use Rattle.rv_ledger.specs.Key.{Storage};
 ghost use Rattle.rv_ledger.specs.declared.job.Job.{Job};
@@ -16,7 +16,6 @@ ghost use Rattle.stm_core.specs.Passed.{passed_by_seen};
 use crate::fault::{OutsideFault, RunFault};
 pub use asked::{AllDone, Asked};
 use rv_ledger::{Job, Key, LentValue, StoredValue};
-use scheduler::COUNT_LIMIT;
 pub use share::Share;
 use share::counts_are_spent;
 use std::marker::{Brand, Model, PhantomData};
@@ -24,18 +23,24 @@ use stm_core::{AskResult, Core, JobSource, NextStep, ReadResult, StepKind};
 pub(crate) use written::MetFault;
 pub use written::WrittenFault;
 
-/// A name of a job, for contracts alone. Whoever starts the job's threads picks it.
+/// A name of a job and of its limit of work, for contracts alone. Whoever starts the job's threads picks it.
 pub trait JobName {
     ghost job: { Job };
+
+    /// After this many steps, not counting asks, a worker is stopped, and after this many passed versions all are; None if none is.
+    ghost work_limit: { Option ℕ };
 }
 
 impl JobName for Brand {
     ghost job = { record { block = []; store = finite.empty } };
+
+    ghost work_limit = { None };
 }
 
 /// A core with the job that `J` names, and the first fault that was written beside it. A written ArenaFull or IncarnationLimit is
 /// true of the core: some worker's due step is refused for this limit. A written StepLimit is true of it too: some worker has
-/// made 2^64 - 1 steps, or as many steps, not counting asks, as the book allows. A written fault is never BadCount.
+/// made 2^64 - 1 steps, or as many steps, not counting asks, as the limit allows, or as many versions were passed. A written fault is
+/// never BadCount.
 #[derive(Drop)]
 pub struct Book<J: JobName = Brand, H: JobSource = Job> {
     /// Unused bytes, so that the word of the lock has a line of the processor's cache to itself: threads that wait for the
@@ -65,11 +70,11 @@ impl<J: JobName, H: JobSource> Model for Book<J, H> {
 
     ghost view = { λ b. record { core = b.core; fault = b.fault; passed = b.passed; work_limit = b.work_limit } };
 
-    ghost invariant = { λ b. FaultFits b.work_limit b.passed b.core b.fault × (b.core.job ≡ J.job) × IsOnTheWay b.passed b.core };
+    ghost invariant = { λ b. FaultFits b.work_limit b.passed b.core b.fault × (b.core.job ≡ J.job) × IsOnTheWay b.passed b.core × (b.work_limit ≡ J.work_limit) };
 }
 
 impl<J: JobName, H: JobSource> Book<J, H> {
-    ghost use Rattle.std.specs.Prelude.{◌≡◌, ◌<◌, ◌↔◌, ⊤, None, Some, true, length, get_or, slice_get, IfErr, IfOk, OnOk};
+    ghost use Rattle.std.specs.Prelude.{◌≡◌, ◌<◌, ◌↔◌, ⊤, None, Some, false, true, length, get_or, slice_get, IfErr, IfOk, OnOk};
     ghost use Rattle.rv_ledger.specs.Lent.{lent_content};
     ghost use Rattle.mvmap.specs.Reading.{reading};
     ghost use Rattle.stm_state.specs.Done.{Reached};
@@ -79,19 +84,21 @@ impl<J: JobName, H: JobSource> Book<J, H> {
     ghost use Rattle.stm_core.specs.CoreState.{HasReadRoom, IsOwn, IsTaken, IsWithin, block_in, step_of};
     ghost use Rattle.stm_core.specs.Passed.{passed_by_step};
     ghost use Rattle.stm_core.specs.declared.next_step.NextStep.TheVariants as next_step;
-    ghost use Rattle.workers.specs.Book.{AgreesWith, AreAllPassed, FaultFits, IsAsked, IsAskWithin, IsCause, IsMade, IsMakeCall, IsOnTheWay, IsReadCall, IsStopped, IsUnready, LeavesWritten, MayWrite, Owes, first_fault, outside_fault, passed_with};
+    ghost use Rattle.workers.specs.Book.{AgreesWith, AreAllPassed, FaultFits, IsAsked, IsAskWithin, IsCause, IsMade, IsMakeCall, IsOnTheWay, IsReadCall, IsSpent, IsUnready, LeavesWritten, MayCountStep, MayWrite, Owes, first_fault, limit_before, outside_fault, passed_with};
 
     /// A core, and no fault. No worker is stopped before it has made 2^64 - 1 steps.
     pub fn new(core: Core<H>) -> Book<J, H>
-        requires { core.job ≡ J.job }
+        requires job { core.job ≡ J.job }
+        requires limit { J.work_limit ≡ None }
         ensures { result ≡ record { core = core; fault = None; passed = 0; work_limit = None } }
     {
         Book::within(core, None)
     }
 
-    /// A core, and no fault. If there is a limit, a worker is stopped once it has made this many steps, not counting asks.
+    /// A core, and no fault, with the limit of work that `J` names.
     pub(crate) fn within(core: Core<H>, work_limit: Option<u64>) -> Book<J, H>
-        requires { core.job ≡ J.job }
+        requires job { core.job ≡ J.job }
+        requires limit { work_limit ≡ J.work_limit }
         ensures { result ≡ record { core = core; fault = None; passed = 0; work_limit = work_limit } }
     {
         core.holds();
@@ -103,13 +110,6 @@ impl<J: JobName, H: JobSource> Book<J, H> {
             core,
             of: PhantomData,
         }
-    }
-
-    /// The number of steps, not counting asks, after which a worker is stopped, if there is such a limit.
-    pub(crate) fn work_limit(&self) -> Option<u64>
-        ensures { result ≡ self.now.work_limit }
-    {
-        self.work_limit
     }
 
     /// The core.
@@ -128,9 +128,10 @@ impl<J: JobName, H: JobSource> Book<J, H> {
 
     /// For a caller's proof: the core has the job that `J` names, some list of worker steps leads to its state,
     /// its numbers of calls and workers are those of the start, the four parts of the scheduler's invariant
-    /// hold, and the written fault is true of the core. Does nothing when it runs.
+    /// hold, the written fault is true of the core, and the limit is the one that `J` names. Does nothing when it runs.
     pub fn holds(&self)
         ensures job { self.now.core.job ≡ J.job }
+        ensures limit { self.now.work_limit ≡ J.work_limit }
         ensures reached { Reached (block_in self.now.core) (length self.now.core.state.tasks) self.now.core.state }
         ensures sized { IsStateSized (length self.now.core.job.block) (length self.now.core.state.tasks) self.now.core.state }
         ensures attended { CallsAreAttended (block_in self.now.core) self.now.core.state }
@@ -171,20 +172,6 @@ impl<J: JobName, H: JobSource> Book<J, H> {
         }
     }
 
-    /// Stops a worker that has made as many steps, not counting asks, as the book allows. Unless a fault was written before, it
-    /// writes StepLimit, or Foreign if the share is not the core's or its worker might make a further step. Returns the fault
-    /// that the book has then.
-    #[tactic(auto, using(crate::proofs::Causes::stopped, crate::proofs::Causes::not_stopped))]
-    pub(crate) fn stop(&mut self, share: &Share) -> WrittenFault
-        ensures fault { IsStopped self.old.fault self.old.work_limit share.now self.old.core result }
-        ensures written { self.new ≡ record self.old { fault = Some result } }
-    {
-        if !self.agrees(share) || !counts_are_spent(self.work_limit, share.counts) {
-            return self.write(RunFault::Foreign);
-        }
-        self.write(RunFault::StepLimit)
-    }
-
     /// The core, without the fault.
     pub(crate) fn into_core(self) -> Core<H>
         ensures { result ≡ self.core }
@@ -195,15 +182,15 @@ impl<J: JobName, H: JobSource> Book<J, H> {
 
     /// A worker without a task asks for work. The answer is that all is done, or the step that the worker owes now. If a fault
     /// was written before, the call is refused with it. Otherwise it is refused as Foreign if the worker owes another step or its
-    /// share has other counts than the core, and as StepLimit if the worker has made 2^64 - 1 steps. A refusal is written, and
-    /// core and share stay as they were. Takes no memory.
+    /// share has other counts than the core, and as StepLimit if the worker has made 2^64 - 1 steps, or if there is a limit and as
+    /// many versions were passed. A refusal is written, and core and share stay as they were. Takes no memory.
     #[tactic(auto, using(crate::proofs::Stays::stays, crate::proofs::Causes::unready_cause))]
     pub fn ask(&mut self, share: &mut Share) -> Result<Asked, WrittenFault>
         ensures made { OnOk result (IsMade next_step.Ask steps.Ask self.old self.new share.old share.new) }
         ensures asked { IfOk result (λ asked. IsAsked asked self.old.core self.new.core share.old share.new) }
         ensures within { IfOk result (λ asked. IsAskWithin (length J.job.block) asked) }
         ensures refused { IfErr result (λ e. LeavesWritten e self.old self.new share.old share.new) }
-        ensures cause { IfErr result (λ e. IsCause (Owes next_step.Ask share.old self.old.core) ⊤ ⊥ steps.Ask share.old.worker self.old e) }
+        ensures cause { IfErr result (λ e. IsCause next_step.Ask share.old ⊤ ⊥ steps.Ask self.old e) }
     {
         self.ready(share, NextStep::Ask)?;
         self.core.holds();
@@ -217,7 +204,8 @@ impl<J: JobName, H: JobSource> Book<J, H> {
         })
     }
 
-    /// The run of a call at an incarnation reads the key that it asks for. Refused as `ask` is, and as Memory if memory ran out.
+    /// The run of a call at an incarnation reads the key that it asks for. Refused as `ask` is, as StepLimit also if there is a
+    /// limit and the worker has made as many steps, not counting asks; and as Memory if memory ran out.
     pub fn read(
         &mut self,
         share: &mut Share,
@@ -261,9 +249,9 @@ impl<J: JobName, H: JobSource> Book<J, H> {
     }
 
     /// A worker makes a step of its task that takes nothing else, for a call at an incarnation. Returns the step that the worker
-    /// owes now. Refused as `ask` is, and as IncarnationLimit if the core refuses the step. Takes no memory.
+    /// owes now. Refused as `read` is for a step, and as IncarnationLimit if the core refuses the step. Takes no memory.
     #[tactic(auto, using(crate::proofs::Stays::stays, crate::proofs::Causes::unready_cause, crate::proofs::Askings::no_asking))]
-    pub fn make(
+    pub fn make_owed(
         &mut self,
         share: &mut Share,
         kind: StepKind,
@@ -302,7 +290,7 @@ impl<J: JobName, H: JobSource> Book<J, H> {
     ) -> Result<NextStep, WrittenFault>
         ensures { IsMakeCall StepKind.Park call incarnation self.old self.new share.old share.new result }
     {
-        self.make(share, StepKind::Park, call, incarnation)
+        self.make_owed(share, StepKind::Park, call, incarnation)
     }
 
     /// A worker moves the next key of the run that it handed in.
@@ -314,7 +302,7 @@ impl<J: JobName, H: JobSource> Book<J, H> {
     ) -> Result<NextStep, WrittenFault>
         ensures { IsMakeCall StepKind.MoveKey call incarnation self.old self.new share.old share.new result }
     {
-        self.make(share, StepKind::MoveKey, call, incarnation)
+        self.make_owed(share, StepKind::MoveKey, call, incarnation)
     }
 
     /// The call whose keys a worker has moved becomes EXECUTED.
@@ -326,7 +314,7 @@ impl<J: JobName, H: JobSource> Book<J, H> {
     ) -> Result<NextStep, WrittenFault>
         ensures { IsMakeCall StepKind.FinishExecution call incarnation self.old self.new share.old share.new result }
     {
-        self.make(share, StepKind::FinishExecution, call, incarnation)
+        self.make_owed(share, StepKind::FinishExecution, call, incarnation)
     }
 
     /// A worker checks the next read of the call that it validates at an incarnation.
@@ -338,7 +326,7 @@ impl<J: JobName, H: JobSource> Book<J, H> {
     ) -> Result<NextStep, WrittenFault>
         ensures { IsMakeCall StepKind.CheckRead call incarnation self.old self.new share.old share.new result }
     {
-        self.make(share, StepKind::CheckRead, call, incarnation)
+        self.make_owed(share, StepKind::CheckRead, call, incarnation)
     }
 
     /// A worker decides its validation of a call at an incarnation.
@@ -350,7 +338,7 @@ impl<J: JobName, H: JobSource> Book<J, H> {
     ) -> Result<NextStep, WrittenFault>
         ensures { IsMakeCall StepKind.Decide call incarnation self.old self.new share.old share.new result }
     {
-        self.make(share, StepKind::Decide, call, incarnation)
+        self.make_owed(share, StepKind::Decide, call, incarnation)
     }
 
     /// A worker marks the next key of the call that it aborts: the version there becomes an estimate.
@@ -362,7 +350,7 @@ impl<J: JobName, H: JobSource> Book<J, H> {
     ) -> Result<NextStep, WrittenFault>
         ensures { IsMakeCall StepKind.MarkEstimate call incarnation self.old self.new share.old share.new result }
     {
-        self.make(share, StepKind::MarkEstimate, call, incarnation)
+        self.make_owed(share, StepKind::MarkEstimate, call, incarnation)
     }
 
     /// The call that a worker has aborted is readied.
@@ -374,15 +362,14 @@ impl<J: JobName, H: JobSource> Book<J, H> {
     ) -> Result<NextStep, WrittenFault>
         ensures { IsMakeCall StepKind.FinishAbort call incarnation self.old self.new share.old share.new result }
     {
-        self.make(share, StepKind::FinishAbort, call, incarnation)
+        self.make_owed(share, StepKind::FinishAbort, call, incarnation)
     }
 
-    /// Checks that the share's worker may make a step now. Refused as `ask` is; the fault is written.
+    /// Checks that the share's worker may make a step now. Refused as the step calls are before their step; the fault is written.
     #[inline(always)]
-    #[tactic(auto, using(crate::proofs::Causes::full_worker))]
     fn ready(&mut self, share: &Share, owed: NextStep) -> Result<(), WrittenFault>
         ensures ready { OnOk result (Owes owed share.now self.old.core × (self.old.fault ≡ None) × (share.now.counts.steps < count_limit) × (self.new ≡ self.old)) }
-        ensures left { OnOk result (AreAllPassed self.old.work_limit self.old.passed → ⊥) }
+        ensures left { OnOk result (MayCountStep owed share.now self.old) }
         ensures refused { IfErr result (λ e. self.new ≡ record self.old { fault = Some e }) }
         ensures cause { IfErr result (λ e. IsUnready self.old.fault owed share.now self.old e) }
     {
@@ -392,10 +379,23 @@ impl<J: JobName, H: JobSource> Book<J, H> {
         if !self.is_owed(share, owed) {
             return Err(self.write(RunFault::Foreign));
         }
-        if share.counts.steps == COUNT_LIMIT || self.are_all_passed() {
+        if self.is_spent(share, owed) || self.are_all_passed() {
             return Err(self.write(RunFault::StepLimit));
         }
         Ok(())
+    }
+
+    /// Whether the share's worker has made as many steps as it may before this one. The limit does not count asks.
+    #[inline(always)]
+    fn is_spent(&self, share: &Share, owed: NextStep) -> bool
+        ensures spent { (result ≡ true) ↔ IsSpent (limit_before owed self.now.work_limit) share.now.counts }
+        ensures below { result ≡ false → share.now.counts.steps < count_limit }
+    {
+        let work_limit = match owed {
+            NextStep::Ask => None,
+            NextStep::Run { .. } | NextStep::Make { .. } => self.work_limit,
+        };
+        counts_are_spent(work_limit, share.counts)
     }
 
     /// Whether at least as many versions were passed as the limit, if there is one.
@@ -448,7 +448,6 @@ impl<J: JobName, H: JobSource> Book<J, H> {
         ensures agrees { AgreesWith share.new self.old.core }
         ensures worker { share.new.worker ≡ share.old.worker }
         ensures pass { share.new.pass ≡ share.old.pass }
-        ensures limit { share.new.work_limit ≡ share.old.work_limit }
         ensures counted { self.new ≡ record self.old { passed = passed_with self.old.passed passed } }
     {
         share.counts = self.core.counts(share.worker);

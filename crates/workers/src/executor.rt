@@ -2,7 +2,7 @@
 
 ghost use Rattle.std.specs.Prelude.{◌≡◌, ◌≢◌, ◌≤◌, ◌⊎◌, [], All, Err, IfErr, IfOk, Ok, length, map};
 ghost use Rattle.std.specs.Vec.{vec_capacity};
-ghost use Rattle.workers.specs.Book.{IsWithinLimit, KeepsLimit, counts_of_share, zero_counts_of_all};
+ghost use Rattle.workers.specs.Book.{KeepsLimit, counts_of_share, zero_counts_of_all};
 ghost use Rattle.workers.specs.DoneCell.{IsPassOf};
 ghost use Rattle.workers.specs.Run.{IsRun};
 ghost use Rattle.workers.specs.Settle.{AreLeft, IsGivenBack};
@@ -19,7 +19,7 @@ use crate::worker::work;
 use overlay::copy_with_receipts;
 use rv_ledger::{Contents, Job, LentBlock, Outcome};
 use std::alloc::{AllocError, Global};
-use std::marker::Brand;
+use std::marker::{Brand, Model, PhantomData};
 use std::sync::Wait;
 use std::thread::{Promise, PromisedHandle, Scope, SpawnError, Threads};
 use std::{mem, thread};
@@ -190,6 +190,7 @@ fn run_on_threads<
 ) -> (Result<Finished, RunFault>, Arena, Vec<Share>)
     requires count { (1 ≤ workers) × (workers ≤ 32) }
     requires job { J.job ≡ record { block = block.calls.now; store = S.storage contents.now } }
+    requires limit { J.work_limit ≡ work_limit }
     ensures bad_count { IfErr result.0 (λ e. e ≢ faults.BadCount) }
     ensures run { IsRun J.job workers work_limit result.2.items result.0 }
     ensures arena { result.1.records ≡ [] }
@@ -200,34 +201,27 @@ fn run_on_threads<
         Ok(shared) => shared,
         Err(arena) => return (Err(RunFault::Memory), arena, Vec::new(alloc)),
     };
-    let back = shares_back(rt, alloc, &shared, shares, gate, work_limit);
+    let back = shares_back(rt, alloc, &shared, shares, gate);
     let book = shared.into_book();
     book.holds();
     stm_state::reached_by_list();
     stm_state::last_entry_is_done();
     stm_state::one_worker_counts_where_reached();
-    let (found, own) = (book.core().workers(), book.work_limit());
+    let found = book.core().workers();
     let (answer, arena) = finish(alloc, book, back.as_slice());
-    (
-        answer_by(answer, found, workers, own, work_limit),
-        arena,
-        back,
-    )
+    (answer_of(answer, found, workers), arena, back)
 }
 
-/// The answer of a core with `found` workers and of a book with the limit `own`, but Foreign if another number or limit was asked
-/// for.
-fn answer_by(
+/// The answer of a core with `found` workers, but Foreign if another number was asked for.
+fn answer_of(
     answer: Result<Finished, RunFault>,
     found: usize,
     workers: usize,
-    own: Option<u64>,
-    work_limit: Option<u64>,
 ) -> Result<Finished, RunFault>
     ensures ok { IfOk result (λ f. (answer ≡ Ok f) × (found ≡ workers)) }
-    ensures err { IfErr result (λ e. ((answer ≡ Err e) × (found ≡ workers) × (own ≡ work_limit)) ⊎ ((e ≡ faults.Foreign) × ((found ≢ workers) ⊎ (own ≢ work_limit)))) }
+    ensures err { IfErr result (λ e. ((answer ≡ Err e) × (found ≡ workers)) ⊎ ((e ≡ faults.Foreign) × (found ≢ workers))) }
 {
-    if found != workers || own != work_limit {
+    if found != workers {
         return Err(RunFault::Foreign);
     }
     answer
@@ -245,8 +239,8 @@ fn share_out<'a, J: JobName, S: Contents>(
 ) -> Result<(Shared<J, LentJob<'a, S>>, Vec<Share>), Arena>
     requires count { (1 ≤ workers) × (workers ≤ 32) }
     requires job { J.job ≡ record { block = block.calls.now; store = S.storage contents.now } }
+    requires limit { J.work_limit ≡ work_limit }
     ensures passes { IfOk result (λ made. All (λ share. IsPassOf made.0.cell share.pass) made.1.items) }
-    ensures limits { IfOk result (λ made. All (IsWithinLimit work_limit) made.1.items) }
     ensures shares { IfOk result (λ made. map counts_of_share made.1.items ≡ zero_counts_of_all workers) }
     ensures back { IfErr result (λ arena. arena.records ≡ []) }
 {
@@ -255,22 +249,30 @@ fn share_out<'a, J: JobName, S: Contents>(
 }
 
 /// What a thread promises: a share that it gives back is of this worker, which got exactly one ask answered Done, and has made no
-/// more steps, not counting asks, than this limit.
-#[derive(Clone, Copy)]
-struct GivesBack {
+/// more steps, not counting asks, than the limit that `J` names. Contracts see the worker.
+#[derive(Drop)]
+struct GivesBack<J: JobName> {
     worker: usize,
-    work_limit: Option<u64>,
+    of: PhantomData<J>,
 }
 
-impl Promise<Result<Share, WrittenFault>> for GivesBack {
+impl<J: JobName> Model for GivesBack<J> {
+    ghost use Rattle.std.specs.Prelude.{ℕ};
+
+    ghost Value = { ℕ };
+
+    ghost view = { λ promise. promise.worker };
+}
+
+impl<J: JobName> Promise<Result<Share, WrittenFault>> for GivesBack<J> {
     ghost use Rattle.std.specs.Prelude.{IfOk};
     ghost use Rattle.workers.specs.Settle.{IsGivenBack};
 
-    ghost kept_by = { λ promise result. IfOk result (λ back. IsGivenBack promise.work_limit promise.worker back) };
+    ghost kept_by = { λ worker result. IfOk result (λ back. IsGivenBack J.work_limit worker back) };
 }
 
 /// The handle of a thread that runs for a share.
-type Thread = PromisedHandle<Result<Share, WrittenFault>, GivesBack>;
+type Thread<J> = PromisedHandle<Result<Share, WrittenFault>, GivesBack<J>>;
 
 /// The shares that the threads give back, as `run_each_share` returns them; none if it is refused.
 #[tactic(auto, using(crate::proofs::GivenBack::none_left, crate::proofs::GivenBack::all_left, crate::proofs::GivenBack::all_keep))]
@@ -279,27 +281,19 @@ fn shares_back<
     H: JobSource + Send + Sync,
     R: Threads + Wait + Sync,
     G: Gate + Sync,
->(
-    rt: &R,
-    alloc: Global,
-    shared: &Shared<J, H>,
-    shares: Vec<Share>,
-    gate: &G,
-    work_limit: Option<u64>,
-) -> Vec<Share>
+>(rt: &R, alloc: Global, shared: &Shared<J, H>, shares: Vec<Share>, gate: &G) -> Vec<Share>
     requires passes { All (λ share. IsPassOf shared.now.cell share.pass) shares.items }
-    requires limits { All (IsWithinLimit work_limit) shares.items }
     requires shares { map counts_of_share shares.items ≡ zero_counts_of_all (length shares.items) }
-    ensures left { AreLeft work_limit (length shares.items) result.items }
-    ensures within { All (λ share. KeepsLimit work_limit share.counts) result.items }
+    ensures left { AreLeft J.work_limit (length shares.items) result.items }
+    ensures within { All (λ share. KeepsLimit J.work_limit share.counts) result.items }
 {
-    match run_each_share(rt, alloc, shared, shares, gate, work_limit) {
+    match run_each_share(rt, alloc, shared, shares, gate) {
         Ok(back) => back,
         Err(_) => Vec::new(alloc),
     }
 }
 
-/// Runs a thread for each share, all of one limit, and waits for all of them. Returns all their shares, or a fault that is
+/// Runs a thread for each share, and waits for all of them. Returns all their shares, or a fault that is
 /// written: that of a thread, Spawn if the system refuses a thread, or Memory if memory ran out.
 fn run_each_share<
     J: JobName + Send + Sync,
@@ -312,23 +306,21 @@ fn run_each_share<
     shared: &Shared<J, H>,
     shares: Vec<Share>,
     gate: &G,
-    work_limit: Option<u64>,
 ) -> Result<Vec<Share>, WrittenFault>
     requires passes { All (λ share. IsPassOf shared.now.cell share.pass) shares.items }
-    requires limits { All (IsWithinLimit work_limit) shares.items }
     requires shares { map counts_of_share shares.items ≡ zero_counts_of_all (length shares.items) }
     ensures all { IfOk result (λ back. length back.items ≡ length shares.items) }
-    ensures each { IfOk result (λ back. HoldFrom (IsGivenBack work_limit) 0 back.items) }
+    ensures each { IfOk result (λ back. HoldFrom (IsGivenBack J.work_limit) 0 back.items) }
 {
     thread::scope(
         thread::scope_env(),
         rt,
         |scope| -> Result<Vec<Share>, WrittenFault>
-            requires { All (λ share. IsPassOf shared.now.cell share.pass) shares.items × All (IsWithinLimit work_limit) shares.items × (map counts_of_share shares.items ≡ zero_counts_of_all (length shares.items)) }
-            ensures { IfOk result (λ back. (length back.items ≡ length shares.items) × HoldFrom (IsGivenBack work_limit) 0 back.items) }
+            requires { All (λ share. IsPassOf shared.now.cell share.pass) shares.items × (map counts_of_share shares.items ≡ zero_counts_of_all (length shares.items)) }
+            ensures { IfOk result (λ back. (length back.items ≡ length shares.items) × HoldFrom (IsGivenBack J.work_limit) 0 back.items) }
         {
             let room = room_for_shares(rt, alloc, shared, shares.len())?;
-            let threads = start_threads(scope, rt, alloc, shared, shares, gate, work_limit)?;
+            let threads = start_threads(scope, rt, alloc, shared, shares, gate)?;
             join_threads(rt, threads, room)
         },
     )
@@ -368,26 +360,24 @@ fn start_threads<
     shared: &'s Shared<J, H>,
     shares: Vec<Share>,
     gate: &'s G,
-    work_limit: Option<u64>,
-) -> Result<Vec<Result<Thread, MetFault>>, MetFault>
+) -> Result<Vec<Result<Thread<J>, MetFault>>, MetFault>
     requires passes { All (λ share. IsPassOf shared.now.cell share.pass) shares.items }
-    requires limits { All (IsWithinLimit work_limit) shares.items }
     requires shares { map counts_of_share shares.items ≡ zero_counts_of_all (length shares.items) }
     ensures all { IfOk result (λ threads. length threads.items ≡ length shares.items) }
-    ensures promises { IfOk result (λ threads. HoldFrom (HasPromised work_limit) 0 threads.items) }
+    ensures promises { IfOk result (λ threads. HoldFrom HasPromised 0 threads.items) }
     ensures memory { IfErr result (λ e. e.met ≡ outside.Memory) }
 {
     let Ok(mut threads) = Vec::with_capacity(alloc, shares.len()) else {
         return Err(shared.refuse(rt, OutsideFault::Memory));
     };
     for share in shares {
-        threads.push_reserved(start_thread(scope, rt, alloc, shared, share, gate, work_limit));
+        threads.push_reserved(start_thread(scope, rt, alloc, shared, share, gate));
     }
     Ok(threads)
 }
 
-/// Starts a thread for a share of a worker that got no ask answered Done. The thread promises to give the share back within the
-/// limit. Refused as Spawn if the system refuses the thread.
+/// Starts a thread for a share within the limit, of a worker that got no ask answered Done. The thread promises to give the share
+/// back within the limit. Refused as Spawn if the system refuses the thread.
 fn start_thread<
     's,
     E,
@@ -402,21 +392,20 @@ fn start_thread<
     shared: &'s Shared<J, H>,
     share: Share,
     gate: &'s G,
-    work_limit: Option<u64>,
-) -> Result<Thread, MetFault>
+) -> Result<Thread<J>, MetFault>
     requires pass { IsPassOf shared.now.cell share.pass }
-    requires limit { IsWithinLimit work_limit share }
+    requires limit { KeepsLimit J.work_limit share.counts }
     requires dones { share.dones ≡ 0 }
-    ensures promise { HasPromised work_limit share.worker result }
+    ensures promise { HasPromised share.worker result }
     ensures spawn { IfErr result (λ e. e.met ≡ outside.Spawn) }
 {
     let promise = GivesBack {
         worker: share.worker(),
-        work_limit,
+        of: PhantomData,
     };
     let working = move || -> Result<Share, WrittenFault>
-        requires { IsPassOf shared.now.cell share.pass × KeepsLimit share.work_limit share.counts × (share.dones ≡ 0) }
-        ensures { IfOk result (λ back. IsGivenBack share.work_limit share.worker back) }
+        requires { IsPassOf shared.now.cell share.pass × KeepsLimit J.work_limit share.counts × (share.dones ≡ 0) }
+        ensures { IfOk result (λ back. IsGivenBack J.work_limit share.worker back) }
     { work(rt, alloc, shared, share, gate) };
     match scope.spawn_with(promise, working) {
         Ok(thread) => Ok(thread),
@@ -426,14 +415,14 @@ fn start_thread<
 
 /// Waits for all threads that were started. Returns the share of each, as it promised, in room that was made, or the last fault
 /// among them.
-fn join_threads<R: Threads>(
+fn join_threads<J: JobName, R: Threads>(
     rt: &R,
-    threads: Vec<Result<Thread, MetFault>>,
+    threads: Vec<Result<Thread<J>, MetFault>>,
     room: Vec<Share>,
 ) -> Result<Vec<Share>, WrittenFault>
     requires empty { room.items ≡ [] }
     requires room { length threads.items ≤ vec_capacity room }
-    ensures { IfOk result (λ back. AreGivenBy threads.items back.items) }
+    ensures { IfOk result (λ back. AreGivenBy J.work_limit threads.items back.items) }
 {
     let (mut back, mut refused) = (room, None);
     for thread in threads {
@@ -449,8 +438,11 @@ fn join_threads<R: Threads>(
 }
 
 /// The share that a thread gives back, as it promised, or the fault that is written in its place.
-fn join_thread<R: Threads>(rt: &R, thread: Result<Thread, MetFault>) -> Result<Share, WrittenFault>
-    ensures given { IfOk result (IsGivenBy thread) }
+fn join_thread<J: JobName, R: Threads>(
+    rt: &R,
+    thread: Result<Thread<J>, MetFault>,
+) -> Result<Share, WrittenFault>
+    ensures given { IfOk result (IsGivenBy J.work_limit thread) }
     ensures refused { IfErr result (λ written. IfErr thread (λ met. written ≡ met.written)) }
 {
     match thread {

@@ -3,7 +3,7 @@
 ghost use Rattle.std.specs.Prelude.{◌≡◌, true, All, IfOk, map};
 ghost use Rattle.std.specs.Coded.{codes};
 ghost use Rattle.rv_ledger.specs.contracts.job.Job.{the_row as job_row};
-ghost use Rattle.workers.specs.Book.{IsWithinLimit, zero_counts_of_all, counts_of_share};
+ghost use Rattle.workers.specs.Book.{zero_counts_of_all, counts_of_share};
 ghost use Rattle.workers.specs.DoneCell.{IsPassOf};
 
 use crate::book::{Book, JobName, MetFault, Share};
@@ -37,16 +37,17 @@ pub struct Shared<J: JobName = Brand, H: JobSource = Job> {
 
 impl<J: JobName> Shared<J> {
     ghost use Rattle.std.specs.Prelude.{◌≡◌, [], length, map, All, IfErr, IfOk, None};
-    ghost use Rattle.workers.specs.Book.{IsWithinLimit, zero_counts_of_all, counts_of_share};
+    ghost use Rattle.workers.specs.Book.{zero_counts_of_all, counts_of_share};
     ghost use Rattle.workers.specs.DoneCell.{IsPassOf};
 
-    /// The lock over a core at its start, with a cell that shows running; and one share per worker, in their order, each with
-    /// counts of zero, a pass of the cell, and no limit. If memory ran out, it returns the core's arena, without records.
+    /// The lock over a core at its start, with a cell that shows running, and without a limit of work; and one share per worker,
+    /// in their order, each with counts of zero and a pass of the cell. If memory ran out, it returns the core's arena, without
+    /// records.
     pub fn new(alloc: Global, core: Core) -> Result<(Shared<J>, Vec<Share>), Arena>
-        requires { core.job ≡ J.job }
+        requires job { core.job ≡ J.job }
+        requires limit { J.work_limit ≡ None }
         ensures shares { IfOk result (λ made. map counts_of_share made.1.items ≡ zero_counts_of_all (length core.state.tasks)) }
         ensures passes { IfOk result (λ made. All (λ share. IsPassOf made.0.cell share.pass) made.1.items) }
-        ensures limits { IfOk result (λ made. All (IsWithinLimit None) made.1.items) }
         ensures back { IfErr result (λ arena. arena.records ≡ []) }
     {
         let Ok(job) = core.job().copy() else {
@@ -58,12 +59,12 @@ impl<J: JobName> Shared<J> {
 
 impl<J: JobName, H: JobSource> Shared<J, H> {
     ghost use Rattle.std.specs.Prelude.{◌≡◌, ◌<◌, [], Some, length, map, slice_get, All, IfErr, IfOk};
-    ghost use Rattle.workers.specs.Book.{IsWithinLimit, zero_counts_of_all, counts_of_share, outside_fault};
+    ghost use Rattle.workers.specs.Book.{zero_counts_of_all, counts_of_share, outside_fault};
     ghost use Rattle.workers.specs.Work.{IsWrittenOver};
     ghost use Rattle.workers.specs.DoneCell.{IsPassOf};
 
-    /// The same with another holder of the job, whose calls the threads run and whose storage they search. If there is a limit,
-    /// each thread makes no more steps, not counting asks, than it allows.
+    /// The same with the limit of work that `J` names, and with another holder of the job, whose calls the threads run and whose
+    /// storage they search.
     pub(crate) fn over(
         alloc: Global,
         core: Core<H>,
@@ -72,15 +73,15 @@ impl<J: JobName, H: JobSource> Shared<J, H> {
     ) -> Result<(Shared<J, H>, Vec<Share>), Arena>
         requires core { core.job ≡ J.job }
         requires job { H.job job ≡ J.job }
+        requires limit { work_limit ≡ J.work_limit }
         ensures shares { IfOk result (λ made. map counts_of_share made.1.items ≡ zero_counts_of_all (length core.state.tasks)) }
         ensures passes { IfOk result (λ made. All (λ share. IsPassOf made.0.cell share.pass) made.1.items) }
-        ensures limits { IfOk result (λ made. All (IsWithinLimit work_limit) made.1.items) }
         ensures back { IfErr result (λ arena. arena.records ≡ []) }
     {
         let Ok(cell) = DoneCell::new(alloc) else {
             return Err(core.into_arena());
         };
-        match new_shares(alloc, core.workers(), &cell, work_limit) {
+        match new_shares(alloc, core.workers(), &cell) {
             Ok(shares) => {
                 let lock = Mutex::new(Book::within(core, work_limit));
                 Ok((Shared { lock, job, cell }, shares))
@@ -138,7 +139,7 @@ impl<J: JobName, H: JobSource> Shared<J, H> {
     /// that was written.
     pub(crate) fn refuse<R: Wait>(&self, rt: &R, fault: OutsideFault) -> MetFault
         ensures met { result.met ≡ fault }
-        ensures written { IsWrittenOver J.job (outside_fault fault) result.written }
+        ensures written { IsWrittenOver J.job J.work_limit (outside_fault fault) result.written }
     {
         let mut guard = self.wait_for(rt);
         let book = &mut *guard;
@@ -147,21 +148,15 @@ impl<J: JobName, H: JobSource> Shared<J, H> {
     }
 }
 
-/// One share per worker, in their order, each with counts of zero, a pass of the cell and the limit; refused if memory ran out.
+/// One share per worker, in their order, each with counts of zero and a pass of the cell; refused if memory ran out.
 #[tactic(auto, using(crate::proofs::Zeros::no_shares))]
-fn new_shares(
-    alloc: Global,
-    workers: usize,
-    cell: &DoneCell,
-    work_limit: Option<u64>,
-) -> Result<Vec<Share>, AllocError>
+fn new_shares(alloc: Global, workers: usize, cell: &DoneCell) -> Result<Vec<Share>, AllocError>
     ensures shares { IfOk result (λ shares. map counts_of_share shares.items ≡ zero_counts_of_all workers) }
     ensures passes { IfOk result (λ shares. All (λ share. IsPassOf cell.now share.pass) shares.items) }
-    ensures limits { IfOk result (λ shares. All (IsWithinLimit work_limit) shares.items) }
 {
     let mut shares = Vec::with_capacity(alloc, workers)?;
     for worker in 0..workers {
-        shares.push(Share::new(worker, cell.pass(), work_limit))?;
+        shares.push(Share::new(worker, cell.pass()))?;
     }
     Ok(shares)
 }

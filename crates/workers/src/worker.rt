@@ -21,10 +21,9 @@ use std::sync::Wait;
 use stm_core::{JobSource, NextStep, StepKind};
 
 /// The work of one thread. It makes the steps of its share's worker until an ask is answered Done, and then returns the share;
-/// the cell shows done then. It is refused as the call for its next step was refused, as StepLimit if the worker has made as many
-/// steps, not counting asks, as its share allows, as Memory if memory ran out, or as a fault that was written before. The fault
-/// is written, and the steps that were made stay made. If the share kept its limit before, the worker has made no more steps, not
-/// counting asks, than the limit.
+/// the cell shows done then. It is refused as the call for its next step was refused, or as Memory if memory ran out outside the
+/// lock. The fault is written, and the steps that were made stay made. If the share kept the limit before, the worker has made no
+/// more steps, not counting asks, than the limit.
 pub fn work<J: JobName, H: JobSource, R: Wait, G: Gate>(
     rt: &R,
     alloc: Global,
@@ -36,8 +35,8 @@ pub fn work<J: JobName, H: JobSource, R: Wait, G: Gate>(
     ensures worker { IfOk result (λ back. back.worker ≡ share.worker) }
     ensures dones { IfOk result (λ back. back.dones ≡ share.dones + 1) }
     ensures shown { IfOk result (λ back. cell_view back.pass ≡ 1) }
-    ensures keeps { IfOk result (λ back. KeepsLimit share.work_limit share.counts → KeepsLimit share.work_limit back.counts) }
-    ensures fault { IfErr result (λ e. IsWorkersEnd J.job share e) }
+    ensures keeps { IfOk result (λ back. KeepsLimit J.work_limit share.counts → KeepsLimit J.work_limit back.counts) }
+    ensures fault { IfErr result (λ e. IsWorkersEnd J.job J.work_limit share e) }
 {
     let patience = Patience::of(share.worker());
     work_spinning(rt, alloc, shared, share, gate, patience)
@@ -56,8 +55,8 @@ pub fn work_spinning<J: JobName, H: JobSource, R: Wait, G: Gate, S: Spin + Drop>
     ensures worker { IfOk result (λ back. back.worker ≡ share.worker) }
     ensures dones { IfOk result (λ back. back.dones ≡ share.dones + 1) }
     ensures shown { IfOk result (λ back. cell_view back.pass ≡ 1) }
-    ensures keeps { IfOk result (λ back. KeepsLimit share.work_limit share.counts → KeepsLimit share.work_limit back.counts) }
-    ensures fault { IfErr result (λ e. IsWorkersEnd J.job share e) }
+    ensures keeps { IfOk result (λ back. KeepsLimit J.work_limit share.counts → KeepsLimit J.work_limit back.counts) }
+    ensures fault { IfErr result (λ e. IsWorkersEnd J.job J.work_limit share e) }
 {
     let mut worker = Worker {
         rt,
@@ -95,8 +94,7 @@ impl<J: JobName, H: JobSource, R: Wait, G: Gate, S: Spin + Drop> Worker<'_, J, H
     ghost use Rattle.crossbeam_utils.specs.Seq.{cell_view};
     ghost use Rattle.stm_core.specs.CoreState.{IsWithin};
     ghost use Rattle.stm_core.specs.declared.next_step.NextStep.TheVariants as next_step;
-    ghost use Rattle.workers.specs.Book.{IsSpent};
-    ghost use Rattle.workers.specs.Work.{IsMakeAnswer, IsSameWorkers, IsStepAnswer, IsStepFault, IsStoppedBy, IsWorkersEnd, LeavesShare, Steps, StepsOrEnds, run_fault_of};
+    ghost use Rattle.workers.specs.Work.{IsMakeAnswer, IsStepAnswer, IsStepFault, IsWorkersEnd, LeavesShare, Steps, StepsOrEnds, run_fault_of};
 
     /// Its share.
     fn into_share(self) -> Share
@@ -109,9 +107,9 @@ impl<J: JobName, H: JobSource, R: Wait, G: Gate, S: Spin + Drop> Worker<'_, J, H
     /// Makes steps until an ask is answered Done. Refused as `work` is.
     #[tactic(auto, using(crate::proofs::Steps::first_step, crate::proofs::Steps::step_after))]
     fn make_steps(&mut self) -> Result<(), WorkFault>
-        ensures steps { LeavesShare (λ _. self.old.share.dones + 1) self.old.share self.new.share result }
+        ensures steps { LeavesShare J.work_limit (λ _. self.old.share.dones + 1) self.old.share self.new.share result }
         ensures shown { OnOk result (cell_view self.new.share.pass ≡ 1) }
-        ensures fault { IfErr result (λ e. IsWorkersEnd J.job self.old.share (run_fault_of e)) }
+        ensures fault { IfErr result (λ e. IsWorkersEnd J.job J.work_limit self.old.share (run_fault_of e)) }
     {
         let mut next = NextStep::Ask;
         for _ in self.rt.forever() {
@@ -128,11 +126,11 @@ impl<J: JobName, H: JobSource, R: Wait, G: Gate, S: Spin + Drop> Worker<'_, J, H
     /// then the cell shows it.
     fn make_step(&mut self, step: NextStep) -> Result<Option<NextStep>, WorkFault>
         requires within { IsWithin (length J.job.block) step }
-        ensures answer { IfOk result (λ next. IsStepAnswer J.job step self.old.share self.new.share next) }
+        ensures answer { IfOk result (λ next. IsStepAnswer J.job J.work_limit step self.old.share self.new.share next) }
         ensures within { IfOk result (λ next. IfSome next (λ owed. IsWithin (length J.job.block) owed)) }
-        ensures steps { StepsOrEnds self.old.share self.new.share result }
+        ensures steps { StepsOrEnds J.work_limit self.old.share self.new.share result }
         ensures shown { IfOk result (λ next. next ≡ None → cell_view self.new.share.pass ≡ 1) }
-        ensures fault { IfErr result (λ e. IsStepFault J.job step self.new.share e) }
+        ensures fault { IfErr result (λ e. IsStepFault J.job J.work_limit step self.new.share e) }
     {
         match step {
             NextStep::Ask => self.ask_for_work(),
@@ -153,34 +151,18 @@ impl<J: JobName, H: JobSource, R: Wait, G: Gate, S: Spin + Drop> Worker<'_, J, H
         }
     }
 
-    /// Has the book stop the worker, which makes no further step. The fault is StepLimit if the book agrees and no other fault
-    /// was written before.
-    fn stop_under_lock(&mut self) -> WrittenFault
-        requires spent { IsSpent self.old.share.work_limit self.old.share.counts }
-        ensures same { IsSameWorkers self.old.share self.new.share }
-        ensures stopped { IsStoppedBy J.job self.new.share result }
-    {
-        let mut guard = self.shared.hold(self.rt, &mut self.spin);
-        let book = &mut *guard;
-        book.holds();
-        book.stop(&self.share)
-    }
-
-    /// Makes a step of the worker's task that takes nothing else, if the worker may make one. Returns the step that it owes then.
+    /// Makes a step of the worker's task that takes nothing else. Returns the step that it owes then.
     fn make_task_step(
         &mut self,
         kind: StepKind,
         call: u16,
         incarnation: u16,
     ) -> Result<NextStep, WorkFault>
-        ensures answer { IfOk result (λ next. IsMakeAnswer J.job kind call incarnation self.old.share self.new.share (Ok next)) }
+        ensures answer { IfOk result (λ next. IsMakeAnswer J.job J.work_limit kind call incarnation self.old.share self.new.share (Ok next)) }
         ensures within { IfOk result (λ next. IsWithin (length J.job.block) next) }
-        ensures steps { Steps self.old.share self.new.share result }
-        ensures fault { IfErr result (λ e. IsStepFault J.job (next_step.Make kind call incarnation) self.new.share e) }
+        ensures steps { Steps J.work_limit self.old.share self.new.share result }
+        ensures fault { IfErr result (λ e. IsStepFault J.job J.work_limit (next_step.Make kind call incarnation) self.new.share e) }
     {
-        if self.share.is_spent() {
-            return Err(WorkFault::Refused(self.stop_under_lock()));
-        }
         match self.make_under_lock(kind, call, incarnation) {
             Ok(next) => Ok(next),
             Err(written) => Err(WorkFault::Refused(written)),
@@ -194,12 +176,12 @@ impl<J: JobName, H: JobSource, R: Wait, G: Gate, S: Spin + Drop> Worker<'_, J, H
         call: u16,
         incarnation: u16,
     ) -> Result<NextStep, WrittenFault>
-        ensures answer { IsMakeAnswer J.job kind call incarnation self.old.share self.new.share result }
+        ensures answer { IsMakeAnswer J.job J.work_limit kind call incarnation self.old.share self.new.share result }
         ensures within { IfOk result (λ next. IsWithin (length J.job.block) next) }
     {
         let mut guard = self.shared.hold(self.rt, &mut self.spin);
         let book = &mut *guard;
         book.holds();
-        book.make(&mut self.share, kind, call, incarnation)
+        book.make_owed(&mut self.share, kind, call, incarnation)
     }
 }

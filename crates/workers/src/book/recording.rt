@@ -16,10 +16,10 @@ impl<J: JobName, H: JobSource> Book<J, H> {
     ghost use Rattle.rv_step.specs.declared.ended_run.EndedRun.{EndedRun};
     ghost use Rattle.stm_core.specs.CoreState.{IsOwn, IsReadyOf, IsTaken, IsWithin, next_step_of};
     ghost use Rattle.stm_core.specs.declared.next_step.NextStep.TheVariants as next_step;
-    ghost use Rattle.workers.specs.Book.{IsCause, IsMade, LeavesWritten, Owes};
+    ghost use Rattle.workers.specs.Book.{IsCause, IsMade, LeavesWritten};
 
-    /// A worker hands in the ended run of a call at an incarnation. Returns the step that the worker owes now. Refused as `ask`
-    /// is, and as Foreign if the run is not of that call or its answers are not those that were given. Otherwise refused as
+    /// A worker hands in the ended run of a call at an incarnation. Returns the step that the worker owes now. Refused as `read`
+    /// is for a step, and as Foreign if the run is not of that call or its answers are not those that were given. Otherwise refused as
     /// ArenaFull, IncarnationLimit or Memory, tested in this order.
     #[tactic(auto, using(crate::proofs::Stays::stays, crate::proofs::Causes::unready_cause))]
     pub fn record(
@@ -35,7 +35,7 @@ impl<J: JobName, H: JobSource> Book<J, H> {
         ensures own { OnOk result (IsOwn share.old.worker run self.old.core) }
         ensures dones { OnOk result (share.new.dones ≡ share.old.dones) }
         ensures refused { IfErr result (λ e. LeavesWritten e self.old self.new share.old share.new) }
-        ensures cause { IfErr result (λ e. IsCause (Owes (next_step.Run call incarnation) share.old self.old.core) (IsOwn share.old.worker run self.old.core) (IsTaken share.old.worker steps.Record self.old.core) steps.Record share.old.worker self.old e) }
+        ensures cause { IfErr result (λ e. IsCause (next_step.Run call incarnation) share.old (IsOwn share.old.worker run self.old.core) (IsTaken share.old.worker steps.Record self.old.core) steps.Record self.old e) }
     {
         self.ready(share, NextStep::Run { call, incarnation })?;
         stm_state::dones_grow_at_done();
@@ -51,7 +51,7 @@ impl<J: JobName, H: JobSource> Book<J, H> {
     /// The same for a run that is ready to be recorded and known to be of that call. Afterwards `ready` holds what the record
     /// left over, so that it is dropped after the lock is released.
     #[tactic(auto, using(crate::proofs::Stays::stays, crate::proofs::Causes::unready_cause))]
-    pub(crate) fn record_ready(
+    pub(crate) fn take_run(
         &mut self,
         share: &mut Share,
         call: u16,
@@ -66,7 +66,7 @@ impl<J: JobName, H: JobSource> Book<J, H> {
         ensures own { (run : EndedRun) → IsReadyOf run ready.old → OnOk result (IsOwn share.old.worker run self.old.core) }
         ensures dones { OnOk result (share.new.dones ≡ share.old.dones) }
         ensures refused { IfErr result (λ e. LeavesWritten e self.old self.new share.old share.new) }
-        ensures cause { (run : EndedRun) → IsReadyOf run ready.old → IfErr result (λ e. IsCause (Owes (next_step.Run call incarnation) share.old self.old.core) (IsOwn share.old.worker run self.old.core) (IsTaken share.old.worker steps.Record self.old.core) steps.Record share.old.worker self.old e) }
+        ensures cause { (run : EndedRun) → IsReadyOf run ready.old → IfErr result (λ e. IsCause (next_step.Run call incarnation) share.old (IsOwn share.old.worker run self.old.core) (IsTaken share.old.worker steps.Record self.old.core) steps.Record self.old e) }
     {
         self.ready(share, NextStep::Run { call, incarnation })?;
         stm_state::dones_grow_at_done();

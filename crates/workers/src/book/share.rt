@@ -1,31 +1,30 @@
 //! What a worker owns: its share of the counts, and its pass of the block's cell.
 
-ghost use Rattle.std.specs.Prelude.{◌≡◌, ◌↔◌, true};
+ghost use Rattle.std.specs.Prelude.{◌≡◌, ◌<◌, ◌↔◌, false, true};
+ghost use Rattle.scheduler.specs.Schedule.{count_limit};
 ghost use Rattle.workers.specs.Book.{IsSpent};
 
 use crate::done_cell::DonePass;
 use rv_ledger::Counts;
 
 /// A worker's share of the counts, with its pass of the block's cell. The counts start at zero, and only the step calls of `Book`
-/// change them. If there is a limit, the worker stops after this many steps, not counting asks.
+/// change them.
 #[derive(Drop)]
 pub struct Share {
     pub(super) worker: usize,
     pub(super) counts: Counts,
     pub(super) dones: u64,
     pub(crate) pass: DonePass,
-    work_limit: Option<u64>,
 }
 
 impl Share {
-    ghost use Rattle.std.specs.Prelude.{◌≡◌, ◌↔◌, true};
-    ghost use Rattle.workers.specs.Book.{IsSpent, zero_counts, counts_of_share};
+    ghost use Rattle.std.specs.Prelude.{◌≡◌};
+    ghost use Rattle.workers.specs.Book.{zero_counts, counts_of_share};
 
-    /// The share of a worker that has done nothing yet, with its pass and its limit.
-    pub(crate) fn new(worker: usize, pass: DonePass, work_limit: Option<u64>) -> Share
+    /// The share of a worker that has done nothing yet, with its pass.
+    pub(crate) fn new(worker: usize, pass: DonePass) -> Share
         ensures counts { counts_of_share result ≡ zero_counts worker }
         ensures pass { result.pass ≡ pass }
-        ensures limit { result.work_limit ≡ work_limit }
     {
         Share {
             worker,
@@ -37,7 +36,6 @@ impl Share {
             },
             dones: 0,
             pass,
-            work_limit,
         }
     }
 
@@ -55,14 +53,6 @@ impl Share {
         self.counts
     }
 
-    /// Whether the worker makes no further step, by the share's limit.
-    #[inline(always)]
-    pub(crate) fn is_spent(&self) -> bool
-        ensures { (result ≡ true) ↔ IsSpent self.now.work_limit self.now.counts }
-    {
-        counts_are_spent(self.work_limit, self.counts)
-    }
-
     /// How many asks of the worker were answered Done.
     pub fn dones(&self) -> u64
         ensures { result ≡ self.now.dones }
@@ -75,7 +65,8 @@ impl Share {
 /// it has made at least this many steps that are not asks.
 #[inline(always)]
 pub(super) fn counts_are_spent(work_limit: Option<u64>, counts: Counts) -> bool
-    ensures { (result ≡ true) ↔ IsSpent work_limit counts }
+    ensures spent { (result ≡ true) ↔ IsSpent work_limit counts }
+    ensures below { result ≡ false → counts.steps < count_limit }
 {
     match work_limit {
         None => counts.steps == u64::MAX,

@@ -18,11 +18,11 @@ impl<J: JobName, H: JobSource, R: Wait, G: Gate, S: Spin + Drop> Worker<'_, J, H
     /// Asks for work, and returns the step that the worker owes then. Returns None if all is done, and then the cell shows it. A
     /// worker that gets no task looks at the cell before it asks again. One that backs off looks at it before this ask, too.
     pub(super) fn ask_for_work(&mut self) -> Result<Option<NextStep>, WorkFault>
-        ensures answer { IfOk result (λ next. IsStepAnswer J.job next_step.Ask self.old.share self.new.share next) }
+        ensures answer { IfOk result (λ next. IsStepAnswer J.job J.work_limit next_step.Ask self.old.share self.new.share next) }
         ensures within { IfOk result (λ next. IfSome next (λ owed. IsWithin (length J.job.block) owed)) }
-        ensures steps { StepsOrEnds self.old.share self.new.share result }
+        ensures steps { StepsOrEnds J.work_limit self.old.share self.new.share result }
         ensures shown { IfOk result (λ next. next ≡ None → cell_view self.new.share.pass ≡ 1) }
-        ensures fault { IfErr result (λ e. IsStepFault J.job next_step.Ask self.new.share e) }
+        ensures fault { IfErr result (λ e. IsStepFault J.job J.work_limit next_step.Ask self.new.share e) }
     {
         self.back_off();
         match self.ask_under_lock() {
@@ -36,7 +36,7 @@ impl<J: JobName, H: JobSource, R: Wait, G: Gate, S: Spin + Drop> Worker<'_, J, H
 
     /// Asks the book under the lock for work.
     fn ask_under_lock(&mut self) -> Result<Asked, WrittenFault>
-        ensures answer { IsAskAnswer J.job self.old.share self.new.share result }
+        ensures answer { IsAskAnswer J.job J.work_limit self.old.share self.new.share result }
         ensures within { IfOk result (λ asked. IsAskWithin (length J.job.block) asked) }
     {
         let mut guard = self.shared.hold(self.rt, &mut self.spin);

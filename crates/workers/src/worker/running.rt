@@ -27,10 +27,10 @@ impl<J: JobName, H: JobSource, R: Wait, G: Gate, S: Spin + Drop> Worker<'_, J, H
     /// and hands the run in. Returns the step that it owes then. A run is large, so it stays here until it is finished.
     pub(super) fn run_call(&mut self, call: u16, incarnation: u16) -> Result<NextStep, WorkFault>
         requires within { call < length J.job.block }
-        ensures answer { IfOk result (λ next. IsRunAnswer J.job call incarnation self.new.share next) }
+        ensures answer { IfOk result (λ next. IsRunAnswer J.job J.work_limit call incarnation self.new.share next) }
         ensures within { IfOk result (λ next. IsWithin (length J.job.block) next) }
-        ensures steps { Steps self.old.share self.new.share result }
-        ensures fault { IfErr result (λ e. IsStepFault J.job (next_step.Run call incarnation) self.new.share e) }
+        ensures steps { Steps J.work_limit self.old.share self.new.share result }
+        ensures fault { IfErr result (λ e. IsStepFault J.job J.work_limit (next_step.Run call incarnation) self.new.share e) }
     {
         let (alloc, shared) = (self.alloc, self.shared);
         let own = shared.call(call);
@@ -62,9 +62,9 @@ impl<J: JobName, H: JobSource, R: Wait, G: Gate, S: Spin + Drop> Worker<'_, J, H
     fn run_to_end(&mut self, call: u16, incarnation: u16, run: &mut Run) -> Result<bool, WorkFault>
         ensures call { run.new.call ≡ run.old.call }
         ensures ended { IfOk result (λ ended. ended ≡ true → IsEnded run.new.stage) }
-        ensures blocked { IfOk result (λ ended. ended ≡ false → IsBlocked J.job call incarnation self.new.share) }
-        ensures steps { Steps self.old.share self.new.share result }
-        ensures fault { IfErr result (λ e. IsStepFault J.job (next_step.Run call incarnation) self.new.share e) }
+        ensures blocked { IfOk result (λ ended. ended ≡ false → IsBlocked J.job J.work_limit call incarnation self.new.share) }
+        ensures steps { Steps J.work_limit self.old.share self.new.share result }
+        ensures fault { IfErr result (λ e. IsStepFault J.job J.work_limit (next_step.Run call incarnation) self.new.share e) }
     {
         for _ in self.rt.forever() {
             let Ok(pause) = run.go() else {
@@ -92,13 +92,10 @@ impl<J: JobName, H: JobSource, R: Wait, G: Gate, S: Spin + Drop> Worker<'_, J, H
         requires { run.old.stage ≡ stages.Asked key.now }
         ensures call { run.new.call ≡ run.old.call }
         ensures given { IfOk result (λ given. given ≡ true → run.new.stage ≢ stages.Asked key.now) }
-        ensures blocked { IfOk result (λ given. given ≡ false → IsBlocked J.job call incarnation self.new.share) }
-        ensures steps { Steps self.old.share self.new.share result }
-        ensures fault { IfErr result (λ e. IsStepFault J.job (next_step.Run call incarnation) self.new.share e) }
+        ensures blocked { IfOk result (λ given. given ≡ false → IsBlocked J.job J.work_limit call incarnation self.new.share) }
+        ensures steps { Steps J.work_limit self.old.share self.new.share result }
+        ensures fault { IfErr result (λ e. IsStepFault J.job J.work_limit (next_step.Run call incarnation) self.new.share e) }
     {
-        if self.share.is_spent() {
-            return Err(WorkFault::Refused(self.stop_under_lock()));
-        }
         let shared = self.shared;
         let base = LentValue::of_stored(shared.job.content(key));
         match self.read_under_lock(call, incarnation, key, base) {
@@ -122,7 +119,7 @@ impl<J: JobName, H: JobSource, R: Wait, G: Gate, S: Spin + Drop> Worker<'_, J, H
         base: Option<LentValue>,
     ) -> Result<ReadResult, WrittenFault>
         requires { lent_content base ≡ finite.get J.job.store key.now }
-        ensures { IsReadAnswer J.job key.now call incarnation self.old.share self.new.share result }
+        ensures { IsReadAnswer J.job J.work_limit key.now call incarnation self.old.share self.new.share result }
     {
         let mut guard = self.shared.hold(self.rt, &mut self.spin);
         let book = &mut *guard;
@@ -130,7 +127,7 @@ impl<J: JobName, H: JobSource, R: Wait, G: Gate, S: Spin + Drop> Worker<'_, J, H
         book.read_with_base(&mut self.share, call, incarnation, key, base)
     }
 
-    /// Hands in the ended run of a call, if the worker may make a step. Returns the step that it owes then.
+    /// Hands in the ended run of a call. Returns the step that it owes then.
     fn hand_in(
         &mut self,
         call: u16,
@@ -139,14 +136,11 @@ impl<J: JobName, H: JobSource, R: Wait, G: Gate, S: Spin + Drop> Worker<'_, J, H
     ) -> Result<NextStep, WorkFault>
         requires ready { (run : EndedRun) × IsReadyOf run ready.old }
         requires call { slice_get J.job.block call ≡ Some ready.old.call }
-        ensures answer { IfOk result (λ next. IsRecordAnswer J.job call incarnation self.old.share self.new.share (Ok next)) }
+        ensures answer { IfOk result (λ next. IsRecordAnswer J.job J.work_limit call incarnation self.old.share self.new.share (Ok next)) }
         ensures within { IfOk result (λ next. IsWithin (length J.job.block) next) }
-        ensures steps { Steps self.old.share self.new.share result }
-        ensures fault { IfErr result (λ e. IsStepFault J.job (next_step.Run call incarnation) self.new.share e) }
+        ensures steps { Steps J.work_limit self.old.share self.new.share result }
+        ensures fault { IfErr result (λ e. IsStepFault J.job J.work_limit (next_step.Run call incarnation) self.new.share e) }
     {
-        if self.share.is_spent() {
-            return Err(WorkFault::Refused(self.stop_under_lock()));
-        }
         match self.record_under_lock(call, incarnation, ready) {
             Ok(next) => Ok(next),
             Err(written) => Err(WorkFault::Refused(written)),
@@ -163,12 +157,12 @@ impl<J: JobName, H: JobSource, R: Wait, G: Gate, S: Spin + Drop> Worker<'_, J, H
     ) -> Result<NextStep, WrittenFault>
         requires ready { (run : EndedRun) × IsReadyOf run ready.old }
         requires call { slice_get J.job.block call ≡ Some ready.old.call }
-        ensures answer { IsRecordAnswer J.job call incarnation self.old.share self.new.share result }
+        ensures answer { IsRecordAnswer J.job J.work_limit call incarnation self.old.share self.new.share result }
         ensures within { IfOk result (λ next. IsWithin (length J.job.block) next) }
     {
         let mut guard = self.shared.hold(self.rt, &mut self.spin);
         let book = &mut *guard;
         book.holds();
-        book.record_ready(&mut self.share, call, incarnation, ready)
+        book.take_run(&mut self.share, call, incarnation, ready)
     }
 }

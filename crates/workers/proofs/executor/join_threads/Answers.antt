@@ -16,8 +16,8 @@ loop-thread-preserved-in-Ok g c =
       yielded = append_assoc before.yielded (thread ∷ []) rest ∙ ap (λ items. before.yielded ++ items) (sym c.in-Some.ensures.steps.0) ∙ kept.yielded;
       rest = search rules;
       within = (let within = kept.within in omega (arith, longer, pushed, within));
-      given = λ none. subst (AreGivenBy (before.yielded ++ thread ∷ [])) (sym c.push_reserved.ensures.items)
-          (given_push before.yielded before.back.items thread c.in-Ok.share (kept.given none) c.in-Ok.ensures.given);
+      given = λ none. subst (AreGivenBy (g.J.JobName.work_limit) (before.yielded ++ thread ∷ [])) (sym c.push_reserved.ensures.items)
+          (given_push (g.J.JobName.work_limit) before.yielded before.back.items thread c.in-Ok.share (kept.given none) c.in-Ok.ensures.given);
       room = search rules;
     }
 

@@ -9,6 +9,6 @@ invariant-loop-thread g l = record {
   yielded : l.yielded ++ into_iter_items l.thread-iterator ≡ l.fn.threads.items;
   rest : into_iter_len l.thread-iterator ≡ length (into_iter_items l.thread-iterator);
   within : vec_len l.back ≤ length l.yielded;
-  given : l.refused ≡ None → AreGivenBy l.yielded l.back.items;
+  given : l.refused ≡ None → AreGivenBy (g.J.JobName.work_limit) l.yielded l.back.items;
   room : length l.fn.threads.items ≤ vec_capacity l.back;
 }

@@ -49,7 +49,7 @@ pub invariant_of-self : goal.invariant_of-self
 invariant_of-self g c =
     let ready = c.in_ok-ready.ensures.ready in
     let same = c.self.view_is ∙ ready.3 in
-    between g.J.JobName.job c.self.inside.work_limit c.self.inside.passed c.self.inside.fault c.args.share.now.worker Ask c.self.inside.core c.ask-answer.new.self c.self.invariant
+    between g.J.JobName.job g.J.JobName.work_limit c.self.inside.work_limit c.self.inside.passed c.self.inside.fault c.args.share.now.worker Ask c.self.inside.core c.ask-answer.new.self c.self.invariant
     (ap (λ (b : BookState). b.fault) same ∙ ready.1) c.ask-answer.ensures.makes (subst (λ (b : BookState). c.args.share.now.worker < length b.core.state.tasks) (sym same) ready.0.agrees.within)
 
 pub update-requires-clause-way : goal.update-requires-clause-way

@@ -4,4 +4,4 @@ use Rattle.workers.proofs.executor.fn.run_each_share.scope.Goals as goal
 
 pub returns : goal.returns
 returns g c =
-    all_given c.captures.work_limit (length c.captures.shares.items) c.in_ok-threads.threads.items c.join_threads.result c.in_ok-threads.ensures.promises c.in_ok-threads.ensures.all c.join_threads.ensures
+    all_given (g.J.JobName.work_limit) (length c.captures.shares.items) c.in_ok-threads.threads.items c.join_threads.result c.in_ok-threads.ensures.promises c.in_ok-threads.ensures.all c.join_threads.ensures
