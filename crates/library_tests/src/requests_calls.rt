@@ -31,6 +31,10 @@ const INPUTS: &[(&[u8], &str)] = &[
         b"begin 7 - 13\n0123456789abcq\n",
         "begin 7 30313233343536373839616263 q end",
     ),
+    (
+        b"begin 9999999999 0123456789abcdef0123456789abcdef0123456789abcdef0123456789abcdef 9999999999\n",
+        "cut",
+    ),
     (b"program 2\n\x7fEq\n", "program 7f45 q end"),
     (b"program 131073\nab", "cut"),
     (b"frame 0100\n", "bad-line"),
@@ -39,6 +43,11 @@ const INPUTS: &[(&[u8], &str)] = &[
     (b"Frame 5\n", "bad-line"),
     (b"\n", "bad-line"),
     (b"q", "bad-line"),
+    (b"q 1\n", "bad-line"),
+    (
+        b"qqqqqqqqqqqqqqqqqqqqqqqqqqqqqqqqqqqqqqqqqqqqqqqqqqqqqqqqqqqqqqqqqqqqqqqqqqqqqqqqqqqqqqqqqqqqqqqqqqqqqqqqqqqqqqqqqqqqqqqqqqqqqqqq\nq\n",
+        "bad-line",
+    ),
     (b"frame 10000000000\n", "bad-line"),
     (b"frame 18446744073709551616\n", "bad-line"),
     (

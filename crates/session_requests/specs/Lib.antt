@@ -1,4 +1,3 @@
 pub mod Requests
 pub mod Written
 pub mod Reading
-pub mod Examples

@@ -100,7 +100,7 @@ fn begin_of(text: &[u8]) -> Option<RequestLine>
 
 impl RequestLine {
     /// How many bytes follow the line.
-    pub fn body_length(self) -> u64
+    pub(crate) fn body_length(self) -> u64
         ensures { result ≡ body_length self }
     {
         match self {
@@ -114,7 +114,7 @@ impl RequestLine {
 
     /// Whether more bytes follow the line than are allowed: 131,072 of a program, `frame_limit` of a frame that is
     /// run or tried.
-    pub fn is_too_long(self, frame_limit: u64) -> bool
+    pub(crate) fn is_too_long(self, frame_limit: u64) -> bool
         ensures { result ≡ is_too_long frame_limit self }
     {
         match self {

@@ -1,6 +1,6 @@
 //! The programs of a session's file, loaded as their rows are read.
 
-ghost use Rattle.std.specs.Prelude.{◌≡◌, false, IfOk, IfSome, None, Some};
+ghost use Rattle.std.specs.Prelude.{◌≡◌, false, IfErr, IfOk, IfSome, None, Some};
 ghost use Rattle.std.specs.Arc.{arc_value};
 ghost use Rattle.elf32.specs.Layout.{Layout};
 ghost use Rattle.session_states.specs.States.{AreLoadedAs, IsLoadedFrom};
@@ -86,10 +86,12 @@ impl Entries for ProgramLoader {
     }
 }
 
-/// Loads a program whose name is the SHA-256 of its file, or returns None if the file has a fault or another SHA-256.
+/// Loads a program whose name is the SHA-256 of its file, or returns None if the file has a fault or another SHA-256. Refused if
+/// the file is a program of its name and memory for it ran out.
 fn load_program(alloc: Global, name: &Key, file: &[u8]) -> Result<Option<Arc<Image>>, AllocError>
     ensures some { IfOk result (λ loaded. IfSome loaded (λ image. IsLoadedFrom name.now (Some file.now) (Some (arc_value image)))) }
     ensures none { IfOk result (λ loaded. loaded ≡ None → (image : Layout) → ¬ IsLoadedFrom name.now (Some file.now) (Some image)) }
+    ensures memory { IfErr result (λ _. (image : Layout) × IsLoadedFrom name.now (Some file.now) (Some image)) }
 {
     if Key::new(Sha256::digest(file)) != *name {
         return Ok(None);

@@ -13,7 +13,7 @@ use Rattle.session_requests.specs.Requests.{Frame}
 use Rattle.rv_ledger.specs.declared.rules.Rules.{Rules}
 use Rattle.session_turns.specs.Failures.{MayTurnFail, MayFailFrame}
 use Rattle.session_turns.specs.Pending.{IsPendingDue, IsPending, counting, long_frame, stopped_frame}
-use Rattle.session_turns.specs.Programs.{ProgramsByName, before, program_named, frame_programs}
+use Rattle.session_turns.specs.Programs.{IsFirstNamed, ProgramsByName, before, program_named, frame_programs}
 use Rattle.session_turns.specs.Replies.{Done, done_answer, refused_answer}
 use Rattle.session_turns.specs.Stages.{StageGives, FailsOnlyWhere, IsAccepted, IsRequestAnswered, IsRan, StopsAt, accepted_value, left_of, stopped_answer}
 use Rattle.session_turns.specs.Turn.{Accepted, Turn, ◌>>=◌, accepted, accepted_block, counted_turn, frame_answer, frame_turn, block_gas, is_above_limit, try_turn, unless}
@@ -109,10 +109,10 @@ tests_refuse false true rest p q h = cc
 
 -- the stage of the programs stopped: memory ran out, or a program is not here
 pub fails_programs : (settings : Settings) (s : State) (block : BlockValue) (why : Stop) → is_above_limit settings.frame_gas (block_gas block) ≡ false → nat_lt (rules_number block.rules) (rules_number s.rules) ≡ false
-    → (why ≡ stop.Failed want.Program) ⊎ ((frame_programs s.programs block.programs ≡ Err NoProgram) × (why ≡ stop.Refused NoProgram))
+    → ((why ≡ stop.Failed want.Program) × IsFirstNamed s.programs block.programs) ⊎ ((frame_programs s.programs block.programs ≡ Err NoProgram) × (why ≡ stop.Refused NoProgram))
     → FailsOnlyWhere {X = AcceptedFrame} (λ failure. (failure ≡ want.Program) × IfErr (accepted_block settings s block) (λ refusal. refusal ≡ NoProgram)) (Err why)
-fails_programs settings s block why gas rules (inl e) = subst
-    (λ (w : Stop). FailsOnlyWhere {X = AcceptedFrame} (λ failure. (failure ≡ want.Program) × IfErr (accepted_block settings s block) (λ refusal. refusal ≡ NoProgram)) (Err w)) (sym e)
+fails_programs settings s block why gas rules (inl p) = subst
+    (λ (w : Stop). FailsOnlyWhere {X = AcceptedFrame} (λ failure. (failure ≡ want.Program) × IfErr (accepted_block settings s block) (λ refusal. refusal ≡ NoProgram)) (Err w)) (sym p.0)
     (refl, tests_refuse (is_above_limit settings.frame_gas (block_gas block)) (nat_lt (rules_number block.rules) (rules_number s.rules)) _ gas rules (map_refuses block (frame_programs s.programs block.programs) (programs_refuse s.programs block.programs)))
 fails_programs settings s block why gas rules (inr p) = subst
     (λ (w : Stop). FailsOnlyWhere {X = AcceptedFrame} (λ failure. (failure ≡ want.Program) × IfErr (accepted_block settings s block) (λ refusal. refusal ≡ NoProgram)) (Err w)) (sym p.1) tt

@@ -1,13 +1,11 @@
 -- The programs of a session, by their names.
-use Rattle.std.specs.Prelude.{ℕ, List, [], ◌∷◌, Option, Some, None, Result, Ok, Err}
+use Rattle.std.specs.Prelude.{ℕ, List, [], ◌∷◌, Option, Some, None, Result, Ok, Err, IsOk}
 use Rattle.std.specs.FinMap.{FinMap, get}
 use Rattle.std.specs.Option.{ok_or}
 use Rattle.std.specs.Result.{result_map_both, result_ok}
 use Rattle.block_file.specs.Line.{field_key}
 use Rattle.elf32.specs.Layout.{Layout}
 use Rattle.rv_ledger.specs.Key.{key_cmp}
-use Rattle.programs.specs.declared.fault.ProgramFault.{ProgramFault}
-use Rattle.programs.specs.declared.fault.ProgramFault.TheVariants.{Unreadable}
 use Rattle.session_turns.specs.declared.refusal.FrameRefusal.{FrameRefusal}
 use Rattle.session_turns.specs.declared.refusal.FrameRefusal.TheVariants.{NoProgram}
 
@@ -33,6 +31,7 @@ abbrev pub frame_programs : ProgramsByName → List (List ℕ) → Result (List 
 frame_programs programs [] = Ok []
 frame_programs programs (path ∷ paths) = before (program_named programs path) (frame_programs programs paths)
 
--- the same of one name, as what loads programs has it: a name that names none is a path that can't be read
-abbrev pub program_in : ProgramsByName → List ℕ → Option (Result Layout ProgramFault)
-program_in programs path = Some (result_map_both (λ image. image) (λ _. Unreadable) (program_named programs path))
+-- the first of some names names a program
+abbrev pub IsFirstNamed : ProgramsByName → List (List ℕ) → Type 0
+IsFirstNamed programs [] = ⊥
+IsFirstNamed programs (path ∷ paths) = IsOk (program_named programs path)

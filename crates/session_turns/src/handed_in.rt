@@ -1,10 +1,10 @@
 //! Programs that are handed in, forgotten and named.
 
-ghost use Rattle.std.specs.Prelude.{◌≡◌, ◌⊎◌, ◌∷◌, [], Err, IfErr, IfOk, false, map};
+ghost use Rattle.std.specs.Prelude.{◌≡◌, ◌∷◌, [], Err, IfErr, IfOk, false, map};
 ghost use Rattle.std.specs.Arc.{arc_value};
 ghost use Rattle.std.specs.FinMap as fin;
 ghost use Rattle.std.specs.Option.{option_map};
-ghost use Rattle.elf32.specs.Image.{image_of};
+ghost use Rattle.elf32.specs.Image.{Gives, image_of};
 ghost use Rattle.receipts.specs.Buffer.{Appended};
 ghost use Rattle.session_requests.specs.Requests.{Forget, Program};
 ghost use Rattle.session_turns.specs.Pending.{IsPending};
@@ -51,7 +51,8 @@ pub(crate) fn hand_in(alloc: Global, state: &State, file: &[u8]) -> Pending
     }
 }
 
-/// The program of a file, or None if a program of its name is here already.
+/// The program of a file, or None if a program of its name is here already. Refused by the fault of the file if there is none,
+/// or as Memory if the file is a program and memory for it ran out.
 fn loaded(
     alloc: Global,
     programs: &ProgramTable,
@@ -59,7 +60,7 @@ fn loaded(
     file: &[u8],
 ) -> Result<Option<Arc<Image>>, ElfError>
     ensures says { IfOk result (λ image. IsLoaded programs.now name.now file.now (option_map arc_value image)) }
-    ensures err { IfErr result (λ fault. (fault ≡ ElfError.Memory) ⊎ ((fin.contains_key programs.now name.now ≡ false) × (image_of file.now ≡ Err fault))) }
+    ensures err { IfErr result (λ fault. (fin.contains_key programs.now name.now ≡ false) × Gives (Err fault) (image_of file.now)) }
 {
     if programs.get(name).is_some() {
         return Ok(None);

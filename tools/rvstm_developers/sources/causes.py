@@ -32,7 +32,7 @@ ALLOCATING = {
 """Calls of the kit that fail for want of memory alone."""
 AREAS = {
     "Failure :: Block": {"parse", "unkept_frame", "fail_unkept"},
-    "Failure :: Program": {"loaded", "pushed", "put_shared", "fail_unkept"},
+    "Failure :: Program": {"loaded", "push_shared", "put_shared", "fail_unkept"},
     "Failure :: Run": {"calls_over", "commit", "put_entries", "room_for_run", "run_calls"},
     "Failure :: Answer": {"EmptyBuffer :: new", "name_line", "receipts_text", "text_answer", "text_of_storage"},
     "SeqFault :: Memory": {"BufReader :: new", "find_conflicts", "into_result", "load_job", "run_in_order", "run_on_copy", "store_behind"},
@@ -46,7 +46,7 @@ AREAS = {
         "Replay :: start", "debug_lines_to", "go_run", "place_text", "push_str", "run_after", "step_run", "store_left", "vec",
     },
     "DebugFault :: Memory": {"heard_of", "line_text", "push"},
-    "OpenFault :: Memory": {"kind", "path_fault", "probe_fault", "store_fault", "unopened"},
+    "OpenFault :: Memory": {"from", "kind", "path_fault", "unopened"},
     "WriteFault :: Memory": {"TextBuffer :: new", "counts_text", "format"},
     "Cause :: Memory": {"", "finish", "from", "in_second_format", "parts"},
     "AsmCause :: Memory": {"", "as_answered", "from", "lines"},
