@@ -21,8 +21,9 @@ class InFolder(unittest.TestCase):
         self.folder = Path(place.name)
 
     def write(self, name: str, content: str | bytes) -> str:
-        """The path of a new file."""
+        """The path of a new file. One that is there is removed first: ext4 takes milliseconds to write over a file."""
         path = self.folder / name
+        path.unlink(missing_ok=True)
         path.write_bytes(content if isinstance(content, bytes) else content.encode())
         return str(path)
 

@@ -15,7 +15,7 @@ from tests.helpers import InFolder, called, called_with
 
 ALICE, BOB = (name.encode().ljust(32, b"\0").hex() for name in ("alice", "bob"))
 CHAIN = f"""\
-#!{sys.executable}
+#!{sys.executable} -IS
 import sys
 ANSWERS = {{
     b"state": b"rules 1\\nheight 1\\nkeys 2\\nprograms 1\\nframe-limit 67108864\\nframe-gas none\\nbrief 0\\ndigest " + b"ab" * 32 + b"\\n",

@@ -3,6 +3,7 @@
 import io
 import json
 import os
+import signal
 import subprocess
 import sys
 import unittest
@@ -210,6 +211,12 @@ class CommandLine(unittest.TestCase):
         self.assertEqual(self.ended(BrokenPipeError()), (Status.FAILED, "name: the output is closed\n"))
         self.assertEqual(self.ended(KeyboardInterrupt()), (Status.INTERRUPTED, "name: interrupted\n"))
 
+    def test_a_signal_that_is_taken_for_an_interrupt(self) -> None:
+        before = signal.getsignal(signal.SIGTERM)
+        with self.assertRaises(KeyboardInterrupt), errors.ended_by_signal():
+            signal.raise_signal(signal.SIGTERM)
+        self.assertIs(signal.getsignal(signal.SIGTERM), before)
+
     def test_a_letter_that_the_encoding_does_not_have(self) -> None:
         written = io.BytesIO()
         with mock.patch("sys.stdout", io.TextIOWrapper(written, encoding="ascii", write_through=True)):
@@ -225,14 +232,15 @@ class CommandLine(unittest.TestCase):
 
 class Launcher(InFolder):
     def test_from_another_folder(self) -> None:
+        """By its path and by a link, at the same time."""
         self.write("a.list", LIST)
         link = self.folder / "link"
         link.symlink_to(LAUNCHER)
-        for launcher in (LAUNCHER, link):
-            with self.subTest(launcher):
-                words = [sys.executable, str(launcher), "block", "a.list"]
-                done = subprocess.run(words, cwd=self.folder, capture_output=True, encoding="utf-8", check=False)
-                self.assertEqual((done.returncode, done.stdout, done.stderr), (0, BLOCK, ""))
+        words = [[sys.executable, "-S", str(launcher), "block", "a.list"] for launcher in (LAUNCHER, link)]
+        pipe = subprocess.PIPE
+        for run in [subprocess.Popen(word, cwd=self.folder, stdout=pipe, stderr=pipe, encoding="utf-8") for word in words]:
+            with self.subTest(run.args):
+                self.assertEqual((*run.communicate(), run.returncode), (BLOCK, "", 0))
 
     def test_a_closed_output(self) -> None:
         path = self.write("a.list", "program a a.elf\n" + "call a 9\n" * 1000)

@@ -49,9 +49,12 @@ class OfCommands(unittest.TestCase):
     def test_no_command(self) -> None:
         with self.assertRaises(MisuseError):
             commandline.run("no-such-command", [])
-        for words in "", "no-such-command":
-            done = subprocess.run([TOP / "tools/rvstm-developers", *words.split()], capture_output=True, encoding="utf-8", check=False)
-            self.assertEqual((done.returncode, done.stdout), (2, ""))
+        for words in (["rvstm-developers"], ["rvstm-developers", "no-such-command"]):
+            said, faults = io.StringIO(), io.StringIO()
+            with mock.patch("sys.argv", words), contextlib.redirect_stdout(said), contextlib.redirect_stderr(faults):
+                self.assertEqual(commandline.main(), 2)
+            self.assertEqual(said.getvalue(), "")
+            self.assertIn("no command is named", faults.getvalue())
 
     def test_a_script_runs_its_command_from_any_folder(self) -> None:
         done = subprocess.run([TOP / "bench/run", "--help"], cwd="/", capture_output=True, encoding="utf-8", check=True)

@@ -1,6 +1,9 @@
 """Exploring: each line of a description, expressions that raise, what is drawn, and sequences that are shortened."""
 
+import abc
+import contextlib
 import io
+import itertools
 import json
 import random
 import unittest
@@ -8,8 +11,9 @@ from pathlib import Path
 from types import SimpleNamespace
 from unittest import mock
 
+from rvstm_tools import errors
 from rvstm_tools.errors import UserError
-from rvstm_tools.exploring import expressions, foundlists, saved, shortening, storages
+from rvstm_tools.exploring import expressions, foundlists, runs, saved, shortening, storages
 from rvstm_tools.exploring.descriptions import Description
 from rvstm_tools.exploring.expressions import Raised, Rule
 from rvstm_tools.exploring.places import AnyBytes, DrawnBytes, Numbers, Span, Words
@@ -19,6 +23,9 @@ from rvstm_tools.exploring.runs import Call, Finding, Run
 from rvstm_tools.exploring.saved import SavedCall
 from rvstm_tools.exploring.shortening import Shorter
 from rvstm_tools.exploring.storages import StorageByReceipts
+from rvstm_tools.sessions.answers import Answer, Done
+from rvstm_tools.sessions.processes import Settings
+from rvstm_tools.sessions.requests import Request, Word
 from rvstm_tools.texts import words
 from rvstm_tools.texts.keys import Key
 from rvstm_tools.texts.lists import STORAGE
@@ -34,6 +41,11 @@ CALL = f"{BEGIN}call echo 100 u8:{{some}}\n"
 
 DRAWN = [60, 24, 24, 8, 7, 0, 17, 53, 56, 0, 7, 26]
 """What scripts/explore, which this package replaces, drew of `draw N 0..60` with the seed 1:0, if 7 was seen."""
+
+
+def setUpModule() -> None:
+    """SIGTERM ends these tests at once. `explore` would take it for Ctrl-C, and end with a status for which its test would fail."""
+    unittest.enterModuleContext(mock.patch.object(errors, "ended_by_signal", contextlib.nullcontext))
 
 
 class OfDescriptions(InFolder):
@@ -272,41 +284,89 @@ class OfWords(unittest.TestCase):
         self.assertEqual(foundlists.shown_change(A, Added(7), View()), "add 7")
 
 
-# A session whose calls return their input, and write the last byte of it at the key `a`; 66 is never written.
-CHAIN = """\
-#!/usr/bin/env python3
-import sys
-key = b"a".hex().ljust(64, "0")
-while line := sys.stdin.buffer.readline():
-    words = line.split()
-    body = sys.stdin.buffer.read(int(words[-1])) if len(words) > 1 else b""
-    said = []
-    if words[0] == b"frame":
-        calls = [row.split() for row in body.decode().splitlines() if row.startswith("call ")]
-        for number, (_, _, _, data) in enumerate(calls):
-            said.append("call %d returned gas 5 pc 00010000 out %s\\n" % (number, data))
-            said += [] if data[-2:] == "42" else ["write %d %s %s\\n" % (number, key, data[-2:])]
-        said.append("end\\n")
-    text = "".join(said)
-    sys.stdout.write("ok %d\\n%s" % (len(text), text))
-    sys.stdout.flush()
-"""
+REVERTED = "call {} reverted gas 5 pc 00010000 out 6e6f\n"
+RETURNED = "call {} returned gas 5 pc 00010000 out {}\n"
 
 
-class OfRuns(InFolder):
+class InPlace(abc.ABC):
+    """Used in place of a session of `rvstm chain`, without a process: it answers a frame by what each call does."""
+
+    def __init__(self, _: Path, settings: Settings) -> None:
+        assert settings == Settings(brief=True)
+
+    def ask(self, request: Request) -> Answer:
+        if request.word == Word.BEGIN:
+            self.begin()
+        if request.word != Word.FRAME:
+            return Done()
+        calls = [line.split()[3] for line in request.body.decode().splitlines() if line.startswith("call ")]
+        return Done("".join([*map(self.receipt, itertools.count(), calls), "end\n"]).encode())
+
+    def begin(self) -> None:
+        """Begins with an empty storage."""
+
+    @abc.abstractmethod
+    def receipt(self, number: int, data: str) -> str:
+        """The lines of the call of this number with this input in hex."""
+
+    def kill(self) -> None:
+        """There is nothing to end."""
+
+
+class Chain(InPlace):
+    """Calls return their input, and write the last byte of it at the key `a`; 66 is never written."""
+
+    def receipt(self, number: int, data: str) -> str:
+        written = "" if data[-2:] == "42" else f"write {number} {A.hex()} {data[-2:]}\n"
+        return RETURNED.format(number, data) + written
+
+
+class Bank(InPlace):
+    """A balance at key `a`: 00 N adds N, 01 N takes N away if so much is there, and otherwise reverts."""
+
+    balance = 0
+
+    def begin(self) -> None:
+        self.balance = 0
+
+    def receipt(self, number: int, data: str) -> str:
+        left = self.balance + int(data[2:], 16) * (-1 if data[:2] == "01" else 1)
+        if left < 0:
+            return REVERTED.format(number)
+        self.balance = left
+        value = left.to_bytes(8, "little").hex()
+        return RETURNED.format(number, value) + f"write {number} {A.hex()} {value}\n"
+
+
+class BankThatAdds(Bank):
+    """01 N adds, too, but for 77: that reverts."""
+
+    def receipt(self, number: int, data: str) -> str:
+        return REVERTED.format(number) if data == "014d" else super().receipt(number, f"00{data[2:]}")
+
+
+class Explored(InFolder):
+    """Explorations with a session in this process."""
+
+    SESSION: type[InPlace] = Chain
+
     def setUp(self) -> None:
         super().setUp()
-        few = mock.patch.object(shortening, "OTHERS", 20)  # so that the tests are fast
-        few.start()
-        self.addCleanup(few.stop)
-        self.program = Path(self.write("rvstm", CHAIN))
+        self.enterContext(mock.patch.object(shortening, "OTHERS", 20))  # so that the tests are fast
+        self.use(self.SESSION)
+        self.program = Path(self.write("rvstm", "the session is not of this file"))
         self.program.chmod(0o755)
-        self.write("echo.elf", "a program")
+        self.write("echo.elf", "a program\n")
 
+    def use(self, session: type[InPlace]) -> None:
+        self.enterContext(mock.patch.object(runs, "Session", session))
+
+
+class OfRuns(Explored):
     def explored(self, rule: str, *more: str) -> tuple[int, list[str]]:
         text = f"program echo echo.elf\ndraw some 0..200\ncall echo 100 u8:{{some}}\n{rule}\n"
         path = self.write("a.explore", text)
-        words = ["explore", "--program", str(self.program), path, "--calls", "2000", *more]
+        words = ["explore", "--program", str(self.program), path, "--calls", "2000", "--jobs", "1", *more]
         status, output, faults = called(*words)
         self.assertEqual(faults, "")
         return status, output.splitlines()
@@ -351,12 +411,6 @@ class OfRuns(InFolder):
         one, other = self.explored("returned some < 190"), self.explored("returned some < 190")
         self.assertEqual([line for line in one[1] if " s" not in line], [line for line in other[1] if " s" not in line])
 
-    def test_a_refused_frame(self) -> None:
-        self.program.write_text("#!/bin/sh\nwhile read line; do echo refused elf BadMagic 2; done\n", encoding="utf-8")
-        path = self.write("b.explore", CALL)
-        words = ["explore", "--program", str(self.program), path]
-        self.assertEqual(called(*words), (2, "", f"explore: {self.folder}/echo.elf: refused elf BadMagic 2\n"))
-
     def test_wrong_command_lines(self) -> None:
         for words, message in (
             (("a", "--calls", "0"), "--calls: 0: it is a number of at least 1"),
@@ -373,32 +427,36 @@ class OfRuns(InFolder):
         self.assertEqual((status, faults), (2, f"explore: {self.folder}/nowhere: No such file or directory\n"))
 
 
-# A session over a balance at key `a`: 00 N adds N, 01 N takes N away if so much is there, and otherwise reverts.
-BANK = """\
-#!/usr/bin/env python3
-import sys
-key, balance = b"a".hex().ljust(64, "0"), 0
-while line := sys.stdin.buffer.readline():
-    words = line.split()
-    body = sys.stdin.buffer.read(int(words[-1])) if len(words) > 1 else b""
-    said = []
-    if words[0] == b"begin":
-        balance = 0
-    if words[0] == b"frame":
-        calls = [row.split()[3] for row in body.decode().splitlines() if row.startswith("call ")]
-        for number, data in enumerate(calls):
-            amount = int(data[2:], 16) * (-1 if data[:2] == "01" else 1)
-            if balance + amount < 0:
-                said.append("call %d reverted gas 5 pc 00010000 out 6e6f\\n" % number)
-                continue
-            balance += amount
-            value = balance.to_bytes(8, "little").hex()
-            said.append("call %d returned gas 5 pc 00010000 out %s\\nwrite %d %s %s\\n" % (number, value, number, key, value))
-        said.append("end\\n")
-    text = "".join(said)
-    sys.stdout.write("ok %d\\n%s" % (len(text), text))
-    sys.stdout.flush()
+class OverProcesses(InFolder):
+    """The session is a process, as it is outside of tests. It reads the bytes of each request, and answers each frame of one call."""
+
+    SESSION = """\
+#!/bin/sh
+while read -r line; do
+    head -c ${line##* } >/dev/null
+    case $line in
+    frame*) printf 'ok 45\\ncall 0 returned gas 5 pc 00010000 out 07\\nend\\n' ;;
+    *) echo ok 0 ;;
+    esac
+done
 """
+
+    def explored(self, session: str, *words: str) -> tuple[int, str, str]:
+        program = Path(self.write("rvstm", session))
+        program.chmod(0o755)
+        self.write("echo.elf", "a program")
+        return called("explore", "--program", str(program), self.write("a.explore", CALL), *words)
+
+    def test_answers(self) -> None:
+        status, output, faults = self.explored(self.SESSION, "--calls", "7", "--length", "1")
+        self.assertEqual((status, output.splitlines()[1:], faults), (0, [
+            "  line 5: call echo 100 u8:{some}", "            7  returned", "nothing is broken"], ""))
+
+    def test_a_refused_program(self) -> None:
+        refused = "#!/bin/sh\nwhile read line; do echo refused elf BadMagic 2; done\n"
+        self.assertEqual(self.explored(refused), (2, "", f"explore: {self.folder}/echo.elf: refused elf BadMagic 2\n"))
+
+
 BANK_CALLS = "program bank echo.elf\ndraw n 1..200\n{model}call bank 100 00 u8:{{n}}\n{more}call bank 100 01 u8:{{n}}\n{most}"
 MODEL = """\
 class Bank:
@@ -420,19 +478,11 @@ class Bank:
 """
 
 
-class OverBank(InFolder):
+class OverBank(Explored):
     """Tests with a session whose calls depend on one another."""
 
+    SESSION = Bank
     CALLS = 1000
-
-    def setUp(self) -> None:
-        super().setUp()
-        self.program = Path(self.write("rvstm", BANK))
-        self.program.chmod(0o755)
-        self.write("echo.elf", "a program")
-        few = mock.patch.object(shortening, "OTHERS", 20)  # so that the tests are fast
-        few.start()
-        self.addCleanup(few.stop)
 
     def described(self, *, model: str = "", more: str = "", most: str = "") -> str:
         """The path of a description."""
@@ -547,8 +597,7 @@ class OfSearches(OverBank):
         self.assertEqual(self.explored(path, *words)[0], 1)
         status, lines, _ = self.explored(path, *words)
         self.assertEqual((status, lines[0].replace(f"{self.folder}/", "")), (1, "still broken by the calls of kept/found.list: line 5: returned n != 77"))
-        bank = BANK.replace('data[:2] == "01"', 'data == "014d"').replace("balance + amount < 0", 'data == "014d"')
-        self.program.write_text(bank, encoding="utf-8")
+        self.use(BankThatAdds)
         self.write("echo.elf", "another program")
         status, lines, _ = self.explored(path, *words)
         self.assertEqual((status, lines[0], lines[-1]), (0, "the calls that were found before break nothing now", "nothing is broken"))

@@ -1,6 +1,7 @@
 """gdb's remote protocol: packets by GDB's manual, and the moves of a call that a small program replays."""
 
 import os
+import sys
 import unittest
 from pathlib import Path
 from unittest import mock
@@ -16,8 +17,7 @@ from rvstm_tools.texts.views import View
 from tests.helpers import InFolder
 
 # A call of 61 steps: three instructions again and again, and RETURN. The first one of the three counts a byte up.
-DEBUG = """\
-#!/usr/bin/env python3
+DEBUG = f"#!{sys.executable} -IS\n" """\
 import sys
 LAST = 60
 at = 0

@@ -138,7 +138,8 @@ class New(InFolder):
 @unittest.skipUnless(all(map(shutil.which, ("clang", "ld.lld", "make", "llvm-addr2line"))), "clang, lld, llvm or make is missing")
 class Built(InFolder):
     def test_it_is_a_program(self) -> None:
-        status, _, faults = called("new", f"{self.folder}/votes")
+        with mock.patch.dict(os.environ, {"MAKEFLAGS": "-j2"}):  # the program, and beside it the one with lines
+            status, _, faults = called("new", f"{self.folder}/votes")
         self.assertEqual((status, faults), (0, ""))
         self.assertTrue((self.folder / "votes/votes.elf").read_bytes().startswith(b"\x7fELF"))
 

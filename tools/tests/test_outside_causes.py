@@ -2,11 +2,10 @@
 
 import contextlib
 import io
-import pathlib
-import tempfile
 import unittest
 
 from rvstm_developers import commandline
+from tests.helpers import InFolder
 
 # What each names, and a source in which one place is wrong.
 WRONG = {
@@ -58,30 +57,27 @@ RIGHT = {
 }
 
 
-def wrong_places(text: str) -> int:
-    """How many places of a source the check finds wrong."""
-    with tempfile.TemporaryDirectory() as folder:
-        source = pathlib.Path(folder) / "crate/src/lib.rt"
-        source.parent.mkdir(parents=True)
-        source.write_text(text, encoding="utf-8")
+class OutsideCauses(InFolder):
+    def wrong_places(self, text: str) -> int:
+        """How many places of a source the check finds wrong."""
+        (self.folder / "crate/src").mkdir(parents=True, exist_ok=True)
+        self.write("crate/src/lib.rt", text)
         said = io.StringIO()
         with contextlib.redirect_stdout(said):
-            status = commandline.run("outside-causes", [folder])
+            status = commandline.run("outside-causes", [str(self.folder)])
         count = int(said.getvalue().split()[-2])
-        assert status == (count > 0), said.getvalue()
+        self.assertEqual(status, count > 0, said.getvalue())
         return count
 
-
-class OutsideCauses(unittest.TestCase):
     def test_wrong_places_are_found(self) -> None:
         for name, text in WRONG.items():
             with self.subTest(name):
-                self.assertGreater(wrong_places(text), 0)
+                self.assertGreater(self.wrong_places(text), 0)
 
     def test_right_forms_pass(self) -> None:
         for name, text in RIGHT.items():
             with self.subTest(name):
-                self.assertEqual(wrong_places(text), 0)
+                self.assertEqual(self.wrong_places(text), 0)
 
 
 if __name__ == "__main__":

@@ -1,5 +1,6 @@
 """Replays and traces of a call, by a program that answers the lines of `debug` as docs/formats.md says."""
 
+import sys
 import unittest
 from pathlib import Path
 
@@ -26,8 +27,7 @@ STEPS = """\
 5 00010008 ecall
 6 00010008 ecall
 """
-DEBUG = """\
-#!/usr/bin/env python3
+DEBUG = f"#!{sys.executable} -IS\n" """\
 import sys
 steps = STEPS
 registers = {1: {10: 0x100000, 11: 0x100040, 12: 64, 17: 0}, 2: {10: 3}, 5: {10: 0x100020, 11: 2, 17: 3}}

@@ -43,7 +43,7 @@ class AgainstTheModel(unittest.TestCase):
     def test_keys_and_their_words(self) -> None:
         """Each key is that of the model; what is shown of it, as a row and as hex, says the same key."""
         made = Generator(5)
-        for _ in range(5000):
+        for _ in range(1000):
             table, row = made.table(), made.row(made.random.randint(1, 28))
             key = Row(table, row).key
             self.assertEqual(key, model_key(table, row))
@@ -57,14 +57,14 @@ class AgainstTheModel(unittest.TestCase):
         """Rows of all pairs of lengths, in tables whose names begin alike. A table has rows of 28 bytes, or others."""
         made = Generator(6)
         for one in range(28):
-            for other in range(28):
+            for other in range(one + 1):
                 pairs = {(table, row) for table in ("a", "ab", "abcd") for row in (made.row(one), made.row(other))}
                 pairs |= {(table, made.row(28)) for table in ("L", "abL")}
                 self.assertEqual(len({Row(table, row).key for table, row in pairs}), len(pairs))
 
     def test_what_is_shown_of_any_key_says_it(self) -> None:
         made = Generator(7)
-        for _ in range(5000):
+        for _ in range(1000):
             key = Key(made.row(32))
             self.assertEqual(words.key_of(View().key(key)), key)
             self.assertEqual(words.key_of(View().word_of_key(key)), key)

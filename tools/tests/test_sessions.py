@@ -171,29 +171,35 @@ class Processes(InFolder):
 
 
 CHAIN = f"""\
-#!{sys.executable}
+#!{sys.executable} -IS
 # A session whose file has its height. It dies once over a frame that says so.
-import os, pathlib, signal, sys
-height, died = pathlib.Path("FOLDER/height"), pathlib.Path("FOLDER/died")
+import os, sys
+def height():
+    with open("FOLDER/height", "rb") as file:
+        return file.read()
+def kill():
+    os.kill(os.getpid(), 9)
 def die(text, *, wanted):
-    if text == wanted and not died.exists():
-        died.touch()
-        os.kill(os.getpid(), signal.SIGKILL)
+    if text == wanted and not os.path.exists("FOLDER/died"):
+        open("FOLDER/died", "xb").close()
+        kill()
 while line := sys.stdin.buffer.readline():
     words = line.split()
     body = sys.stdin.buffer.read(int(words[-1])) if words[0] in (b"program", b"frame") else b""
     answer = b""
     if words[0] == b"frame":
         die(body, wanted=b"die before")
-        height.write_text(str(int(height.read_text()) + (2 if body == b"two" else 1)))
+        higher = b"%d" % (int(height()) + (2 if body == b"two" else 1))
+        with open("FOLDER/height", "wb") as file:
+            file.write(higher)
         die(body, wanted=b"die after")
         if body == b"two":
-            os.kill(os.getpid(), signal.SIGKILL)
+            kill()
         answer = b"answer to " + body
     elif words[0] == b"last":
         answer = b"the last answer"
     elif words[0] == b"state":
-        answer = b"rules 1\\nheight %s\\nkeys 0\\nprograms 0\\nframe-limit 9\\nframe-gas none\\nbrief 0\\n" % height.read_bytes()
+        answer = b"rules 1\\nheight %s\\nkeys 0\\nprograms 0\\nframe-limit 9\\nframe-gas none\\nbrief 0\\n" % height()
     sys.stdout.buffer.write(b"ok %d\\n" % len(answer) + answer)
     sys.stdout.flush()
 """

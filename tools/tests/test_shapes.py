@@ -90,7 +90,7 @@ class AgainstTheModel(unittest.TestCase):
     def test_values(self) -> None:
         """Random fields are shown as the model says, and the words of the value say its bytes again."""
         model = Model(3)
-        for _ in range(3000):
+        for _ in range(600):
             fields = [model.field(model.random.choice(["", f"name{number}"])) for number in range(model.random.randint(1, 5))]
             data = b"".join(field.data for field in fields)
             view = view_of("row:lots " + " ".join(field.word for field in fields))
@@ -100,7 +100,7 @@ class AgainstTheModel(unittest.TestCase):
 
     def test_a_part_that_is_repeated(self) -> None:
         model = Model(4)
-        for _ in range(500):
+        for _ in range(200):
             first, count = model.field("first"), model.random.randint(0, 4)
             numbers = [(model.random.randbytes(20), model.random.randrange(2**16)) for _ in range(count)]
             data = first.data + b"".join(struct.pack("<20sH", account, number) for account, number in numbers)
