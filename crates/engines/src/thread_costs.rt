@@ -1,6 +1,6 @@
 //! When calls run faster by threads.
 
-use rv_ledger::Receipt;
+use rv_ledger::{Change, Receipt, Writes};
 
 /// What a call costs by threads besides its own steps, in gas: its steps under the lock, one after the other. A transfer's gas,
 /// some 1,270, goes into storage calls, which are no faster by threads; so by this cost such calls run in order.
@@ -8,6 +8,9 @@ const CALL_COST: u64 = 1_500;
 
 /// What a read costs by threads, in gas: it is made and checked under the lock.
 const READ_COST: u64 = 300;
+
+/// What an addition costs by threads, in gas, besides its call: later reads of its key pass it, and their checks compare it.
+const SUM_COST: u64 = 600;
 
 /// What a worker costs, in gas: its thread.
 const WORKER_COST: u64 = 10_000;
@@ -21,19 +24,24 @@ pub(crate) struct Shown {
     pub(crate) gas: u64,
     /// How often they read the storage.
     reads: u64,
+    /// To how many keys they added, each call counted by itself.
+    sums: u64,
 }
 
 impl Shown {
     /// What calls with these receipts took.
     pub(crate) fn of(receipts: &[Receipt], reads: u64) -> Shown {
         let mut gas: u64 = 0;
+        let mut sums: u64 = 0;
         for receipt in receipts {
             gas = gas.saturating_add(u64::from(receipt.gas));
+            sums = sums.saturating_add(sums_in(&receipt.writes));
         }
         Shown {
             calls: receipts.len() as u64,
             gas,
             reads,
+            sums,
         }
     }
 
@@ -43,6 +51,7 @@ impl Shown {
             calls: self.calls.saturating_add(others.calls),
             gas: self.gas.saturating_add(others.gas),
             reads: self.reads.saturating_add(others.reads),
+            sums: self.sums.saturating_add(others.sums),
         }
     }
 
@@ -51,10 +60,27 @@ impl Shown {
         self.gas.checked_div(self.calls).unwrap_or(0)
     }
 
+    /// What the additions of a call cost on average; 0 if there is no call.
+    fn cost_of_sums(self) -> u64 {
+        let costs = self.sums.saturating_mul(SUM_COST);
+        costs.checked_div(self.calls).unwrap_or(0)
+    }
+
     /// How often a call read the storage on average; 0 if there is no call.
     pub(crate) fn reads_of_each(self) -> u64 {
         self.reads.checked_div(self.calls).unwrap_or(0)
     }
+}
+
+/// To how many keys a call added.
+fn sums_in(writes: &Writes) -> u64 {
+    let mut sums: u64 = 0;
+    for (_, change) in writes.as_slice() {
+        if let Change::Sum(_) = change {
+            sums = sums.saturating_add(1);
+        }
+    }
+    sums
 }
 
 /// Whether this many calls, if they are like those in `shown`, run faster by threads. Threads save the gas of the calls, less
@@ -67,6 +93,7 @@ pub(crate) fn pays(workers: usize, shown: Shown, calls: usize) -> bool {
     let cost_of_each = shown
         .reads_of_each()
         .saturating_mul(READ_COST)
+        .saturating_add(shown.cost_of_sums())
         .saturating_add(CALL_COST);
     let costs = calls
         .saturating_mul(cost_of_each)
