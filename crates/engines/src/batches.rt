@@ -2,7 +2,7 @@
 
 ghost use Rattle.std.specs.Prelude.{◌≡◌, ◌≤◌, IfSome};
 
-use crate::thread_costs::{Shown, pays};
+use crate::thread_costs::{Shown, WORKER_COST, pays};
 use rv_ledger::Receipt;
 
 /// How many calls of a frame run in order first.
@@ -57,7 +57,7 @@ pub(crate) struct Batches {
     last: Shown,
     /// The gas of all calls that were run.
     gas: u64,
-    /// The gas that threads have saved: that of the calls that they ran, less one thread's part of it.
+    /// The gas that threads have saved: that of the calls that they ran, less one thread's part of it and what threads cost.
     saved: u64,
 }
 
@@ -116,14 +116,13 @@ impl Batches {
     /// worker.
     fn most_calls(&self, gas_of_each: u64, steps: u64) -> usize {
         let workers = self.workers.max(1);
-        let gas = self
-            .saved
-            .saturating_add(gas_of_each)
-            .saturating_mul(workers as u64)
-            .max(LEAST_GAS)
-            .min(MOST_GAS);
+        let gas_of_each = gas_of_each.max(1);
+        let time_of_each = (gas_of_each / workers as u64).saturating_add(self.last.cost_of_each());
         let steps_of_each = self.last.reads_of_each().saturating_add(STEPS_BESIDE_READS);
-        let calls = (gas / gas_of_each.max(1)).min(steps / 2 / steps_of_each.max(1));
+        let calls = (self.saved.saturating_add(gas_of_each) / time_of_each.max(1))
+            .max(LEAST_GAS / gas_of_each)
+            .min(MOST_GAS / gas_of_each)
+            .min(steps / 2 / steps_of_each.max(1));
         let rounds = (calls as usize).saturating_add(workers - 1) / workers;
         rounds.max(1).saturating_mul(workers)
     }
@@ -137,9 +136,16 @@ impl Batches {
         self.last = Shown::of(receipts, reads);
         let gas = self.last.gas;
         self.gas = self.gas.saturating_add(gas);
+        let workers = (self.workers as u64).max(1);
+        let costs = self
+            .last
+            .cost_of_each()
+            .saturating_mul(receipts.len() as u64)
+            .saturating_add(WORKER_COST.saturating_mul(workers));
         self.saved = self
             .saved
-            .saturating_add(gas - gas / (self.workers as u64).max(1));
+            .saturating_add(gas - gas / workers)
+            .saturating_sub(costs);
     }
 }
 

@@ -13,7 +13,7 @@ const READ_COST: u64 = 300;
 const SUM_COST: u64 = 600;
 
 /// What a worker costs, in gas: its thread.
-const WORKER_COST: u64 = 10_000;
+pub(crate) const WORKER_COST: u64 = 10_000;
 
 /// What some calls took.
 #[derive(Clone, Copy, Debug)]
@@ -60,10 +60,14 @@ impl Shown {
         self.gas.checked_div(self.calls).unwrap_or(0)
     }
 
-    /// What the additions of a call cost on average; 0 if there is no call.
-    fn cost_of_sums(self) -> u64 {
-        let costs = self.sums.saturating_mul(SUM_COST);
-        costs.checked_div(self.calls).unwrap_or(0)
+    /// What a call costs by threads besides its own steps, on average, in gas.
+    pub(crate) fn cost_of_each(self) -> u64 {
+        let sums = self.sums.saturating_mul(SUM_COST);
+        let reads = self.reads_of_each().saturating_mul(READ_COST);
+        sums.checked_div(self.calls)
+            .unwrap_or(0)
+            .saturating_add(reads)
+            .saturating_add(CALL_COST)
     }
 
     /// How often a call read the storage on average; 0 if there is no call.
@@ -90,13 +94,8 @@ pub(crate) fn pays(workers: usize, shown: Shown, calls: usize) -> bool {
     let (workers, calls) = (workers as u64, calls as u64);
     let work = shown.gas_of_each().saturating_mul(calls);
     let saved = work - work / workers.max(1);
-    let cost_of_each = shown
-        .reads_of_each()
-        .saturating_mul(READ_COST)
-        .saturating_add(shown.cost_of_sums())
-        .saturating_add(CALL_COST);
     let costs = calls
-        .saturating_mul(cost_of_each)
+        .saturating_mul(shown.cost_of_each())
         .saturating_add(workers.saturating_mul(WORKER_COST));
     saved > costs
 }
