@@ -21,8 +21,8 @@ use Rattle.stm_state.specs.declared.state.Status.TheVariants.{Ready, Executing, 
 use Rattle.stm_state.specs.declared.state.CallState.{CallState}
 use Rattle.stm_state.specs.declared.state.Task.{Task}
 use Rattle.stm_state.specs.declared.state.Task.TheVariants.{Idle, Running, Moving, Validating, Marking}
-use Rattle.stm_state.specs.State.{State, fresh, start_state, call_at, task_at, with_call, with_task, is_aborting, is_done, is_executed, is_ready}
-use Rattle.stm_state.specs.Steps.{Block, Step, MoveKey, FinishExecution, MarkEstimate, counted, one_asking, one_execution, one_step, one_validation, next_incarnation, ask_validation, ask_execution, after_ask, answered_with, after_read_key, after_park, after_record, after_move_key, after_finish_execution, after_check_read, after_decide, after_finish_abort, has_new_key, is_executed_at, is_parked_on, is_some_of, keys_of, keys_to_move, next_stands, read_of, recorded_reads, recorded_run, resume_dependents, to_validate, version_of, written_by}
+use Rattle.stm_state.specs.State.{State, fresh, start_state, call_at, task_at, with_call, with_task, is_done, is_executed, is_ready}
+use Rattle.stm_state.specs.Steps.{Block, Step, MoveKey, FinishExecution, MarkEstimate, counted, one_asking, one_execution, one_step, one_validation, next_incarnation, ask_validation, ask_execution, after_ask, answered_with, after_read_key, after_park, after_record, after_move_key, after_finish_execution, after_check_read, after_decide, after_finish_abort, has_new_key, is_executed_at, is_parked_on, keys_of, keys_to_move, next_stands, read_of, recorded_reads, recorded_run, resume_dependents, to_validate, version_of, written_by}
 use Rattle.stm_state.specs.Done.{started}
 use Rattle.stm_state.specs.Parts.{has_key}
 use Rattle.stm_state.proofs.Invariant.{view_of, Invariant, IsMoved, IsUnmovedEntry, named_by, owned_by, run_by}
@@ -30,10 +30,10 @@ use Rattle.stm_state.proofs.Lists.{ChangesAt, all_same, each_at, replicated, sta
 use Rattle.stm_state.proofs.StepsByTask.{IsMade, by_ask, by_read, by_park, by_record, by_move, by_finish, by_check, by_decide, by_mark, by_abort, made}
 use Rattle.stm_state.proofs.Checks.{executed_at_says}
 use Rattle.stm_state.proofs.OneCallChanges.{marked_owned, owned_status, unowned}
-use Rattle.stm_state.proofs.Resumptions.{readied_cases, parked_aborting}
+use Rattle.stm_state.proofs.Resumptions.{parked_aborting, parked_names, readied_cases}
 use Rattle.stm_state.proofs.Rounds.{each_stands}
 use Rattle.stm_state.proofs.SafeReads.{on_estimates}
-use Rattle.stm_state.proofs.Tests.{lt_is, lt_says, equal_says}
+use Rattle.stm_state.proofs.Tests.{lt_is, lt_says}
 use Rattle.stm_state.proofs.InvariantKept.{invariant_kept, worker_kept}
 use Rattle.stm_state.proofs.Writes.{changed_other}
 use Rattle.never_stuck.proofs.RunReads.{AllStand, ReadOutcome, answers_run, blocks_run, answered_stand, read_outcome}
@@ -59,14 +59,6 @@ stand_over s t i same (read ∷ reads) stand =
 -- the reads of call i that stand before stand afterwards
 abbrev pub StandOn : Versions → Versions → ℕ → Type 0
 StandOn before after i = (reads : List Read) → AllStand before i reads → AllStand after i reads
-
--- a call that is parked on call j names it
-parked_names : (j : ℕ) (call : CallState) → is_parked_on j call ≡ true → call.parked ≡ Some j
-parked_names j call h = go call.parked refl (and_parts (is_aborting call.status) (is_some_of call.parked j) h).1
-  where
-    go : (o : Option ℕ) → call.parked ≡ o → is_some_of o j ≡ true → call.parked ≡ Some j
-    go None at k = cc
-    go (Some k) at e = at ∙ ap Some (equal_says k j e)
 
 -- what holds of a task if no read of call i that is at hand fails: the answers of a run stand, the reads of a run whose keys are
 -- moved stand, no check of the call failed at its incarnation, and nobody takes it back
@@ -237,15 +229,13 @@ module _ (b : Bounds) (i w : ℕ) (s : State) (inv : Invariant b.block b.workers
 
   made_rises : (step : Step) (t : State) → IsMade b.block w s step t → Invariant b.block b.workers t → Rises i w s step t
   made_rises step t (by_ask at) inv_t = ask_rises step
-  made_rises step t (by_read j answers key at) inv_t = stays refl
   made_rises step t (by_park j on answers at low) inv_t = park_rises j on step (in_calls (Running j answers (Some on)) j at refl)
   made_rises step t (by_record j answers receipt at bears low) inv_t = stays (set_stays j (record (call_at s j) { last = Some (recorded_run answers receipt) }) (in_calls (Running j answers None) j at refl) refl)
-  made_rises step t (by_move j key keys new at) inv_t = stays refl
   made_rises step t (by_finish j new at) inv_t = ended_rises j new at (in_calls (Moving j [] new) j at refl) inv_t
   made_rises step t (by_check j n more at) inv_t = check_rises j n more step
   made_rises step t (by_decide j n more failed at last) inv_t = decide_rises j n failed step (in_calls (Validating j n more failed) j at refl)
-  made_rises step t (by_mark j key keys at) inv_t = stays refl
   made_rises step t (by_abort j at) inv_t = abort_rises j step (in_calls (Marking j []) j at refl) inv_t
+  made_rises step t did inv_t = stays refl
 
   -- ---- what a step does if no read of call i fails
 

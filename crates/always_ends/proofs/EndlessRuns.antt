@@ -5,39 +5,23 @@ use Rattle.std.proofs.lemmas.List.{get_or_past}
 use Rattle.rv_step.specs.declared.answer.StorageAnswer.{StorageAnswer}
 use Rattle.stm_state.specs.declared.state.Task.TheVariants.{Idle, Running}
 use Rattle.stm_state.specs.State.{State, start_state, task_at, is_done}
-use Rattle.stm_state.specs.Steps.{Block, Step, Ask, ReadKey, Park, Record, MoveKey, FinishExecution, CheckRead, Decide, MarkEstimate, FinishAbort, worker_step}
+use Rattle.stm_state.specs.Steps.{Step, Ask, worker_step}
 use Rattle.stm_state.specs.Done.{Reached, started, stepped}
 use Rattle.stm_state.specs.Dones.{dones_of}
-use Rattle.stm_state.proofs.StepsByTask.{IsMade, by_ask, by_read, by_park, by_record, by_move, by_finish, by_check, by_decide, by_mark, by_abort, made}
+use Rattle.stm_state.proofs.StepsByTask.{IsMade, made}
 use Rattle.stm_state.proofs.Dones.{asked_at_done, done_after, dones_grow, others_stay}
 use Rattle.stm_state.proofs.InvariantKept.{invariant_kept}
 use Rattle.never_stuck.proofs.IdleStates.{done_is}
-use Rattle.always_ends.specs.Work.{is_idle_asking, most_incarnations, work_of}
+use Rattle.always_ends.specs.Work.{is_idle_asking, most_incarnations}
 use Rattle.always_ends.specs.Schedules.{IsFair}
 use Rattle.always_ends.specs.Laws.{EndlessRunsReachTheEnd}
 use Rattle.always_ends.proofs.Measure.{Bounds, cost, left, brought, Uses}
-use Rattle.always_ends.proofs.UsedUp.{made_uses, work_in}
+use Rattle.always_ends.proofs.UsedUp.{counts_all, made_uses}
 use Rattle.always_ends.proofs.WorkOfLists.{start_left}
 use Rattle.always_ends.proofs.Powers.{brought_most}
-use Rattle.always_ends.proofs.IdleWorkers.{are_past, past_says}
-use Rattle.always_ends.proofs.Walks.{Agrees, agrees_on, idle_agrees}
+use Rattle.always_ends.proofs.IdleWorkers.{past_says}
+use Rattle.always_ends.proofs.Walks.{Agrees, IsAsleep, agrees_on, idle_is}
 use Rattle.always_ends.proofs.Stretches.{next_of, later, later_at, next_fair, Covers, covers}
-
--- a worker has no task, and both indices are past the last call
-abbrev IsAsleep : State → ℕ → Type 0
-IsAsleep s w = (task_at s w ≡ Idle) × (are_past s ≡ true)
-
-idle_asleep : (block : Block) (w : ℕ) (s : State) (step : Step) (t : State) → IsMade block w s step t → is_idle_asking step s ≡ true → IsAsleep s w
-idle_asleep block w s step t (by_ask at) h = (at, h)
-idle_asleep block w s step t (by_read i answers key at) h = cc
-idle_asleep block w s step t (by_park i b answers at below) h = cc
-idle_asleep block w s step t (by_record i answers receipt at bears below) h = cc
-idle_asleep block w s step t (by_move i key keys new at) h = cc
-idle_asleep block w s step t (by_finish i new at) h = cc
-idle_asleep block w s step t (by_check i n more at) h = cc
-idle_asleep block w s step t (by_decide i n more failed at last) h = cc
-idle_asleep block w s step t (by_mark i key keys at) h = cc
-idle_asleep block w s step t (by_abort i at) h = cc
 
 module _ (b : Bounds) (some : 0 < b.workers) (counts : b.counts_reads ≡ true) where
   -- a run from a reached state on: each step is made, each worker comes again and again, and each run may read once more
@@ -63,18 +47,6 @@ module _ (b : Bounds) (some : 0 < b.workers) (counts : b.counts_reads ≡ true) 
 
   -- ---- one step
 
-  counts_all : (step : Step) (s : State) → work_in b step s ≡ work_of step s
-  counts_all Ask s = refl
-  counts_all (ReadKey key) s = ap (λ c. if c then 1 else 0) counts
-  counts_all Park s = refl
-  counts_all Record s = refl
-  counts_all MoveKey s = refl
-  counts_all FinishExecution s = refl
-  counts_all CheckRead s = refl
-  counts_all Decide s = refl
-  counts_all MarkEstimate s = refl
-  counts_all FinishAbort s = refl
-
   first_goes : (steps : ℕ → ℕ × Step) (states : ℕ → State) → IsRunOn steps states → Uses b 1 (states 0) (states 1) ⊎ (Agrees (states 0) (states 1) × IsAsleep (states 0) (steps 0).0)
   first_goes steps states h = go (is_idle_asking (steps 0).1 (states 0)) refl
     where
@@ -82,8 +54,8 @@ module _ (b : Bounds) (some : 0 < b.workers) (counts : b.counts_reads ≡ true) 
       is = made b.block (steps 0).0 (states 0) (states 1) (steps 0).1 (h.each 0)
 
       go : (idle : Bool) → is_idle_asking (steps 0).1 (states 0) ≡ idle → Uses b 1 (states 0) (states 1) ⊎ (Agrees (states 0) (states 1) × IsAsleep (states 0) (steps 0).0)
-      go true e = inr (idle_agrees b.block (steps 0).0 (states 0) (steps 0).1 (states 1) is e, idle_asleep b.block (steps 0).0 (states 0) (steps 0).1 (states 1) is e)
-      go false e = inl (subst (λ x. Uses b x (states 0) (states 1)) (counts_all (steps 0).1 (states 0) ∙ ap (λ idle. if idle then 0 else 1) e)
+      go true e = inr (idle_is b.block (steps 0).0 (states 0) (steps 0).1 (states 1) is e)
+      go false e = inl (subst (λ x. Uses b x (states 0) (states 1)) (counts_all b counts (steps 0).1 (states 0) ∙ ap (λ idle. if idle then 0 else 1) e)
           (made_uses b (steps 0).0 (states 0) (invariant_kept b.block b.workers (states 0) h.reached) (h.fair.within 0) (steps 0).1 (states 1) is (λ i answers key same at counted. h.short 0 (steps 0).0 i answers None at)))
 
   -- ---- a stretch

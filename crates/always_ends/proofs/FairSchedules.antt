@@ -16,6 +16,7 @@ use Rattle.stm_state.proofs.Lists.{all_append}
 use Rattle.stm_state.proofs.DueSteps.{reached_where_led}
 use Rattle.stm_state.proofs.InvariantKept.{invariant_kept}
 use Rattle.never_stuck.specs.Far.{HasAtMostGas}
+use Rattle.never_stuck.proofs.Lists.{total_gas, total_most}
 use Rattle.always_ends.specs.Work.{HasAtMost, IsSmall, incarnations, most_incarnations, most_work, work_by_incarnation}
 use Rattle.always_ends.specs.Schedules.{IsRound, first_entries, Ends, at_end, at_limit}
 use Rattle.always_ends.specs.Laws.{FairRoundsEnd, FairScheduleEnds, IdleIsDone, SmallBlocksReachTheEnd, WorkIsBounded}
@@ -150,17 +151,6 @@ work_is_bounded calls store workers gas work s most made =
 
 pub fair_rounds_end : FairRoundsEnd
 fair_rounds_end calls store workers gas before rounds some few most within all long = rounds_end calls store workers gas some most before rounds few within all long
-
--- the gas of all calls together
-total_gas : List Invocation → ℕ
-total_gas [] = 0
-total_gas (call ∷ calls) = call.gas + total_gas calls
-
-total_most : (calls : List Invocation) → HasAtMostGas (total_gas calls) calls
-unfolding total_gas
-total_most [] i call at = cc
-total_most (first ∷ calls) zero call at = let same : first.gas ≡ call.gas = cc in omega (arith, same)
-total_most (first ∷ calls) (suc i) call at = let most = total_most calls i call at in omega (arith, most)
 
 pub fair_schedule_ends : FairScheduleEnds
 fair_schedule_ends calls store workers schedule some few fair =

@@ -125,11 +125,8 @@ module _ (b : Bounds) (p : Prices) (top : ℕ) where
 
   -- the amount of a task of another call stays if an entry of call i changes
   other_amount : (v : Versions) (key : List ℕ) (i : ℕ) (o : Option Entry) (task : Task) → owned_by task ≢ Some i → amount (changed v (key, i) o) task ≡ amount v task
-  other_amount v key i o Idle ne = refl
-  other_amount v key i o (Running j answers waits) ne = refl
   other_amount v key i o (Moving j keys new) ne = ap (λ n. below top j (p.of_key * n)) (new_keys_other v key i o j (λ e. ne (ap Some e)) keys)
-  other_amount v key i o (Validating j n more failed) ne = refl
-  other_amount v key i o (Marking j keys) ne = refl
+  other_amount v key i o task ne = refl
 
   module _ (w : ℕ) (s : State) (inv : Invariant b.block b.workers s) (w_in : w < b.workers) where
     -- the amounts of the tasks of other workers stay

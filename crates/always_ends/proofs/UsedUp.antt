@@ -1,5 +1,5 @@
 -- Each step that is not an idle asking uses up some of what is left, except for what an incarnation brings.
-use Rattle.std.proofs.Common.{◌≡◌, ◌≢◌, ◌<◌, ◌≤◌, ◌+◌, ◌*◌, ◌==◌, ◌&&◌, ◌++◌, min, nat_lt, not, ℕ, suc, Bool, true, false, cond, List, [], ◌∷◌, length, set, Option, None, Some, arith, refl, sym, ap, subst, ◌∙◌, inl, inr, length-append}
+use Rattle.std.proofs.Common.{◌≡◌, ◌≢◌, ◌<◌, ◌≤◌, ◌+◌, ◌*◌, ◌==◌, ◌&&◌, ◌++◌, min, nat_lt, ℕ, suc, Bool, true, false, cond, List, [], ◌∷◌, length, set, Option, None, Some, arith, refl, sym, ap, subst, ◌∙◌, inl, inr, length-append}
 use Rattle.std.specs.FinMap.{entries, len-entries}
 use Rattle.std.proofs.lemmas.Bool.{and_parts, cond_both}
 use Rattle.std.specs.Cmp.Derive.{both_true}
@@ -34,6 +34,11 @@ use Rattle.always_ends.proofs.Measure.{Bounds, check, run, executed, executing, 
 abbrev pub work_in : Bounds → Step → State → ℕ
 work_in b (ReadKey key) s = cond b.counts_reads 1 0
 work_in b step s = work_of step s
+
+-- if reads are counted too, it is what the step counts for by itself
+pub counts_all : (b : Bounds) → b.counts_reads ≡ true → (step : Step) (s : State) → work_in b step s ≡ work_of step s
+counts_all b counts (ReadKey key) s = ap (λ c. cond c 1 0) counts
+counts_all b counts step s = refl
 
 module _ (b : Bounds) (w : ℕ) (s : State) (inv : Invariant b.block b.workers s) (w_in : w < b.workers) where
   pub w_there : w < length s.tasks

@@ -5,19 +5,20 @@ use Rattle.std.proofs.lemmas.Bool.{cases_eq, cond_both, cond-true}
 use Rattle.rv_ledger.specs.Key.{Storage}
 use Rattle.rv_ledger.specs.Call.{Invocation}
 use Rattle.rv_ledger.specs.declared.outcome.Counts.{Counts}
+use Rattle.stm_state.specs.declared.state.Task.TheVariants.{Idle}
 use Rattle.stm_state.specs.State.{State, task_at, is_done}
 use Rattle.stm_state.specs.Steps.{Block, Step, Ask, Limit, counted, one_asking, after_ask, step_with}
 use Rattle.stm_state.specs.Done.{block_of}
 use Rattle.stm_state.specs.Dones.{dones_of}
 use Rattle.stm_state.specs.Drive.{DrivenTo, made_step, DriveRefusal, Limited, continue_drive, driven, due_result, due_step}
-use Rattle.stm_state.proofs.StepsByTask.{IsMade, by_ask, by_read, by_park, by_record, by_move, by_finish, by_check, by_decide, by_mark, by_abort, made}
+use Rattle.stm_state.proofs.StepsByTask.{IsMade, by_ask, made}
 use Rattle.stm_state.proofs.Dones.{done_after, dones_grow, others_stay}
 use Rattle.stm_state.proofs.DueSteps.{due_where_led}
 use Rattle.stm_state.proofs.Tests.{idle_at_done, lt_is, lt_says}
 use Rattle.never_stuck.specs.Far.{HasAtMostGas}
 use Rattle.always_ends.specs.Work.{is_idle_asking}
 use Rattle.always_ends.specs.Laws.{IdleChangesNothing}
-use Rattle.always_ends.proofs.Measure.{Bounds, left, Uses}
+use Rattle.always_ends.proofs.Measure.{Bounds, Uses}
 use Rattle.always_ends.proofs.WorkOfLists.{job, due_uses, led_invariant}
 use Rattle.always_ends.proofs.IdleWorkers.{OwesIdle, are_past, past_says}
 
@@ -40,21 +41,17 @@ asked_agrees w s past =
     (λ _. cond_both (nat_lt s.execution (length s.calls)) _ _ (λ t. Agrees s (counted one_asking w t)) (λ l. let less = lt_says s.execution (length s.calls) l in absurd (omega (arith, less, e)))
     (λ _. record { counts = _; dones = _; is = refl })))
 
-pub idle_agrees : (block : Block) (w : ℕ) (s : State) (step : Step) (t : State) → IsMade block w s step t → is_idle_asking step s ≡ true → Agrees s t
-idle_agrees block w s step t (by_ask at) h = asked_agrees w s h
-idle_agrees block w s step t (by_read i answers key at) h = cc
-idle_agrees block w s step t (by_park i b answers at below) h = cc
-idle_agrees block w s step t (by_record i answers receipt at bears below) h = cc
-idle_agrees block w s step t (by_move i key keys new at) h = cc
-idle_agrees block w s step t (by_finish i new at) h = cc
-idle_agrees block w s step t (by_check i n left at) h = cc
-idle_agrees block w s step t (by_decide i n left failed at last) h = cc
-idle_agrees block w s step t (by_mark i key keys at) h = cc
-idle_agrees block w s step t (by_abort i at) h = cc
+-- a worker has no task, and both indices are past the last call
+abbrev pub IsAsleep : State → ℕ → Type 0
+IsAsleep s w = (task_at s w ≡ Idle) × (are_past s ≡ true)
+
+pub idle_is : (block : Block) (w : ℕ) (s : State) (step : Step) (t : State) → IsMade block w s step t → is_idle_asking step s ≡ true → Agrees s t × IsAsleep s w
+idle_is block w s step t (by_ask at) h = (asked_agrees w s h, (at, h))
+idle_is block w s step t did h = cc
 
 pub idle_changes_nothing : IdleChangesNothing
 idle_changes_nothing block w step s t k idle =
-    let same = idle_agrees block w s step t (made block w s t step k) idle in
+    let same = (idle_is block w s step t (made block w s t step k) idle).0 in
     let counts = ap (λ (x : State). x.counts) same.is in
     let dones = ap (λ (x : State). x.dones) same.is in
     same.is ∙ ap (λ c. record s { counts = c; dones = same.dones }) (sym counts) ∙ ap (λ d. record s { counts = t.counts; dones = d }) (sym dones)
@@ -94,7 +91,7 @@ module _ (calls : List Invocation) (store : Storage) (workers gas : ℕ) (most :
   step_goes w s t led w_in k = go (is_idle_asking (due_step calls (task_at s w)) s) refl
     where
       go : (idle : Bool) → is_idle_asking (due_step calls (task_at s w)) s ≡ idle → Uses bounds 1 s t ⊎ (Agrees s t × OwesIdle calls s w)
-      go true h = inr (idle_agrees (block_of calls store) w s (due_step calls (task_at s w)) t (made (block_of calls store) w s t (due_step calls (task_at s w)) k) h, h)
+      go true h = inr ((idle_is (block_of calls store) w s (due_step calls (task_at s w)) t (made (block_of calls store) w s t (due_step calls (task_at s w)) k) h).0, h)
       go false h = inl (subst (λ x. Uses bounds x s t) (ap (λ idle. if idle then 0 else 1) h) (due_uses calls store workers gas most w s t (led_invariant calls store workers gas most s led) w_in k))
 
   -- ---- a list

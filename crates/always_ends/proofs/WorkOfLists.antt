@@ -8,7 +8,7 @@ use Rattle.rv_step.specs.declared.answer.StorageAnswer.{StorageAnswer}
 use Rattle.stm_state.specs.declared.state.CallState.{CallState}
 use Rattle.stm_state.specs.declared.state.Task.TheVariants.{Idle}
 use Rattle.stm_state.specs.State.{State, fresh, start_state, call_at, task_at}
-use Rattle.stm_state.specs.Steps.{Step, Ask, ReadKey, Park, Record, MoveKey, FinishExecution, CheckRead, Decide, MarkEstimate, FinishAbort}
+use Rattle.stm_state.specs.Steps.{Step, ReadKey}
 use Rattle.stm_state.specs.Done.{Reached, started, stepped, block_of}
 use Rattle.stm_state.specs.Drive.{DrivenTo, at_start, made_step, due_result, due_step, due_step_of_run, asked_at}
 use Rattle.stm_state.proofs.Invariant.{Invariant}
@@ -24,7 +24,7 @@ use Rattle.always_ends.specs.Work.{HasAtMost, WorksButReadsTo, at_start, went_on
 use Rattle.always_ends.specs.Laws.{WorkButReadsIsBounded}
 use Rattle.always_ends.proofs.Sums.{sum_to, sum_le, sum_same, sum_times, sum_list}
 use Rattle.always_ends.proofs.Measure.{Bounds, check, ready, cost, cost_is, cost_told, stage, task_left, is_executed_in, left, brought, Uses, indices_most}
-use Rattle.always_ends.proofs.UsedUp.{made_uses, work_in}
+use Rattle.always_ends.proofs.UsedUp.{counts_all, made_uses, work_in}
 
 -- ---- the start
 
@@ -76,16 +76,8 @@ module _ (b : Bounds) where
 
 module _ (b : Bounds) (free : b.counts_reads ≡ false) where
   reads_free : (step : Step) (s : State) → work_but_reads step s ≡ work_in b step s
-  reads_free Ask s = refl
   reads_free (ReadKey key) s = ap (λ c. if c then 1 else 0) (sym free)
-  reads_free Park s = refl
-  reads_free Record s = refl
-  reads_free MoveKey s = refl
-  reads_free FinishExecution s = refl
-  reads_free CheckRead s = refl
-  reads_free Decide s = refl
-  reads_free MarkEstimate s = refl
-  reads_free FinishAbort s = refl
+  reads_free step s = refl
 
   reached_but_reads : (work : ℕ) (s : State) → WorksButReadsTo b.block b.workers work s → Reached b.block b.workers s
   reached_but_reads work s at_start = started
@@ -116,18 +108,6 @@ module _ (calls : List Invocation) (store : Storage) (workers gas : ℕ) (most :
   abbrev pub job : Bounds
   job = record { block = block_of calls store; workers = workers; reads = gas / 200 + 1; writes = 256; small = small_job; counts_reads = true }
 
-  counts_all : (step : Step) (s : State) → work_of step s ≡ work_in job step s
-  counts_all Ask s = refl
-  counts_all (ReadKey key) s = refl
-  counts_all Park s = refl
-  counts_all Record s = refl
-  counts_all MoveKey s = refl
-  counts_all FinishExecution s = refl
-  counts_all CheckRead s = refl
-  counts_all Decide s = refl
-  counts_all MarkEstimate s = refl
-  counts_all FinishAbort s = refl
-
   -- a run that owes a read had few answers
   asked_early : (i : ℕ) (answers : List StorageAnswer) (key : List ℕ) (o : Option Invocation) → slice_get calls i ≡ o → asked_at o (replies_of answers) ≡ Some key → length answers < gas / 200 + 1
   asked_early i answers key None at asks = cc
@@ -144,7 +124,7 @@ module _ (calls : List Invocation) (store : Storage) (workers gas : ℕ) (most :
   pub due_uses : (w : ℕ) (s t : State) → Invariant (block_of calls store) workers s → w < workers → due_result calls store w s ≡ Some (Ok t) → Uses job (work_of (due_step calls (task_at s w)) s) s t
   due_uses w s t inv w_in k =
       let step = due_step calls (task_at s w) in
-      subst (λ x. Uses job x s t) (sym (counts_all step s))
+      subst (λ x. Uses job x s t) (counts_all job refl step s)
       (made_uses job w s inv w_in step t (made (block_of calls store) w s t step k) (λ i answers key is at counts.
       let owes : due_step_of_run (asked_at (slice_get calls i) (replies_of answers)) ≡ ReadKey key = ap (due_step calls) (sym at) ∙ is in
       asked_early i answers key (slice_get calls i) refl (owes_read (asked_at (slice_get calls i) (replies_of answers)) key owes)))

@@ -5,25 +5,21 @@ use Rattle.block_file.specs.declared.fault.BlockFault.{BlockFault}
 use Rattle.block_file.specs.declared.fault.Cause.{Cause}
 use Rattle.block_file.specs.declared.fault.Cause.TheVariants.{BadHeader, BadLine, BadNumber, BadHex, KeyOrder, UnknownProgram, Limit, Memory}
 
+abbrev pub row_of : Cause → ℕ × List ℕ
+row_of BadHeader = (1, codes "BadHeader")
+row_of BadLine = (2, codes "BadLine")
+row_of BadNumber = (3, codes "BadNumber")
+row_of BadHex = (4, codes "BadHex")
+row_of KeyOrder = (5, codes "KeyOrder")
+row_of UnknownProgram = (6, codes "UnknownProgram")
+row_of Limit = (7, codes "Limit")
+row_of Memory = (8, codes "Memory")
+
 abbrev pub number_of : Cause → ℕ
-number_of BadHeader = 1
-number_of BadLine = 2
-number_of BadNumber = 3
-number_of BadHex = 4
-number_of KeyOrder = 5
-number_of UnknownProgram = 6
-number_of Limit = 7
-number_of Memory = 8
+number_of cause = (row_of cause).0
 
 abbrev pub name_of : Cause → List ℕ
-name_of BadHeader = codes "BadHeader"
-name_of BadLine = codes "BadLine"
-name_of BadNumber = codes "BadNumber"
-name_of BadHex = codes "BadHex"
-name_of KeyOrder = codes "KeyOrder"
-name_of UnknownProgram = codes "UnknownProgram"
-name_of Limit = codes "Limit"
-name_of Memory = codes "Memory"
+name_of cause = (row_of cause).1
 
 -- both, as they are printed
 unfoldable pub cause_text : Cause → List ℕ

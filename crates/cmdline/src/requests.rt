@@ -14,11 +14,17 @@ pub(crate) fn request_in<'a>(matches: &ArgMatches<'a>) -> Option<Request<'a>>
 {
     match matches.subcommand()? {
         ("run", found) => run_in(found),
-        ("seq", found) => seq_in(found),
-        ("conflicts", found) => conflicts_in(found),
+        ("seq", found) => Some(Request::Seq {
+            file: text_found(found, "file")?,
+        }),
+        ("conflicts", found) => Some(Request::Conflicts {
+            file: text_found(found, "file")?,
+        }),
         ("drive", found) => drive_in(found),
         ("asm", found) => asm_in(found),
-        ("dis", found) => dis_in(found),
+        ("dis", found) => Some(Request::Dis {
+            file: text_found(found, "file")?,
+        }),
         ("debug", found) => debug_in(found),
         ("migrate", found) => migrate_in(found),
         ("chain", found) => chain_in(found),
@@ -39,26 +45,6 @@ fn run_in<'a>(found: &ArgMatches<'a>) -> Option<Request<'a>>
         workers,
         counts,
     })
-}
-
-/// The request of what clap found for `seq`.
-#[tactic(auto, using(crate::proofs::Lines::first_in_rows))]
-fn seq_in<'a>(found: &ArgMatches<'a>) -> Option<Request<'a>>
-    ensures { option_map asked_by_request result
-        ≡ option_map SeqOf (first_of (codes "file") (rows_of (found_of found.now))) }
-{
-    let file = found.get_str("file")?;
-    Some(Request::Seq { file })
-}
-
-/// The request of what clap found for `conflicts`.
-#[tactic(auto, using(crate::proofs::Lines::first_in_rows))]
-fn conflicts_in<'a>(found: &ArgMatches<'a>) -> Option<Request<'a>>
-    ensures { option_map asked_by_request result
-        ≡ option_map ConflictsOf (first_of (codes "file") (rows_of (found_of found.now))) }
-{
-    let file = found.get_str("file")?;
-    Some(Request::Conflicts { file })
 }
 
 /// The request of what clap found for `drive`.
@@ -84,16 +70,6 @@ fn asm_in<'a>(found: &ArgMatches<'a>) -> Option<Request<'a>>
 {
     let (file, out) = files_in(found)?;
     Some(Request::Asm { file, out })
-}
-
-/// The request of what clap found for `dis`.
-#[tactic(auto, using(crate::proofs::Lines::first_in_rows))]
-fn dis_in<'a>(found: &ArgMatches<'a>) -> Option<Request<'a>>
-    ensures { option_map asked_by_request result
-        ≡ option_map DisOf (first_of (codes "file") (rows_of (found_of found.now))) }
-{
-    let file = found.get_str("file")?;
-    Some(Request::Dis { file })
 }
 
 /// The request of what clap found for `debug`.

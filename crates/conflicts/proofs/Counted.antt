@@ -338,10 +338,8 @@ named_count receipts key (suc j) =
     omega (arith, less, more, one)
   where
     noted_count : (c : Option ContentChange) (calls : List ℕ) → length (noted j c calls) ≤ suc (length calls)
-    noted_count None calls = omega arith
-    noted_count (Some (change.Sum amount)) calls = omega arith
-    noted_count (Some (change.Value value)) calls = omega arith
     noted_count (Some change.Gone) calls = omega arith
+    noted_count c calls = omega arith
 
 module _ (block : List Invocation) (store : Storage) (q : List ℕ) where
   of_call : (j : ℕ) → length (filter (is_at_key q) (waits_of block store j)) ≤ j

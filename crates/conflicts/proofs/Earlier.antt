@@ -11,9 +11,13 @@ use Rattle.rv_ledger.specs.Key.{Storage}
 use Rattle.rv_ledger.specs.declared.change.Change.TheVariants as change
 use Rattle.rv_ledger.specs.declared.receipt.Receipt.{Receipt}
 use Rattle.rv_step.specs.Fold.{receipts_of, store_before}
-use Rattle.conflicts.specs.Paths.{AreEarlier, waits_in_call}
+use Rattle.conflicts.specs.Paths.{WaitsFor, waits_in_call}
 use Rattle.conflicts.specs.Waits.{CallView, Wait, call_view_of, calls_of, change_in, keys_read_by, waits_at, waits_for, writers_named}
 use Rattle.conflicts.proofs.Noted.{named_more, named_none, noted}
+
+-- each call waits for earlier ones only
+abbrev pub AreEarlier : List CallView → Type 0
+AreEarlier calls = (j i : ℕ) → WaitsFor calls j i → i < j
 
 abbrev AreBelow : ℕ → List ℕ → Type 0
 AreBelow j calls = (k w : ℕ) → slice_get calls k ≡ Some w → w < j

@@ -15,8 +15,9 @@ use Rattle.conflicts.specs.Reads.{keys_read}
 use Rattle.conflicts.specs.Table.{waits_in}
 use Rattle.conflicts.specs.Waits.{CallView, Wait, keys_read_by, waits_at, waits_for, waits_of, waits_over, writers_named}
 use Rattle.conflicts.specs.Greatest.{greater, greatest_from, path_at}
-use Rattle.conflicts.specs.Paths.{AreEarlier, ArePaths, IsPath, IsWaitChain, WaitsFor, gas_along, gas_in_call, waits_in_call}
+use Rattle.conflicts.specs.Paths.{ArePaths, IsPath, IsWaitChain, WaitsFor, gas_along, gas_in_call, waits_in_call}
 use Rattle.conflicts.proofs.Noted.{Names}
+use Rattle.conflicts.proofs.Earlier.{AreEarlier}
 
 -- the greater of two numbers is one of them, and neither is above it
 greater_is : (a b : ℕ) → (a ≤ greater a b) × (b ≤ greater a b) × ((greater a b ≡ a) ⊎ (greater a b ≡ b))

@@ -45,10 +45,8 @@ abbrev calls_in : Visible → List ℕ
 calls_in seen = map (λ version. version.writer) (named (origin_in seen))
 
 noted_over : (i : ℕ) (c : Option ContentChange) (below : Visible) → calls_in (visible_over i (change_version c) below) ≡ noted i c (calls_in below)
-noted_over i None below = refl
-noted_over i (Some (change.Value value)) below = refl
 noted_over i (Some change.Gone) below = refl
-noted_over i (Some (change.Sum amount)) below = refl
+noted_over i c below = refl
 
 pub named_more : (receipts : List Receipt) (key : List ℕ) (i : ℕ) → writers_named receipts key (suc i) ≡ noted i (change_in (slice_get receipts i) key) (writers_named receipts key i)
 named_more receipts key i =

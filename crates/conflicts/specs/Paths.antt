@@ -1,5 +1,5 @@
 -- The chains of waits of a block, and the greatest sum of gas over those that end in a call.
-use Rattle.std.specs.Prelude.{◌≡◌, ◌<◌, ◌≤◌, ◌+◌, ℕ, List, [], ◌∷◌, Option, Some, None}
+use Rattle.std.specs.Prelude.{◌≡◌, ◌≤◌, ◌+◌, ℕ, List, [], ◌∷◌, Option, Some, None}
 use Rattle.std.specs.List.{slice_get}
 use Rattle.conflicts.specs.Waits.{CallView, Wait}
 
@@ -39,7 +39,3 @@ pub record IsPath (calls : List CallView) (j path : ℕ) : Type 0 where
 -- each of these is the path of its call
 abbrev pub ArePaths : List CallView → List ℕ → Type 0
 ArePaths calls paths = (j path : ℕ) → slice_get paths j ≡ Some path → IsPath calls j path
-
--- each call waits for earlier ones only
-abbrev pub AreEarlier : List CallView → Type 0
-AreEarlier calls = (j i : ℕ) → WaitsFor calls j i → i < j

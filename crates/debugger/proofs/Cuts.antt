@@ -7,7 +7,7 @@ use Rattle.byte_streams.specs.Written.{AppendsPart, AtMostAs}
 use Rattle.byte_streams.specs.declared.fault.WriteFault.{WriteFault}
 use Rattle.byte_streams.specs.declared.fault.WriteFault.TheVariants as output
 use Rattle.debugger.specs.declared.command.Command.{Command}
-use Rattle.debugger.specs.declared.command.Command.TheVariants.{Step, Back, RunTo, Where, Registers, Bytes, Quit, GoTo, RunToChange, End, Value, Help}
+use Rattle.debugger.specs.declared.command.Command.TheVariants.{RunTo, GoTo, RunToChange}
 use Rattle.debugger.specs.declared.fault.DebugFault.{DebugFault}
 use Rattle.debugger.specs.declared.fault.DebugFault.TheVariants.{Memory, Output, Unreadable}
 use Rattle.debugger.specs.Command.{heard_of}
@@ -37,19 +37,10 @@ none_begins part text none = (text, sym (ap (λ (t : List ℕ). t ++ text) none)
 
 -- a line's move was not made
 not_moved : (r : ReplayState) (command : Option Command) → IsOnWay r command r
-not_moved r None = inl refl
-not_moved r (Some Step) = inl refl
-not_moved r (Some Back) = inl refl
 not_moved r (Some (RunTo pc)) = inr (still_past (has_pc pc) r)
-not_moved r (Some Where) = inl refl
-not_moved r (Some Registers) = inl refl
-not_moved r (Some (Bytes address count)) = inl refl
-not_moved r (Some Quit) = inl refl
 not_moved r (Some (GoTo moment)) = inr (still_towards moment r)
 not_moved r (Some (RunToChange address len)) = inr (still_past (changes address len r) r)
-not_moved r (Some End) = inl refl
-not_moved r (Some (Value key)) = inl refl
-not_moved r (Some Help) = inl refl
+not_moved r command = inl refl
 
 -- a read of no byte
 pub read_none : (r0 r1 r2 : Option (List ℕ)) (heard buf : List ℕ) (n : ℕ) → n ≡ 0 → Consumes r0 r1 heard → Consumes r1 r2 (take n buf) → Consumes r0 r2 heard
@@ -112,8 +103,7 @@ module _ (has_more : Bool) where
   -- the lines after the next one do not matter
   any_more : (fault : DebugFault) (r new : ReplayState) (line part : List ℕ) (more : List (List ℕ)) → IsCutAt has_more fault r (line ∷ []) new part → IsCutAt has_more fault r (line ∷ more) new part
   any_more Unreadable r new line part more cut = cut
-  any_more (Output fault) r new line part more cut = cut
-  any_more Memory r new line part more cut = cut
+  any_more fault r new line part more cut = cut
 
   -- the answer to the first of some lines was cut
   first_cut : (fault : DebugFault) (r new : ReplayState) (line : List ℕ) (more lines : List (List ℕ)) (before after : Option (List ℕ)) → lines ≡ line ∷ more → IsCutAnswer has_more fault r line new before after → IsCutShort has_more fault r lines new before after

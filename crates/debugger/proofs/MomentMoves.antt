@@ -13,7 +13,7 @@ use Rattle.rv_step.specs.Step.{Progress, Going, Over}
 use Rattle.rv_step.specs.Moment.{from_storage, is_over, moment_from, moment_over, start}
 use Rattle.rv_step.proofs.Receipts.{over_ends}
 use Rattle.debugger.specs.declared.fault.ReplayFault.{ReplayFault}
-use Rattle.debugger.specs.declared.fault.ReplayFault.TheVariants.{NoSuchCall, AtEnd, AtStart, BadRange, Memory}
+use Rattle.debugger.specs.declared.fault.ReplayFault.TheVariants.{Memory}
 use Rattle.debugger.specs.More.{GoesTo, IsTowards, at_moment, ending_line, is_moment, last_moment, never, receipt_line}
 use Rattle.debugger.specs.Replay.{ReplayState, is_at_end, stops}
 use Rattle.rv_step.specs.Over.{is_ended}
@@ -81,10 +81,7 @@ back_is old mid new first call store moment back = back ∙ same_state mid old f
 pub went_back : {X : Type 0} (result : Result X ReplayFault) (m : ℕ) (old new : ReplayState) → GoesOnUntil old.call old.store m → OnOk result (new ≡ record old { moment = m }) → IfErr result (λ e. e ≡ Memory) → OnErr result (new ≡ old) → GoesTo m result old new
 went_back (Ok x) m old new goes ok memory same = at_moment_of old m goes ∙ ap Some (sym ok)
 went_back (Err Memory) m old new goes ok memory same = subst (λ (r : ReplayState). IsTowards m old r) (sym same) (still_towards m old)
-went_back (Err NoSuchCall) m old new goes ok memory same = cc
-went_back (Err AtEnd) m old new goes ok memory same = cc
-went_back (Err AtStart) m old new goes ok memory same = cc
-went_back (Err BadRange) m old new goes ok memory same = cc
+went_back (Err fault) m old new goes ok memory same = cc
 
 -- ---- the last moment
 

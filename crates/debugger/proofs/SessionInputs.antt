@@ -6,7 +6,7 @@ use Rattle.std.proofs.Math.Seq.{take-suc}
 use Rattle.std.proofs.lemmas.Bool.Decides.{nat_tests}
 use Rattle.std.proofs.lemmas.List.Elements.{All-append, All-cons, All-head, All-nil, All-tail}
 use Rattle.debugger.specs.declared.command.Command.{Command}
-use Rattle.debugger.specs.declared.command.Command.TheVariants.{Step, Back, RunTo, Where, Registers, Bytes, Quit, GoTo, RunToChange, End, Value, Help}
+use Rattle.debugger.specs.declared.command.Command.TheVariants.{Quit}
 use Rattle.debugger.specs.Command.{heard_of}
 use Rattle.debugger.specs.Replay.{ReplayState}
 use Rattle.debugger.specs.Session.{Ending, EndsAs, IsHeardOn, after_line, after_text, is_quit, line_text, lines_of, session}
@@ -23,19 +23,8 @@ if_false false x y e = refl
 
 -- a line that quits prints nothing and moves nothing
 quit_is : (r : ReplayState) (c : Option Command) → is_quit c ≡ true → record { text = []; replay = r } ≡ (let e : Ending = record { text = line_text r c; replay = after_line r c } in e)
-quit_is r None e = cc
-quit_is r (Some Step) e = cc
-quit_is r (Some Back) e = cc
-quit_is r (Some (RunTo pc)) e = cc
-quit_is r (Some Where) e = cc
-quit_is r (Some Registers) e = cc
-quit_is r (Some (Bytes address count)) e = cc
 quit_is r (Some Quit) e = refl
-quit_is r (Some (GoTo moment)) e = cc
-quit_is r (Some (RunToChange address len)) e = cc
-quit_is r (Some End) e = cc
-quit_is r (Some (Value key)) e = cc
-quit_is r (Some Help) e = cc
+quit_is r c e = cc
 
 behind_behind : (a b : List ℕ) (e : Ending) → after_text a (after_text b e) ≡ after_text (a ++ b) e
 behind_behind a b e = ap (λ (t : List ℕ). record e { text = t }) (sym (append_assoc a b e.text))

@@ -1,5 +1,5 @@
 -- The moment at which a run stops.
-use Rattle.std.proofs.Common.{◌≡◌, ℕ, zero, suc, ◌+◌, ◌<◌, ◌≤◌, Bool, true, false, if◌then◌else◌, Some, refl, sym, ap, ◌∙◌, inl, inr, arith, eq-or-lt_of_le}
+use Rattle.std.proofs.Common.{◌≡◌, ℕ, zero, suc, ◌+◌, ◌<◌, ◌≤◌, Bool, true, false, if◌then◌else◌, Some, OnErr, Result, Ok, Err, refl, sym, ap, ◌∙◌, inl, inr, arith, eq-or-lt_of_le}
 use Rattle.rv_ledger.specs.Key.{Storage}
 use Rattle.rv_ledger.specs.Call.{Invocation}
 use Rattle.rv_step.specs.declared.machine.Machine.{Machine}
@@ -57,8 +57,8 @@ same_state old new m call store moment =
     ∙ ap (λ (x : Invocation). record new { call = x }) (sym call)
 
 -- a run that stopped at a later moment reached the moment of `stop_of`
-pub stop_is : (is_wanted : Machine → Bool) (old new : ReplayState) → is_at_end old ≡ false → IsLaterMoment is_wanted old new → old.moment < new.moment → stops is_wanted (moment_over new.call new.store new.moment) ≡ true → stop_of is_wanted old ≡ Some new
-stop_is is_wanted old new going past later there =
+pub stop_is : (is_wanted : Machine → Bool) (old new : ReplayState) → (is_at_end old ≡ false) × IsLaterMoment is_wanted old new × (old.moment < new.moment) × (stops is_wanted (standing new) ≡ true) → stop_of is_wanted old ≡ Some new
+stop_is is_wanted old new (going, past, later, there) =
     let within = stop_within old.call old.store is_wanted old.moment new.moment later going past.between in
     let here : stops is_wanted (moment_over old.call old.store new.moment) ≡ true =
     ap (λ (c : Invocation). stops is_wanted (moment_over c old.store new.moment)) (sym past.call)
@@ -79,3 +79,8 @@ still_past is_wanted r = (
   },
   λ less. absurd (omega arith),
 )
+
+-- what holds in any case
+pub on_err : {X E : Type 0} (r : Result X E) (P : Type 0) → P → OnErr r P
+on_err (Ok x) P p = tt
+on_err (Err e) P p = p

@@ -1,5 +1,5 @@
 -- What the versions and the places are when slots are made and written into.
-use Rattle.std.proofs.Common.{◌≡◌, ◌<◌, ◌≤◌, ◌⊎◌, ◌++◌, ℕ, suc, zero, Bool, true, false, cond, List, [], ◌∷◌, length, Option, None, Some, is_some, IsSome, arith, refl, sym, ap, subst, ◌∙◌, inl, inr, slice_get, get_or, Result, Ok, Err, OnErr}
+use Rattle.std.proofs.Common.{◌≡◌, ◌<◌, ◌⊎◌, ◌++◌, ℕ, suc, zero, Bool, true, false, cond, List, [], ◌∷◌, length, Option, None, Some, is_some, IsSome, arith, refl, sym, ap, subst, ◌∙◌, inl, inr, slice_get, get_or, Result, Ok, Err, OnErr}
 use Rattle.std.specs.List.{All}
 use Rattle.std.specs.BTreeMap.{is_at}
 use Rattle.std.specs.FinMap.{get, same_map}
@@ -7,6 +7,7 @@ use Rattle.std.specs.FinSet.{contains}
 use Rattle.std.specs.Cmp.{eq_by_cmp_equiv}
 use Rattle.std.proofs.lemmas.List.{get_or_default}
 use Rattle.std.specs.Option.{option_map, option_and_then}
+use Rattle.rv_ledger.proofs.Positions.{slice_get_before, slice_get_last}
 use Rattle.version_arena.specs.ArenaState.{Record}
 use Rattle.mvmap.specs.Versions.{Entry, Stands, Place, changed, place_cmp}
 use Rattle.mvmap.specs.Table.{Table}
@@ -104,17 +105,6 @@ written_there es q s false o = refl
 pub written_places : (es fs : SlotsByPlace) (p : Place) (s : Slot)
     → ((q : Place) → slot_at fs q ≡ cond (is_at (place_cmp p) q) (option_map (λ _. s) (slot_at es q)) (slot_at es q)) → places_of fs ≡ places_of es
 written_places es fs p s h = same_places fs es (λ q. ap is_some (h q) ∙ written_there es q s (is_at (place_cmp p) q) (slot_at es q))
-
--- what was there before an element was added
-pub slice_get_before : {X : Type 0} (xs : List X) (x : X) (i : ℕ) → i < length xs → slice_get (xs ++ x ∷ []) i ≡ slice_get xs i
-slice_get_before [] x i l = absurd (omega arith)
-slice_get_before (y ∷ xs) x zero l = refl
-slice_get_before (y ∷ xs) x (suc i) l = slice_get_before xs x i (omega arith)
-
--- the element that was added last
-pub slice_get_last : {X : Type 0} (xs : List X) (x : X) → slice_get (xs ++ x ∷ []) (length xs) ≡ Some x
-slice_get_last [] x = refl
-slice_get_last (y ∷ xs) x = slice_get_last xs x
 
 kept_entry : (rs : List Record) (r : Record) (o : Option Slot) → ((i : ℕ) → o ≡ Some (slot.Placed i) → i < length rs) → option_and_then (entry_of (rs ++ r ∷ [])) o ≡ option_and_then (entry_of rs) o
 kept_entry rs r None h = refl

@@ -26,9 +26,8 @@ use Rattle.mvmap.specs.Slots.{ByKey}
 use Rattle.mvmap.specs.Writers.{ByWriter}
 use Rattle.mvmap.specs.declared.hints.Hint.TheVariants.{At, Nothing}
 use Rattle.mvmap.specs.declared.key_table.KeySlots.{KeySlots}
-use Rattle.rv_ledger.proofs.Positions.{get_set_apart, get_set_here}
+use Rattle.rv_ledger.proofs.Positions.{get_set_apart, get_set_here, slice_get_before, slice_get_last}
 use Rattle.mvmap.proofs.Buckets.{noted_empty, noted_found, noted_kept}
-use Rattle.mvmap.proofs.Fills.{slice_get_before, slice_get_last}
 
 -- ---- keys
 

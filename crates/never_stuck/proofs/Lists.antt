@@ -45,12 +45,12 @@ module _ (calls : List Invocation) (s : State) (on : RunsGoOn calls s) where
 -- ---- the end, or a limit
 
 -- the gas of all calls together
-total_gas : List Invocation → ℕ
+pub total_gas : List Invocation → ℕ
 total_gas [] = 0
 total_gas (call ∷ calls) = call.gas + total_gas calls
 
 -- no call has more
-total_most : (calls : List Invocation) → HasAtMostGas (total_gas calls) calls
+pub total_most : (calls : List Invocation) → HasAtMostGas (total_gas calls) calls
 unfolding total_gas
 total_most [] i call at = cc
 total_most (first ∷ calls) zero call at = let same : first.gas ≡ call.gas = cc in omega (arith, same)

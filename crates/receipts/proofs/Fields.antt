@@ -192,34 +192,15 @@ end_by name =
     else if bytes_eq name (codes "bad-length") then Trapped BadLength
     else Trapped TooManyWrites
 
--- the end of a name is the end that has this name
-named : (end : End) → end_by (end_name end) ≡ end
-named Returned = refl
-named Reverted = refl
-named OutOfGas = refl
-named (Trapped Illegal) = refl
-named (Trapped Misaligned) = refl
-named (Trapped MemoryFault) = refl
-named (Trapped FetchFault) = refl
-named (Trapped Breakpoint) = refl
-named (Trapped UnknownCall) = refl
-named (Trapped BadLength) = refl
-named (Trapped TooManyWrites) = refl
+-- the end of a name is the end that has this name, and a name has no space
+named : (end : End) → (end_by (end_name end) ≡ end) × (plain (end_name end) ≡ true)
+named Returned = (refl, refl)
+named (Trapped Illegal) = (refl, refl)
+named end = (refl, refl)
 
 -- a name determines its end
 pub name_tells : (a b : End) → end_name a ≡ end_name b → a ≡ b
-name_tells a b e = sym (named a) ∙ ap end_by e ∙ named b
+name_tells a b e = sym (named a).0 ∙ ap end_by e ∙ (named b).0
 
--- a name has no space
 pub name_plain : (end : End) → plain (end_name end) ≡ true
-name_plain Returned = refl
-name_plain Reverted = refl
-name_plain OutOfGas = refl
-name_plain (Trapped Illegal) = refl
-name_plain (Trapped Misaligned) = refl
-name_plain (Trapped MemoryFault) = refl
-name_plain (Trapped FetchFault) = refl
-name_plain (Trapped Breakpoint) = refl
-name_plain (Trapped UnknownCall) = refl
-name_plain (Trapped BadLength) = refl
-name_plain (Trapped TooManyWrites) = refl
+name_plain end = (named end).1

@@ -106,14 +106,14 @@ module _ (ps : Positions) (list : EntryList) (h : AreIndexed ps list) (key : Lis
   ]
 
   -- the keys stay at their positions
-  pub set_indexed : AreIndexed ps (set list p (key, value))
+  set_indexed : AreIndexed ps (set list p (key, value))
   set_indexed = record {
     listed = λ k q e. key_kept q ∙ h.listed k q e;
     indexed = λ k q e. h.indexed k q (sym (key_kept q) ∙ e);
   }
 
   -- only the value of that key changes
-  pub set_in_order : IsSetAt (in_order ps list) (in_order ps (set list p (key, value))) key value
+  set_in_order : IsSetAt (in_order ps list) (in_order ps (set list p (key, value))) key value
   set_in_order q =
       lookup_in_order ps now q
       ∙ by (is_at (key_cmp key) q) refl (position_of ps q) refl
@@ -128,6 +128,13 @@ module _ (ps : Positions) (list : EntryList) (h : AreIndexed ps list) (key : Lis
           ap (λ (x : Option (List ℕ × List ℕ)). Some (unwrap_or (option_map (λ (y : List ℕ × List ℕ). y.1) x) [])) (get_set_apart list p r (key, value) (λ same.
           let one : Some key ≡ Some q = sym (h.listed key p at) ∙ ap (key_at list) same ∙ h.listed q r e in
           absurd (other_key key q t cc)))
+
+  -- both hold with the key of the entry that was read there
+  pub put_there : (e : List ℕ × List ℕ) → e ≡ get_or list p e → AreIndexed ps (set list p (e.0, value)) × IsSetAt (in_order ps list) (in_order ps (set list p (e.0, value))) key value
+  put_there e is =
+      let found : Some e.0 ≡ Some key = sym (key_found list p e (position_within ps list h key p at) is) ∙ h.listed key p at in
+      let same : e.0 ≡ key = cc in
+      rw same (set_indexed, set_in_order)
 
 -- ---- a key is added at the end
 

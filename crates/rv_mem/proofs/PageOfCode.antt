@@ -126,9 +126,6 @@ pub record Keeps (memory after : Space) : Type 0 where
   pub rights : after.rights ≡ memory.rights
   pub code : (first : ℕ) (code : List ℕ) → IsCode memory first code → IsCode after first code
 
-pub keeps_same : (memory : Space) → Keeps memory memory
-keeps_same memory = record { rights = refl; code = λ first code is. is }
-
 pub keeps_written : (memory : Space) (a : ℕ) (new : List ℕ) → allows_range Write memory.rights a (length new) ≡ true → Keeps memory (written memory new (a - 65536))
 keeps_written memory a new may = record { rights = refl; code = λ first code is. write_stays memory a first new code may is }
 

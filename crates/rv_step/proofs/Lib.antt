@@ -1,3 +1,4 @@
+pub mod Kept
 mod PageSteps
 mod ProgramSteps
 mod Named

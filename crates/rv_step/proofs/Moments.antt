@@ -4,6 +4,7 @@ use Rattle.rv_ledger.specs.Change.{Content}
 use Rattle.rv_step.specs.declared.machine.Machine.{Machine}
 use Rattle.rv_step.specs.Step.{Progress, Going, Over, StepResult, Leads, Asks, step, answered, delivered}
 use Rattle.rv_step.specs.Moment.{Source, advance, after_asking, after_result, machine_of, moment_from}
+use Rattle.rv_step.proofs.Kept.{IsKept, answered_stays, step_stays}
 use Rattle.rv_step.proofs.Falls.{IsFalling, answered_falls, less_gas, step_falls}
 
 module _ {A : Type 0} (source : Source A) where
@@ -50,6 +51,13 @@ module _ {A : Type 0} (source : Source A) where
     unfolding moment_from
     kept zero at holds = holds
     kept (suc n) at holds = let before = moment_from source n at in next_keeps before.0 before.1 (kept n at holds)
+
+  -- so does a property that each change of the machine keeps
+  pub kept_at : (P : Machine → Type 0) → IsKept P → (n : ℕ) (at : Progress × A) → P (machine_of at.0) → P (machine_of (moment_from source n at).0)
+  kept_at P keeps n at holds = kept (λ (x : Progress × A). P (machine_of x.0))
+      (λ s left progress before e. step_stays P keeps s progress before e)
+      (λ s left key content rest before e told. answered_stays P keeps s (delivered s key content) before)
+      n at holds
 
   -- steps from a moment on
   pub joined : (m n : ℕ) (at : Progress × A) → (k : ℕ) × (moment_from source m (moment_from source n at) ≡ moment_from source k at)

@@ -13,7 +13,7 @@ use Rattle.rv_isa.specs.Decoding.{instr_of}
 use Rattle.rv_isa.specs.Number.{wrapped}
 use Rattle.rv_isa.specs.Registers.{written}
 use Rattle.rv_isa.specs.declared.instruction.Instr.{Instr}
-use Rattle.rv_isa.specs.declared.instruction.Instr.TheVariants.{Lui, Auipc, Jal, Jalr, Branch, Load, Store, ComputeImmediate, ShiftImmediate, Compute, Fence, Ecall, Ebreak}
+use Rattle.rv_isa.specs.declared.instruction.Instr.TheVariants.{Jal, Jalr, Branch, Load, Store, Ecall, Ebreak}
 use Rattle.rv_isa.specs.declared.instruction.LoadKind.{LoadKind}
 use Rattle.rv_isa.specs.declared.instruction.StoreKind.{StoreKind}
 use Rattle.rv_isa.specs.declared.operands.Immediate.{Immediate}
@@ -43,35 +43,16 @@ next_pc pc = grind (arith, ints)
 -- ---- instructions that change only registers and the pc
 
 no_ecall : (i : Instr) → IsTrue (is_plain i) → is_ecall i ≡ false
-no_ecall (Lui rd immediate) h = refl
-no_ecall (Auipc rd immediate) h = refl
-no_ecall (Jal rd offset) h = refl
-no_ecall (Jalr rd base offset) h = refl
-no_ecall (Branch condition left right offset) h = refl
-no_ecall (Load kind rd base offset) h = refl
-no_ecall (Store kind source base offset) h = refl
-no_ecall (ComputeImmediate operation rd source immediate) h = refl
-no_ecall (ShiftImmediate shift rd source amount) h = refl
-no_ecall (Compute operation rd left right) h = refl
-no_ecall (Fence rd source immediate) h = refl
 no_ecall Ecall h = absurd (cc)
-no_ecall Ebreak h = refl
+no_ecall i h = refl
 
 plain_result : (i : Instr) (s : Machine) → IsTrue (is_plain i) → instruction_result i s ≡ compute_result s (effect_of i s.regs s.pc)
 unfolding instruction_result
-plain_result (Lui rd immediate) s h = refl
-plain_result (Auipc rd immediate) s h = refl
-plain_result (Jal rd offset) s h = refl
-plain_result (Jalr rd base offset) s h = refl
-plain_result (Branch condition left right offset) s h = refl
 plain_result (Load kind rd base offset) s h = absurd (cc)
 plain_result (Store kind source base offset) s h = absurd (cc)
-plain_result (ComputeImmediate operation rd source immediate) s h = refl
-plain_result (ShiftImmediate shift rd source amount) s h = refl
-plain_result (Compute operation rd left right) s h = refl
-plain_result (Fence rd source immediate) s h = refl
 plain_result Ecall s h = absurd (cc)
 plain_result Ebreak s h = absurd (cc)
+plain_result i s h = refl
 
 -- the pc after an instruction, or 0 if it has none
 abbrev pc_after : Option (List ℕ × ℕ) → ℕ
@@ -100,19 +81,10 @@ branch_even true registers new pc target next e even = jumped_even registers new
 branch_even false registers new pc target next e even = onward_even registers new pc next e even
 
 effect_even : (i : Instr) (registers new : List ℕ) (pc next : ℕ) → effect_of i registers pc ≡ Some (new, next) → pc % 4 ≡ 0 → next % 4 ≡ 0
-effect_even (Lui rd immediate) registers new pc next e even = onward_even _ new pc next e even
-effect_even (Auipc rd immediate) registers new pc next e even = onward_even _ new pc next e even
 effect_even (Jal rd offset) registers new pc next e even = jumped_even _ new _ next e
 effect_even (Jalr rd base offset) registers new pc next e even = jumped_even _ new _ next e
 effect_even (Branch condition left right offset) registers new pc next e even = branch_even (is_taken condition (register_value registers left) (register_value registers right)) registers new pc (wrapped (pos pc +ℤ offset.value)) next e even
-effect_even (Load kind rd base offset) registers new pc next e even = onward_even _ new pc next e even
-effect_even (Store kind source base offset) registers new pc next e even = onward_even _ new pc next e even
-effect_even (ComputeImmediate operation rd source immediate) registers new pc next e even = onward_even _ new pc next e even
-effect_even (ShiftImmediate shift rd source amount) registers new pc next e even = onward_even _ new pc next e even
-effect_even (Compute operation rd left right) registers new pc next e even = onward_even _ new pc next e even
-effect_even (Fence rd source immediate) registers new pc next e even = onward_even _ new pc next e even
-effect_even Ecall registers new pc next e even = onward_even _ new pc next e even
-effect_even Ebreak registers new pc next e even = onward_even _ new pc next e even
+effect_even i registers new pc next e even = onward_even _ new pc next e even
 
 pub plain_goes : (i : Instr) (s : Machine) (registers : List ℕ) (next : ℕ) → IsTrue (is_plain i) → cost_of i ≤ s.gas → effect_of i s.regs s.pc ≡ Some (registers, next) → GoesOn (Some i) s (record s { pc = next; gas = s.gas - cost_of i; regs = registers })
 plain_goes i s registers next plain enough e =

@@ -5,25 +5,22 @@ use Rattle.rv_text.specs.declared.fault.AsmError.{AsmError}
 use Rattle.rv_text.specs.declared.fault.AsmCause.{AsmCause}
 use Rattle.rv_text.specs.declared.fault.AsmCause.TheVariants.{UnknownMnemonic, BadOperand, ImmediateRange, UnknownLabel, DuplicateLabel, LabelRange, TooLarge, Memory}
 
+-- the number and the name of each
+abbrev pub row_of : AsmCause → ℕ × List ℕ
+row_of UnknownMnemonic = (1, codes "UnknownMnemonic")
+row_of BadOperand = (2, codes "BadOperand")
+row_of ImmediateRange = (3, codes "ImmediateRange")
+row_of UnknownLabel = (4, codes "UnknownLabel")
+row_of DuplicateLabel = (5, codes "DuplicateLabel")
+row_of LabelRange = (6, codes "LabelRange")
+row_of TooLarge = (7, codes "TooLarge")
+row_of Memory = (8, codes "Memory")
+
 abbrev pub number_of : AsmCause → ℕ
-number_of UnknownMnemonic = 1
-number_of BadOperand = 2
-number_of ImmediateRange = 3
-number_of UnknownLabel = 4
-number_of DuplicateLabel = 5
-number_of LabelRange = 6
-number_of TooLarge = 7
-number_of Memory = 8
+number_of cause = (row_of cause).0
 
 abbrev pub name_of : AsmCause → List ℕ
-name_of UnknownMnemonic = codes "UnknownMnemonic"
-name_of BadOperand = codes "BadOperand"
-name_of ImmediateRange = codes "ImmediateRange"
-name_of UnknownLabel = codes "UnknownLabel"
-name_of DuplicateLabel = codes "DuplicateLabel"
-name_of LabelRange = codes "LabelRange"
-name_of TooLarge = codes "TooLarge"
-name_of Memory = codes "Memory"
+name_of cause = (row_of cause).1
 
 -- both, as they are printed
 unfoldable pub cause_text : AsmCause → List ℕ

@@ -9,7 +9,10 @@ use Rattle.stm_state.specs.declared.state.Recorded.{Recorded}
 use Rattle.stm_state.specs.State.{fresh}
 use Rattle.stm_state.specs.Steps.{next_incarnation, resume_if_parked, is_parked_on, written_by}
 use Rattle.scheduler.specs.KeyRoom.{HasKeyRoom}
-use Rattle.scheduler.specs.Workers.{WorkerState, but_key_room, idle_worker, key_room_of}
+use Rattle.scheduler.specs.Workers.{WorkerState, but_key_room, idle_worker}
+
+abbrev key_room_of : WorkerState → ℕ
+key_room_of w = w.key_room
 
 -- a call's run stays if the call is readied
 resumed_last : (b : Bool) (call : CallState) → (if b then next_incarnation call else call).last ≡ call.last

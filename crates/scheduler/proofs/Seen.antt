@@ -47,6 +47,10 @@ call_changed calls execution validation key_room workers s was g at i old e is =
     ∙ ap (λ (t : Schedule). record t { calls = set t.calls at (g (get_or t.calls at fresh)) }) was
     ∙ ap (λ (k : ℕ). record s { calls = set s.calls k (g (get_or s.calls k fresh)) }) e
 
+-- what is seen of a call is the same before a change that keeps it
+pub seen_call : {X : Type 0} (f : CallState → X) {s t : Schedule} (i : ℕ) {call : CallState} {x : X} → t ≡ s → call ≡ get_or t.calls i fresh → x ≡ f call → f (get_or s.calls i fresh) ≡ x
+seen_call f i same is seen = ap (λ (u : Schedule). f (get_or u.calls i fresh)) (sym same) ∙ ap f (sym is) ∙ sym seen
+
 -- all that the scheduler keeps, if the lists of workers have more room for keys
 pub key_room_changed : (calls : List CallState) (execution validation key_room more : ℕ) (workers new : List WorkerState) (s : Schedule) → schedule_of calls execution validation key_room workers ≡ s
     → map but_key_room new ≡ map but_key_room workers → schedule_of calls execution validation more new ≡ record s { key_room = more }

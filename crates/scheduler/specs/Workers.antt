@@ -37,9 +37,6 @@ worker_dones w = w.dones
 abbrev pub worker_room : WorkerState → ℕ
 worker_room w = w.room
 
-abbrev pub key_room_of : WorkerState → ℕ
-key_room_of w = w.key_room
-
 -- a worker without the room of its list of keys
 abbrev pub but_key_room : WorkerState → WorkerState
 but_key_room w = record w { key_room = 0 }

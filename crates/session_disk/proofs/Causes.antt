@@ -34,10 +34,7 @@ pub blank_cause : (a b size : ℕ) (image : Image) (Wanted : Type 0) (e : log.Er
 blank_cause a b size image Wanted (wal.Io x) cause = cause
 blank_cause a b size image Wanted wal.OutOfMemory cause = tt
 blank_cause a b size image Wanted wal.Full cause = cause.1.1
-blank_cause a b size image Wanted wal.Corrupt cause = let e = cause.0 in absurd (cc)
-blank_cause a b size image Wanted wal.Closed cause = let e = cause.0 in absurd (cc)
-blank_cause a b size image Wanted wal.NoSuchPage cause = let e = cause.0 in absurd (cc)
-blank_cause a b size image Wanted wal.Exists cause = let e = cause.0 in absurd (cc)
+blank_cause a b size image Wanted error cause = let e = cause.0 in absurd (cc)
 
 -- why the probe for a first page fails
 pub log_cause : (a b size : ℕ) (image : Image) (Wanted : Type 0) (e : log.Error) → HasCause a b (RefusesLog size image.log) e → (Wanted → (k : ℕ) × raw.Replays size image.log k)
@@ -46,6 +43,4 @@ log_cause a b size image Wanted (wal.Io x) cause reads = cause
 log_cause a b size image Wanted wal.OutOfMemory cause reads = tt
 log_cause a b size image Wanted wal.Full cause reads = elim cause [ inl bad ↦ let e = bad.0 in absurd (cc) | inr huge ↦ inl huge.1 ]
 log_cause a b size image Wanted wal.Corrupt cause reads = λ w. elim cause [ inl bad ↦ bad.1 (reads w).0 (reads w).1 | inr huge ↦ let e = huge.0 in cc ]
-log_cause a b size image Wanted wal.Closed cause reads = λ w. elim cause [ inl bad ↦ let e = bad.0 in cc | inr huge ↦ let e = huge.0 in cc ]
-log_cause a b size image Wanted wal.NoSuchPage cause reads = λ w. elim cause [ inl bad ↦ let e = bad.0 in cc | inr huge ↦ let e = huge.0 in cc ]
-log_cause a b size image Wanted wal.Exists cause reads = λ w. elim cause [ inl bad ↦ let e = bad.0 in cc | inr huge ↦ let e = huge.0 in cc ]
+log_cause a b size image Wanted error cause reads = λ w. elim cause [ inl bad ↦ let e = bad.0 in cc | inr huge ↦ let e = huge.0 in cc ]

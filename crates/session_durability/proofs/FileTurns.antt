@@ -6,7 +6,7 @@ use Rattle.rv_ledger.specs.Height.{greatest_height}
 use Rattle.sha2.specs.Sha256.{sha256}
 use Rattle.elf32.specs.Layout.{Layout}
 use Rattle.programs.specs.Programs.{file_limit}
-use Rattle.session_requests.specs.Requests.{Ask, Program, Forget, Programs, Frame, Try, Last, Get, ListEntries, Dump, Begin, State as AskState}
+use Rattle.session_requests.specs.Requests.{Ask, Program, Forget, Frame, Last, Begin}
 use Rattle.session_laws.specs.Begun.{EqualButLast}
 use Rattle.session_laws.proofs.Alike.{after_alike, reply_alike}
 use Rattle.session_states.specs.States.{FileState, last_of}
@@ -96,23 +96,11 @@ unchanged_last settings s last ask given other h failed reply is = refl
 -- ---- want of memory
 
 pub may_fail_bare : (settings : Settings) (s : State) (ask : Ask) (failure : Failure) → MayTurnFail settings s ask failure → MayTurnFail settings (bare s) ask failure
+may_fail_bare settings s (Program file) want.Answer h = λ refusal e. h refusal (reply_alike settings s (bare s) (Program file) (bare_alike s) (λ x. cc) ∙ e)
 may_fail_bare settings s (Frame bytes) want.Block h = h
 may_fail_bare settings s (Frame bytes) want.Program h = h
 may_fail_bare settings s (Frame bytes) want.Run h = h
-may_fail_bare settings s (Frame bytes) want.Answer h = h
-may_fail_bare settings s (Try bytes) want.Block h = h
-may_fail_bare settings s (Try bytes) want.Program h = h
-may_fail_bare settings s (Try bytes) want.Run h = h
-may_fail_bare settings s (Try bytes) want.Answer h = h
-may_fail_bare settings s (Program file) want.Program h = h
-may_fail_bare settings s (Program file) want.Answer h = λ refusal e. h refusal (reply_alike settings s (bare s) (Program file) (bare_alike s) (λ x. cc) ∙ e)
-may_fail_bare settings s (Begin height digest bytes) want.Block h = h
-may_fail_bare settings s Programs want.Answer h = h
-may_fail_bare settings s (Get key) want.Answer h = h
-may_fail_bare settings s (ListEntries from count) want.Answer h = h
-may_fail_bare settings s AskState want.Answer h = h
-may_fail_bare settings s Dump want.Answer h = h
-may_fail_bare settings s ask failure h = absurd h
+may_fail_bare settings s ask failure h = h
 
 -- ---- answers by which nothing changes
 

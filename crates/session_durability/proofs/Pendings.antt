@@ -235,7 +235,4 @@ module _ (settings : Settings) (s : State) (found : Option AnswerRow) (ask : Ask
 
 pub change_of : (settings : Settings) (s : State) (ask : Ask) (p : Pending) → IsPending settings s ask p → ((told : Answer) → p ≡ pending.Nothing told → ⊥) → IsPendingChange settings s ask p
 change_of settings s ask (pending.Nothing told) is change = absurd (change told refl)
-change_of settings s ask (pending.Program name image text) is change = is
-change_of settings s ask (pending.Forget name) is change = is
-change_of settings s ask (pending.Frame frame) is change = is
-change_of settings s ask (pending.Begin begin) is change = is
+change_of settings s ask p is change = is

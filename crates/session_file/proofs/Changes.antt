@@ -6,8 +6,8 @@ use Rattle.std.specs.FinMap.{find, get, entries, entries_sorted, get-entries, is
 use Rattle.sqlite_value.specs.Order.{Row}
 use Rattle.rv_ledger.specs.Change.{Content}
 use Rattle.rv_ledger.specs.Key.{Storage, key_cmp}
-use Rattle.session_tree.specs.Entries.{rows_of, with_content, changed_rows}
-use Rattle.session_tree.proofs.Rows.{changed, below_first, sorted_rest}
+use Rattle.session_tree.specs.Entries.{rows_of, changed_rows}
+use Rattle.session_tree.proofs.Rows.{changed, below_first, sorted_rest, with_content}
 use Rattle.rv_ledger.specs.Applied.{set_content}
 use Rattle.overlay.specs.Overlay.{Changes, with_changes}
 use Rattle.session_file.specs.Kept.{AreEntries}

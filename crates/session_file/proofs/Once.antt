@@ -31,26 +31,19 @@ rows_once s t is = same_entries_map s t (pairs_once (entries s) (entries t) is)
 
 rules_once : (r s : Rules) → rules_number r ≡ rules_number s → r ≡ s
 rules_once rules.One rules.One is = refl
-rules_once rules.One rules.Two is = absurd (omega arith)
-rules_once rules.One rules.Three is = absurd (omega arith)
-rules_once rules.Two rules.One is = absurd (omega arith)
 rules_once rules.Two rules.Two is = refl
-rules_once rules.Two rules.Three is = absurd (omega arith)
-rules_once rules.Three rules.One is = absurd (omega arith)
-rules_once rules.Three rules.Two is = absurd (omega arith)
 rules_once rules.Three rules.Three is = refl
+rules_once r s is = absurd (omega arith)
 
 flag_once : (b c : Bool) → flag_number b ≡ flag_number c → b ≡ c
 flag_once true true is = refl
-flag_once true false is = absurd (omega arith)
-flag_once false true is = absurd (omega arith)
 flag_once false false is = refl
+flag_once b c is = absurd (omega arith)
 
 number_once : (m n : Option ℕ) → number_or_null m ≡ number_or_null n → m ≡ n
 number_once None None is = refl
-number_once None (Some n) is = cc
-number_once (Some m) None is = cc
 number_once (Some m) (Some n) is = cc
+number_once m n is = cc
 
 row_once : (s t : SessionRow) → session_row s ≡ session_row t → s ≡ t
 row_once s t is =

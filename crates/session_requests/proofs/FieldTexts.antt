@@ -58,9 +58,7 @@ name_by_tests text = cond (length text == 64) (cond (list_all is_lower_digit tex
 
 without_cause : (sized lower : Bool) (o : Option (List ℕ)) → result_ok (cond sized (cond lower (ok_or o BadHex) (Err BadHex)) (Err BadHex)) ≡ cond sized (cond lower o None) None
 without_cause true true None = refl
-without_cause true true (Some name) = refl
-without_cause true false o = refl
-without_cause false lower o = refl
+without_cause sized lower o = refl
 
 pub name_is : (text : List ℕ) → hex_name_of text ≡ name_by_tests text
 name_is text = without_cause (length text == 64) (list_all is_lower_digit text) (result_ok (decode_of text))

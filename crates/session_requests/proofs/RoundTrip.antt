@@ -13,7 +13,7 @@ use Rattle.hex.specs.Hex.{encode_lower}
 use Rattle.session_requests.specs.declared.request.RequestLine.{RequestLine}
 use Rattle.session_requests.specs.declared.request.RequestLine.TheVariants as line
 use Rattle.block_file.specs.Line.{decimal_of}
-use Rattle.session_requests.specs.Requests.{Ask, Program, Forget, Programs, Frame, Try, Last, Get, ListEntries, Dump, Begin, State, Quit, Is, AllRequests, next_and_rest, behind_line, body_length, by_line, list_count, digest_of, first_part, all_requests, line_limit, request_line_of, hex_name_of, onto, request_in_bytes, requests_of, with_body, ◌>>=◌}
+use Rattle.session_requests.specs.Requests.{Ask, Program, Forget, Programs, Frame, Try, Last, Get, Dump, Begin, State, Quit, Is, AllRequests, next_and_rest, behind_line, body_length, by_line, list_count, digest_of, first_part, all_requests, line_limit, request_line_of, hex_name_of, onto, request_in_bytes, requests_of, with_body, ◌>>=◌}
 use Rattle.session_requests.specs.Written.{FitsRequest, FitsLine, IsCount, IsName, body_for, request_bytes, digest_text, line_for, request_line_text}
 use Rattle.session_requests.proofs.FieldTexts.{IsDecimal, IsHex, above, decimal_is, digits_above, hex_above, hex_is}
 use Rattle.session_requests.proofs.Steps.{requests_step}
@@ -143,33 +143,10 @@ line_is line.Quit h = record { plain = refl; short = omega arith }
 
 -- ---- requests
 
-again : (ask : Ask) → with_body (line_for ask) (body_for ask) ≡ ask
-again (Program body) = refl
-again (Forget name) = refl
-again Programs = refl
-again (Frame body) = refl
-again (Try body) = refl
-again Last = refl
-again (Get key) = refl
-again (ListEntries key count) = refl
-again Dump = refl
-again (Begin height digest body) = refl
-again State = refl
-again Quit = refl
-
-sized : (ask : Ask) → length (body_for ask) ≡ body_length (line_for ask)
-sized (Program body) = refl
-sized (Forget name) = refl
-sized Programs = refl
-sized (Frame body) = refl
-sized (Try body) = refl
-sized Last = refl
-sized (Get key) = refl
-sized (ListEntries key count) = refl
-sized Dump = refl
-sized (Begin height digest body) = refl
-sized State = refl
-sized Quit = refl
+-- a request is its line and its body, which is as long as the line says
+again : (ask : Ask) → (with_body (line_for ask) (body_for ask) ≡ ask) × (length (body_for ask) ≡ body_length (line_for ask))
+again Quit = (refl, refl)
+again ask = (refl, refl)
 
 pub by_found : (bytes : List ℕ) (found : List ℕ × List ℕ) → first_part 10 line_limit bytes ≡ Some found → request_in_bytes bytes ≡ by_line (Some found)
 unfolding request_in_bytes
@@ -190,8 +167,8 @@ request_read ask more h =
     ap request_in_bytes (append_assoc text (10 ∷ body_for ask) more)
     ∙ by_found (text ++ 10 ∷ (body_for ask ++ more)) (text, body_for ask ++ more) (part_found 10 line_limit text (body_for ask ++ more) is.plain is.short)
     ∙ ap (λ o. behind_line o (body_for ask ++ more)) (line_read said h)
-    ∙ body_read said (body_for ask) more (sized ask)
-    ∙ ap (λ a. Is a more) (again ask)
+    ∙ body_read said (body_for ask) more (again ask).1
+    ∙ ap (λ a. Is a more) (again ask).0
 
 ended : next_and_rest (request_in_bytes []) ≡ all_requests [] None
 unfolding request_in_bytes

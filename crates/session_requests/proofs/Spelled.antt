@@ -101,25 +101,20 @@ record IsDigit (c d : ℕ) : Type 0 where
   small : d < 16
   back : slice_index lower_digits d ≡ c
 
+digit_is : (c d : ℕ) → hex_digit_value c ≡ Some d → d < 16 → glyph d ≡ c → IsDigit c d
+digit_is c d read small back = record { read = read; small = small; back = table d small ∙ back }
+
 figure : (c : ℕ) → is_ascii_digit c ≡ true → IsDigit c (c - 48)
 figure c h =
     let low : 48 ≤ c = grind (arith, nat_tests) in
     let high : c ≤ 57 = grind (arith, nat_tests) in
-    record {
-      read = grind (arith, nat_tests);
-      small = omega (arith, low, high);
-      back = table (c - 48) (omega (arith, low, high)) ∙ grind (arith, nat_tests);
-    }
+    digit_is c (c - 48) (grind (arith, nat_tests)) (omega (arith, low, high)) (grind (arith, nat_tests))
 
 letter : (c : ℕ) → (nat_le 97 c && nat_le c 102) ≡ true → IsDigit c (c - 87)
 letter c h =
     let low : 97 ≤ c = grind (arith, nat_tests) in
     let high : c ≤ 102 = grind (arith, nat_tests) in
-    record {
-      read = grind (arith, nat_tests);
-      small = omega (arith, low, high);
-      back = table (c - 87) (omega (arith, low, high)) ∙ grind (arith, nat_tests);
-    }
+    digit_is c (c - 87) (grind (arith, nat_tests)) (omega (arith, low, high)) (grind (arith, nat_tests))
 
 digit_of : (c : ℕ) → is_lower_digit c ≡ true → (d : ℕ) × IsDigit c d
 digit_of c h =

@@ -138,17 +138,10 @@ lines text =
 
 line_again : (said : RequestLine) (body : List ℕ) → length body ≡ body_length said → line_for (with_body said body) ≡ said
 line_again (line.Program n) body e = ap line.Program e
-line_again (line.Forget x) body e = refl
-line_again line.Programs body e = refl
 line_again (line.Frame n) body e = ap line.Frame e
 line_again (line.Try n) body e = ap line.Try e
-line_again line.Last body e = refl
-line_again (line.Get x) body e = refl
-line_again (line.List x n) body e = refl
-line_again line.Dump body e = refl
 line_again (line.Begin h d n) body e = ap (line.Begin h d) e
-line_again line.State body e = refl
-line_again line.Quit body e = refl
+line_again said body e = refl
 
 no_bytes : (body : List ℕ) → length body ≡ 0 → [] ≡ body
 no_bytes [] h = refl
@@ -156,17 +149,10 @@ no_bytes (b ∷ bs) h = absurd (omega (arith, h))
 
 body_again : (said : RequestLine) (body : List ℕ) → length body ≡ body_length said → body_for (with_body said body) ≡ body
 body_again (line.Program n) body e = refl
-body_again (line.Forget x) body e = no_bytes body e
-body_again line.Programs body e = no_bytes body e
 body_again (line.Frame n) body e = refl
 body_again (line.Try n) body e = refl
-body_again line.Last body e = no_bytes body e
-body_again (line.Get x) body e = no_bytes body e
-body_again (line.List x n) body e = no_bytes body e
-body_again line.Dump body e = no_bytes body e
 body_again (line.Begin h d n) body e = refl
-body_again line.State body e = no_bytes body e
-body_again line.Quit body e = no_bytes body e
+body_again said body e = no_bytes body e
 
 -- a request that is next is spelled by the first bytes
 abbrev pub IsSpelled : List ℕ → NextRequest → Type 0

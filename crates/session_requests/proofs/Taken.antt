@@ -5,10 +5,9 @@ use Rattle.std.specs.Option.{option_map}
 use Rattle.std.specs.Io.KnownBytes.{Consumes, IsAtEnd}
 use Rattle.std.proofs.lemmas.List.{length-take, take_more_set}
 use Rattle.session_requests.specs.Requests.{first_part}
-use Rattle.session_requests.specs.Reading.{KeepingGoesOn, AreBytesKept, LosesSome, WhereKnown}
+use Rattle.session_requests.specs.Reading.{KeepingGoesOn, AreBytesKept, WhereKnown}
 use Rattle.session_requests.specs.declared.reading.Keeping.{Keeping}
 use Rattle.session_requests.specs.declared.reading.Keeping.TheVariants.{Kept, Passed, OutOfMemory}
-use Rattle.session_requests.specs.declared.reading.Body.TheVariants as body
 use Rattle.session_requests.proofs.Parts.{before, no_front, none_left, scan_end, scan_hit, scan_on}
 
 -- two such facts, one after the other

@@ -47,18 +47,8 @@ no_quit one.Quit other e = other refl
 no_quit request other e = cc
 
 pub no_quit_long : (limit : ℕ) (said : RequestLine) (bytes : List ℕ) → is_too_long limit said ≡ true → with_body said bytes ≡ Quit → ⊥
-no_quit_long limit (line.Program size) bytes long e = cc
-no_quit_long limit (line.Forget name) bytes long e = cc
-no_quit_long limit line.Programs bytes long e = cc
-no_quit_long limit (line.Frame size) bytes long e = cc
-no_quit_long limit (line.Try size) bytes long e = cc
-no_quit_long limit line.Last bytes long e = cc
-no_quit_long limit (line.Get key) bytes long e = cc
-no_quit_long limit (line.List key count) bytes long e = cc
-no_quit_long limit line.Dump bytes long e = cc
-no_quit_long limit (line.Begin height digest size) bytes long e = cc
-no_quit_long limit line.State bytes long e = cc
 no_quit_long limit line.Quit bytes long e = cc
+no_quit_long limit said bytes long e = cc
 
 pub no_quit_kept : (said : RequestLine) (bytes : List ℕ) → 0 < body_length said → with_body said bytes ≡ Quit → ⊥
 no_quit_kept line.Quit bytes some e = omega (arith, some)

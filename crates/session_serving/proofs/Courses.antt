@@ -21,34 +21,14 @@ course_comes answers shuts leaves text_of s ask (Breaks fault) after xs ys comes
 
 pub no_last_long : (limit : ℕ) (said : RequestLine) (bytes : List ℕ) → is_too_long limit said ≡ true → with_body said bytes ≡ Last → ⊥
 no_last_long limit line.Last bytes long e = cc
-no_last_long limit (line.Program size) bytes long e = cc
-no_last_long limit (line.Forget name) bytes long e = cc
-no_last_long limit line.Programs bytes long e = cc
-no_last_long limit (line.Frame size) bytes long e = cc
-no_last_long limit (line.Try size) bytes long e = cc
-no_last_long limit (line.Get key) bytes long e = cc
-no_last_long limit (line.List key count) bytes long e = cc
-no_last_long limit line.Dump bytes long e = cc
-no_last_long limit (line.Begin height digest size) bytes long e = cc
-no_last_long limit line.State bytes long e = cc
-no_last_long limit line.Quit bytes long e = cc
+no_last_long limit said bytes long e = cc
 
 no_bytes : 0 < 0 → ⊥
 no_bytes h = omega (arith, h)
 
 pub no_last_kept : (said : RequestLine) (bytes : List ℕ) → 0 < body_length said → with_body said bytes ≡ Last → ⊥
 no_last_kept line.Last bytes some e = no_bytes some
-no_last_kept (line.Program size) bytes some e = cc
-no_last_kept (line.Forget name) bytes some e = cc
-no_last_kept line.Programs bytes some e = cc
-no_last_kept (line.Frame size) bytes some e = cc
-no_last_kept (line.Try size) bytes some e = cc
-no_last_kept (line.Get key) bytes some e = cc
-no_last_kept (line.List key count) bytes some e = cc
-no_last_kept line.Dump bytes some e = cc
-no_last_kept (line.Begin height digest size) bytes some e = cc
-no_last_kept line.State bytes some e = cc
-no_last_kept line.Quit bytes some e = cc
+no_last_kept said bytes some e = cc
 
 pub last_no_quit : (ask : Ask) → ask ≡ Last → ask ≡ Quit → ⊥
 last_no_quit ask is e = cc

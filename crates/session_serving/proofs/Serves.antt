@@ -7,10 +7,14 @@ use Rattle.session_requests.specs.Requests.{Ask, requests_of}
 use Rattle.session_requests.specs.declared.request.Asked.{Asked}
 use Rattle.session_requests.specs.declared.request.RequestFault.{RequestFault}
 use Rattle.session_requests.proofs.Taken.{known_then}
-use Rattle.session_serving.specs.Asking.{ComesFirst, IsNextAnswered, IsFaultAnswered, NothingComes}
+use Rattle.session_serving.specs.Asking.{ComesFirst, IsFaultAnswered, NothingComes}
 use Rattle.session_serving.specs.Serving.{Answering, AreAnswered, IsCutOff, IsEndedBy, IsServed, IsShut, IsUnread, Shutting, end_text, end_fault_of, until_quit}
 use Rattle.session_serving.specs.declared.serving.ServeFault.{ServeFault}
 use Rattle.session_serving.specs.declared.serving.ServeFault.TheVariants.{Broken, Output, Shut, Unreadable}
+
+-- a request comes first in xs, and a session answers it
+abbrev pub IsNextAnswered : {S : Type 0} → Answering S → S → List ℕ → S → List ℕ → List ℕ → Type 0
+IsNextAnswered answers s text after xs ys = (ask : Ask) × ComesFirst ask xs ys × answers s ask text after
 
 -- this number of requests was answered, and nothing after them was read
 pub record IsServing {S : Type 0} (answers : Answering S) (old now : S) (before mid : Option (List ℕ)) (count : ℕ) (xs ys : List ℕ) : Type 0 where

@@ -1,6 +1,6 @@
 -- What keeps a session can have what is pending of a request.
 use Rattle.std.proofs.Common.{◌≡◌, refl, subst}
-use Rattle.session_requests.specs.Requests.{Ask, Program, Forget, Programs, Frame, Try, Last, Get, ListEntries, Dump, Begin, Quit, State as AskState}
+use Rattle.session_requests.specs.Requests.{Ask, Last, Begin}
 use Rattle.session_requests.specs.declared.request.Request.{Request}
 use Rattle.session_requests.specs.declared.request.Request.TheVariants as one
 use Rattle.session_requests.specs.Reading.{ask_of}
@@ -15,17 +15,7 @@ use Rattle.session_turns.specs.declared.state.State.{State}
 -- an answer that reports no change is due
 pub undone_due : (s : State) (ask : Ask) (given : Answer) → IsUndone given → IsPendingDue s ask (pending.Nothing given)
 undone_due s (Begin height digest bytes) given h = h
-undone_due s (Program file) given h = tt
-undone_due s (Forget name) given h = tt
-undone_due s Programs given h = tt
-undone_due s (Frame bytes) given h = tt
-undone_due s (Try bytes) given h = tt
-undone_due s Last given h = tt
-undone_due s (Get key) given h = tt
-undone_due s (ListEntries from count) given h = tt
-undone_due s Dump given h = tt
-undone_due s AskState given h = tt
-undone_due s Quit given h = tt
+undone_due s ask given h = tt
 
 -- what does not ask for the last answer is no `last`
 pub no_last : (request : Request) → (request ≡ one.Last → ⊥) → ask_of request ≡ Last → ⊥

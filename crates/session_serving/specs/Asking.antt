@@ -26,10 +26,6 @@ ComesFirst ask xs ys = (until_quit (requests_of xs).asks ≡ ask ∷ until_quit 
 abbrev pub NoneComes : Option RequestFault → List ℕ → Type 0
 NoneComes fault xs = (until_quit (requests_of xs).asks ≡ []) × (end_fault_of (requests_of xs) ≡ fault)
 
--- a request comes first in xs, and a session answers it
-abbrev pub IsNextAnswered : {S : Type 0} → Answering S → S → List ℕ → S → List ℕ → List ℕ → Type 0
-IsNextAnswered answers s text after xs ys = (ask : Ask) × ComesFirst ask xs ys × answers s ask text after
-
 -- no request comes first, and nothing changes
 abbrev pub NothingComes : {S : Type 0} → Option RequestFault → S → S → List ℕ → Type 0
 NothingComes fault s after xs = NoneComes fault xs × (after ≡ s)

@@ -16,29 +16,21 @@ use Rattle.session_tree.specs.Entries.{IsTooLong, entry_row}
 pub later_cause : (old mid : View) (a b c : ℕ) (U V : Type 0) (e : StoreError) → a ≤ b → mid.is_broken ≡ old.is_broken → (U → V)
     → HasCause mid (MoreFaults b c) U e → HasCause old (MoreFaults a c) V e
 later_cause old mid a b c U V OutOfMemory up same weaker h = tt
-later_cause old mid a b c U V Io up same weaker h = omega (arith, h)
-later_cause old mid a b c U V Corrupt up same weaker h = omega (arith, h)
-later_cause old mid a b c U V Full up same weaker h = omega (arith, h)
 later_cause old mid a b c U V Broken up same weaker h = rw same at h
 later_cause old mid a b c U V Unstorable up same weaker h = weaker h
+later_cause old mid a b c U V e up same weaker h = omega (arith, h)
 
 -- the same cause, if another limit is met
 pub other_limit : (old : View) (F U V : Type 0) (e : StoreError) → (U → V) → HasCause old F U e → HasCause old F V e
-other_limit old F U V OutOfMemory weaker h = tt
-other_limit old F U V Io weaker h = h
-other_limit old F U V Corrupt weaker h = h
-other_limit old F U V Full weaker h = h
-other_limit old F U V Broken weaker h = h
 other_limit old F U V Unstorable weaker h = weaker h
+other_limit old F U V e weaker h = h
 
 -- the failure of an earlier call
 pub earlier_cause : (old : View) (a b c : ℕ) (U : Type 0) (e : StoreError) → b ≤ c → HasCause old (MoreFaults a b) U e → HasCause old (MoreFaults a c) U e
-earlier_cause old a b c U OutOfMemory up h = tt
 earlier_cause old a b c U Io up h = omega (arith, h)
 earlier_cause old a b c U Corrupt up h = omega (arith, h)
 earlier_cause old a b c U Full up h = omega (arith, h)
-earlier_cause old a b c U Broken up h = h
-earlier_cause old a b c U Unstorable up h = h
+earlier_cause old a b c U e up h = h
 
 -- an entry that is not too long can be stored
 storable : (reals : ℕ) (key value : List ℕ) → 36 + length key + length value ≤ 10 ^ 9 → IsStorable reals (entry_row (key, value))

@@ -11,7 +11,12 @@ use Rattle.sqlite_value.specs.Keys.{plain, entry_cmp}
 use Rattle.sqlite_value.proofs.OrderLemmas.{value_cmp-Blob, then-Equal}
 use Rattle.sqlite_value.proofs.KeyLemmas.{first_key-plain}
 use Rattle.sqlite_trees.specs.Tree.{insert_entry, remove_entry}
-use Rattle.session_tree.specs.Entries.{ByteMap, entry_row, rows_of, with_content, changed_rows}
+use Rattle.session_tree.specs.Entries.{ByteMap, entry_row, rows_of, changed_rows}
+
+-- a map in which a key has this value, or no value
+abbrev pub with_content : ByteMap → List ℕ → Option (List ℕ) → ByteMap
+with_content m key (Some value) = insert m key value
+with_content m key None = remove m key
 
 abbrev pub Entries : Type 0
 Entries = List (List ℕ × List ℕ)

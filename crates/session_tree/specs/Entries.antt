@@ -21,11 +21,6 @@ entry_row e = Blob e.0 ∷ Blob e.1 ∷ []
 abbrev pub rows_of : ByteMap → List Row
 rows_of m = map entry_row (fin.entries m)
 
--- a map in which a key has this value, or no value
-abbrev pub with_content : ByteMap → List ℕ → Option (List ℕ) → ByteMap
-with_content m key (Some value) = fin.insert m key value
-with_content m key None = fin.remove m key
-
 -- the rows without the old entry of a key, if it had one
 abbrev pub without_old : List ℕ → Option (List ℕ) → List Row → List Row
 without_old key None rows = rows

@@ -58,11 +58,8 @@ left_fits before now given keys changes is has = changed_fits before now keys ch
 
 -- a program that is pending is not here yet
 pub pending_is_new : (settings : Settings) (s : State) (ask : Ask) (p : Pending) → IsPending settings s ask p → IsNewProgram s p
-pending_is_new settings s ask (pending.Nothing given) is = tt
 pending_is_new settings s ask (pending.Program name image text) is = is.new
-pending_is_new settings s ask (pending.Forget name) is = tt
-pending_is_new settings s ask (pending.Frame frame) is = tt
-pending_is_new settings s ask (pending.Begin begin) is = tt
+pending_is_new settings s ask p is = tt
 
 -- some settings, for facts that hold for all settings
 unfoldable pub some_settings : Settings

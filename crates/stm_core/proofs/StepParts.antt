@@ -2,11 +2,11 @@
 use Rattle.std.proofs.Common.{◌≡◌, ◌<◌, ℕ, zero, suc, Bool, true, false, List, [], ◌∷◌, slice_get, Option, None, Some, refl, sym, subst, ap, ◌∙◌}
 use Rattle.std.specs.Option.{option_map}
 use Rattle.rv_step.specs.declared.answer.StorageAnswer.{StorageAnswer}
-use Rattle.mvmap.specs.Versions.{Versions, Estimate, changed}
+use Rattle.mvmap.specs.Versions.{Versions, changed}
 use Rattle.stm_state.specs.declared.state.Task.{Task}
 use Rattle.stm_state.specs.declared.state.Task.TheVariants.{Idle, Running, Moving, Validating, Marking}
 use Rattle.stm_state.specs.State.{State, call_at, with_task}
-use Rattle.stm_state.specs.Steps.{Ask, ReadKey, Record, MoveKey, FinishExecution, CheckRead, MarkEstimate, FinishAbort, after_mark_estimate, after_move_key, version_of}
+use Rattle.stm_state.specs.Steps.{Ask, ReadKey, Record, MoveKey, FinishExecution, CheckRead, MarkEstimate, FinishAbort, after_move_key, version_of}
 use Rattle.stm_state.proofs.Invariant.{named_by}
 use Rattle.scheduler.specs.declared.worker.TaskKind.TheVariants as task_kind
 use Rattle.scheduler.specs.Workers.{HasKeys, IsRunning, task_kind_of}

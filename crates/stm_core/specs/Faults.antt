@@ -6,37 +6,36 @@ use Rattle.stm_core.specs.declared.driving.DriveFault.TheVariants.{NotDone, BadW
 use Rattle.stm_core.specs.declared.fault.RecordFault.{RecordFault}
 use Rattle.stm_core.specs.declared.fault.RecordFault.TheVariants as record_fault
 
--- the number of a refusal of a schedule
+-- the number and the name of a refusal of a schedule
+abbrev pub row_of : DriveFault → ℕ × List ℕ
+row_of NotDone = (1, codes "NotDone")
+row_of BadWorker = (2, codes "BadWorker")
+row_of ArenaFull = (3, codes "ArenaFull")
+row_of IncarnationLimit = (4, codes "IncarnationLimit")
+row_of Memory = (5, codes "Memory")
+
 abbrev pub number_of : DriveFault → ℕ
-number_of NotDone = 1
-number_of BadWorker = 2
-number_of ArenaFull = 3
-number_of IncarnationLimit = 4
-number_of Memory = 5
+number_of fault = (row_of fault).0
 
 abbrev pub name_of : DriveFault → List ℕ
-name_of NotDone = codes "NotDone"
-name_of BadWorker = codes "BadWorker"
-name_of ArenaFull = codes "ArenaFull"
-name_of IncarnationLimit = codes "IncarnationLimit"
-name_of Memory = codes "Memory"
+name_of fault = (row_of fault).1
 
 -- the name and the number, as they are printed
 abbrev pub fault_text : DriveFault → List ℕ
 fault_text fault = name_of fault ++ codes " " ++ decimal (number_of fault)
 
--- the number of a refusal of a run that is handed in
+-- the number and the name of a refusal of a run that is handed in
+abbrev pub record_row : RecordFault → ℕ × List ℕ
+record_row record_fault.Foreign = (1, codes "Foreign")
+record_row record_fault.ArenaFull = (2, codes "ArenaFull")
+record_row record_fault.Memory = (3, codes "Memory")
+record_row record_fault.IncarnationLimit = (4, codes "IncarnationLimit")
+
 abbrev pub record_number : RecordFault → ℕ
-record_number record_fault.Foreign = 1
-record_number record_fault.ArenaFull = 2
-record_number record_fault.Memory = 3
-record_number record_fault.IncarnationLimit = 4
+record_number fault = (record_row fault).0
 
 abbrev pub record_name : RecordFault → List ℕ
-record_name record_fault.Foreign = codes "Foreign"
-record_name record_fault.ArenaFull = codes "ArenaFull"
-record_name record_fault.Memory = codes "Memory"
-record_name record_fault.IncarnationLimit = codes "IncarnationLimit"
+record_name fault = (record_row fault).1
 
 -- the name and the number, as they are printed
 abbrev pub record_text : RecordFault → List ℕ

@@ -157,43 +157,36 @@ impl ReadRoom {
         }
     }
 
-    /// Like `read_from_map`. Then the two origins share a list of the versions that they passed. They share it with the worker's
-    /// last read of the key if that passed the same versions, otherwise with its next one. So it may take memory; if that ran
-    /// out, they keep lists of their own.
-    pub(crate) fn read_and_share(
+    /// Lets the origin that a worker's read of a key gave, and the one that its run keeps, share a list of the versions that they
+    /// passed. They share it with the worker's last read of the key if that passed the same versions, otherwise with its next
+    /// one. So it may take memory; if that ran out, they keep lists of their own.
+    pub(crate) fn share(
         &mut self,
-        base: Option<LentValue>,
-        map: &MvMap,
         scheduler: &mut Scheduler,
         worker: usize,
-        call: u16,
         key: &Key,
-    ) -> ReadResult
-        requires counts { MayCount worker scheduler.old }
-        requires answer { 1 ≤ get_or scheduler.old.rooms worker 0 }
-        requires kept { call ≤ self.old.passed.kept }
-        requires lent { call ≤ self.old.passed.lent }
-        requires values { HasValueRoom self.old.values }
-        ensures answers { (store : Storage) → lent_content base.entry ≡ finite.get store key.now → result ≡ read_result_of store key.now (reading map.now.versions key.now call) }
-        ensures state { (store : Storage) → lent_content base.entry ≡ finite.get store key.now → (answers : List StorageAnswer) → get_or scheduler.old.tasks worker task.Idle ≡ task.Running call answers None → (v : Versions) (p : ℕ) →
-            state_of v p scheduler.new ≡ counted one_step worker (with_task worker (answered_with store key.now call answers (reading map.now.versions key.now call)) (state_of v p scheduler.old)) }
+        read: &mut ReadResult,
+    )
+        requires { worker < length scheduler.old.tasks }
+        ensures read { read.new ≡ read.old }
+        ensures same { (v : Versions) (p : ℕ) → state_of v p scheduler.new ≡ state_of v p scheduler.old }
         ensures rooms { KeepsRooms worker scheduler.old.rooms scheduler.new.rooms }
-        ensures stay { GivesInPlace result → self.new.values ≡ self.old.values }
+        ensures stay { self.new.values ≡ self.old.values }
     {
-        let mut read = self.read_from_map(base, map, scheduler, worker, call, key);
-        if let ReadResult::Given(_, origin) = &mut read {
-            if !origin.passed().is_empty() {
-                share_passed(
-                    scheduler,
-                    &mut self.spare_answers,
-                    &mut self.passed,
-                    worker,
-                    key,
-                    origin,
-                );
-            }
+        let ReadResult::Given(_, origin) = read else {
+            return;
+        };
+        if origin.passed().is_empty() {
+            return;
         }
-        read
+        share_passed(
+            scheduler,
+            &mut self.spare_answers,
+            &mut self.passed,
+            worker,
+            key,
+            origin,
+        );
     }
 }
 

@@ -82,7 +82,11 @@ impl<H: JobSource> Core<H> {
         let TaskKind::Running { call, .. } = self.scheduler.task_kind(worker) else {
             unreachable!();
         };
+        let mut read = self
+            .read_room
+            .read_from_map(base, &self.map, &mut self.scheduler, worker, call, key);
         self.read_room
-            .read_and_share(base, &self.map, &mut self.scheduler, worker, call, key)
+            .share(&mut self.scheduler, worker, key, &mut read);
+        read
     }
 }

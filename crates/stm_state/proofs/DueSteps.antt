@@ -61,16 +61,13 @@ module _ (calls : List Invocation) (store : Storage) (w : ℕ) (s : State) where
 
   -- each step that is owed is due
   owed_due : (task : Task) → ((i : ℕ) → named_by task ≡ Some i → i < length calls) → Goes calls task → IsSome (step_with (block_of calls store) w task (due_step calls task) s)
-  owed_due Idle named g = refl
   owed_due (Running i answers None) named g = run_due i answers (named i refl) g (asked_at (slice_get calls i) (replies_of answers)) refl
   owed_due (Running i answers (Some b)) named g = cond_both (nat_le incarnation_limit (call_at s i).incarnation) _ _ (λ o. IsSome o) (λ _. refl) (λ _. refl)
-  owed_due (Moving i (key ∷ keys) new) named g = refl
   owed_due (Moving i [] new) named g = refl
-  owed_due (Validating i n zero false) named g = refl
-  owed_due (Validating i n (suc left) false) named g = refl
   owed_due (Validating i n left true) named g = refl
-  owed_due (Marking i (key ∷ keys)) named g = refl
+  owed_due (Validating i n zero false) named g = refl
   owed_due (Marking i []) named g = refl
+  owed_due task named g = refl
 
 -- ---- each task's call continues after a step
 

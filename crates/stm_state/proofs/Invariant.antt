@@ -41,45 +41,34 @@ view_of s = record {
 
 -- the call that a task runs, or whose keys it moves
 abbrev pub run_by : Task → Option ℕ
-run_by Idle = None
 run_by (Running i answers blocked) = Some i
 run_by (Moving i keys new) = Some i
-run_by (Validating i n left failed) = None
-run_by (Marking i keys) = None
+run_by _ = None
 
 -- the call whose versions a task turns into estimates
 abbrev pub marked_by : Task → Option ℕ
-marked_by Idle = None
-marked_by (Running i answers blocked) = None
-marked_by (Moving i keys new) = None
-marked_by (Validating i n left failed) = None
 marked_by (Marking i keys) = Some i
+marked_by _ = None
 
 -- the call that a task owns: it runs the call, moves its keys or marks its keys
 abbrev pub owned_by : Task → Option ℕ
-owned_by Idle = None
 owned_by (Running i answers blocked) = Some i
 owned_by (Moving i keys new) = Some i
-owned_by (Validating i n left failed) = None
 owned_by (Marking i keys) = Some i
+owned_by _ = None
 
 -- the call whose entries a task changes: it moves or marks its keys
 abbrev pub turned_by : Task → Option ℕ
-turned_by Idle = None
-turned_by (Running i answers blocked) = None
 turned_by (Moving i keys new) = Some i
-turned_by (Validating i n left failed) = None
 turned_by (Marking i keys) = Some i
+turned_by _ = None
 
 -- the call of an unfinished record with a new key or of an unfinished abort. At the end of such a task the validation index is
 -- lowered to at most the next call
 abbrev pub lowered_by : Task → Option ℕ
-lowered_by Idle = None
-lowered_by (Running i answers blocked) = None
 lowered_by (Moving i keys true) = Some i
-lowered_by (Moving i keys false) = None
-lowered_by (Validating i n left failed) = None
 lowered_by (Marking i keys) = Some i
+lowered_by _ = None
 
 abbrev pub named_by : Task → Option ℕ
 named_by Idle = None

@@ -36,7 +36,7 @@ parked_on : (i : ℕ) (call : CallState) → call.status ≡ Aborting → call.p
 parked_on i call h k = ap (λ st. is_aborting st && is_some_of call.parked i) h ∙ ap (λ o. is_some_of o i) k ∙ equal_itself i
 
 -- a call that is parked on call i names it
-parked_names : (i : ℕ) (call : CallState) → is_parked_on i call ≡ true → call.parked ≡ Some i
+pub parked_names : (i : ℕ) (call : CallState) → is_parked_on i call ≡ true → call.parked ≡ Some i
 parked_names i call h = go call.parked refl (and_parts (is_aborting call.status) (is_some_of call.parked i) h).1
   where
     go : (o : Option ℕ) → call.parked ≡ o → is_some_of o i ≡ true → call.parked ≡ Some i

@@ -5,10 +5,10 @@ use Rattle.std.specs.FinMap.{empty}
 use Rattle.rv_ledger.specs.declared.outcome.Counts.{Counts}
 use Rattle.mvmap.specs.Versions.{Versions}
 use Rattle.stm_state.specs.declared.state.Status.{Status}
-use Rattle.stm_state.specs.declared.state.Status.TheVariants.{Ready, Executing, Executed, Aborting}
+use Rattle.stm_state.specs.declared.state.Status.TheVariants.{Ready, Executed, Aborting}
 use Rattle.stm_state.specs.declared.state.CallState.{CallState}
 use Rattle.stm_state.specs.declared.state.Task.{Task}
-use Rattle.stm_state.specs.declared.state.Task.TheVariants.{Idle, Running, Moving, Validating, Marking}
+use Rattle.stm_state.specs.declared.state.Task.TheVariants.{Idle}
 
 -- the calls and their versions; the execution index and the validation index. For each worker its task, its counts and the number
 -- of its `Ask` steps answered Done. Then the number of writes that all recorded runs had together
@@ -60,28 +60,19 @@ with_task w task s = record s { tasks = set s.tasks w task }
 -- tests of a status and of a task
 abbrev pub is_ready : Status → Bool
 is_ready Ready = true
-is_ready Executing = false
-is_ready Executed = false
-is_ready Aborting = false
+is_ready _ = false
 
 abbrev pub is_executed : Status → Bool
-is_executed Ready = false
-is_executed Executing = false
 is_executed Executed = true
-is_executed Aborting = false
+is_executed _ = false
 
 abbrev pub is_aborting : Status → Bool
-is_aborting Ready = false
-is_aborting Executing = false
-is_aborting Executed = false
 is_aborting Aborting = true
+is_aborting _ = false
 
 abbrev pub is_idle : Task → Bool
 is_idle Idle = true
-is_idle (Running i answers blocked) = false
-is_idle (Moving i keys new) = false
-is_idle (Validating i n left failed) = false
-is_idle (Marking i keys) = false
+is_idle _ = false
 
 -- both indices are past the last call, and no worker has a task
 unfoldable pub is_done : State → Bool

@@ -1,4 +1,4 @@
-use Rattle.std.proofs.Common.{◌≡◌, ℕ, true, get_or, sym, ap, ◌∙◌}
+use Rattle.std.proofs.Common.{◌≡◌, ℕ, get_or, ap, ◌∙◌}
 use Rattle.mvmap.specs.Versions.{Versions}
 use Rattle.stm_state.specs.declared.state.Status.TheVariants.{Aborting}
 use Rattle.stm_state.specs.declared.state.Task.TheVariants.{Idle, Marking}
@@ -6,6 +6,7 @@ use Rattle.stm_state.specs.State.{fresh, with_call, with_task}
 use Rattle.stm_state.specs.Steps.{counted, after_decide, is_executed_at, keys_of, one_validation, written_by}
 use Rattle.scheduler.specs.Schedule.{Schedule, state_of}
 use Rattle.scheduler.proofs.Cases.{decided_late, decided_none, decided_abort}
+use Rattle.scheduler.proofs.Seen.{seen_call}
 use Rattle.scheduler.proofs.scheduler.Scheduler.try_abort.Goals as goal
 use Rattle.scheduler.proofs.scheduler.Scheduler.try_abort.Goals.{else-failed-via-then-failed+else-is_executed_at, else-failed-via-else-failed}
 
@@ -14,9 +15,7 @@ returns-then-is_executed_at-clause-state c =
     let w = c.args.worker in
     let i = c.args.call in
     let n = c.args.incarnation in
-    let test : is_executed_at n (get_or c.args.self.now.calls i fresh) ≡ true =
-    ap (λ (t : Schedule). is_executed_at n (get_or t.calls i fresh)) (sym c.count_validation.ensures)
-    ∙ ap (is_executed_at n) (sym c.call.ensures) ∙ sym c.is_executed_at.ensures ∙ c.if-is_executed_at.true in
+    let test = seen_call (is_executed_at n) i c.count_validation.ensures c.call.ensures c.is_executed_at.ensures ∙ c.if-is_executed_at.true in
     λ v p. c.begin_abort.ensures.state v p
     ∙ ap (λ (t : Schedule). with_task w (Marking i (keys_of (written_by (get_or t.calls i fresh).last))) (with_call i (record (get_or t.calls i fresh) { status = Aborting }) (state_of v p t))) c.count_validation.ensures
     ∙ ap (counted one_validation w) (decided_abort w (state_of v p c.args.self.now) i n c.args.failed c.if-failed.true test)
@@ -30,8 +29,7 @@ returns-else-failed-clause-state c =
     elim c.else-failed.branch [
       | else-failed-via-then-failed+else-is_executed_at b ↦ λ v p.
           decided_late w (state_of v p c.args.self.now) i n c.args.failed b.if-failed.true
-          (ap (λ (t : Schedule). is_executed_at n (get_or t.calls i fresh)) (sym c.count_validation.ensures)
-          ∙ ap (is_executed_at n) (sym b.call.ensures) ∙ sym b.is_executed_at.ensures ∙ b.if-is_executed_at.false)
+          (seen_call (is_executed_at n) i c.count_validation.ensures b.call.ensures b.is_executed_at.ensures ∙ b.if-is_executed_at.false)
       | else-failed-via-else-failed b ↦ λ v p. decided_none w (state_of v p c.args.self.now) i n c.args.failed b.if-failed.false
     ] in
     λ v p. c.begin.ensures.state v p
