@@ -6,23 +6,21 @@ use Rattle.workers.specs.declared.chain.ChainFault.TheVariants.{Run, TooManyCall
 use Rattle.workers.specs.declared.fault.RunFault.{RunFault}
 use Rattle.workers.specs.declared.fault.RunFault.TheVariants.{BadCount, Foreign, ArenaFull, IncarnationLimit, Memory, Spawn, StepLimit}
 
+-- the number and the name
+abbrev pub row_of : RunFault → ℕ × List ℕ
+row_of BadCount = (1, codes "BadCount")
+row_of Foreign = (2, codes "Foreign")
+row_of ArenaFull = (3, codes "ArenaFull")
+row_of IncarnationLimit = (4, codes "IncarnationLimit")
+row_of Memory = (5, codes "Memory")
+row_of Spawn = (6, codes "Spawn")
+row_of StepLimit = (7, codes "StepLimit")
+
 abbrev pub number_of : RunFault → ℕ
-number_of BadCount = 1
-number_of Foreign = 2
-number_of ArenaFull = 3
-number_of IncarnationLimit = 4
-number_of Memory = 5
-number_of Spawn = 6
-number_of StepLimit = 7
+number_of fault = (row_of fault).0
 
 abbrev pub name_of : RunFault → List ℕ
-name_of BadCount = codes "BadCount"
-name_of Foreign = codes "Foreign"
-name_of ArenaFull = codes "ArenaFull"
-name_of IncarnationLimit = codes "IncarnationLimit"
-name_of Memory = codes "Memory"
-name_of Spawn = codes "Spawn"
-name_of StepLimit = codes "StepLimit"
+name_of fault = (row_of fault).1
 
 -- the name and the number, as they are printed
 abbrev pub fault_text : RunFault → List ℕ

@@ -95,7 +95,6 @@ impl Executor {
 
     /// `run_block` with a gate. Each thread passes it between the end of a run and its record, and may be
     /// held there.
-    #[tactic(auto, using(rv_step::proofs::CallsInOrder::receipts_applied))]
     pub fn run_block_with<R: Threads + Wait + Sync, G: Gate + Sync>(
         &mut self,
         rt: &R,
@@ -274,7 +273,8 @@ impl<J: JobName> Promise<Result<Share, WrittenFault>> for GivesBack<J> {
 /// The handle of a thread that runs for a share.
 type Thread<J> = PromisedHandle<Result<Share, WrittenFault>, GivesBack<J>>;
 
-/// The shares that the threads give back, as `run_each_share` returns them; none if it is refused.
+/// Runs a thread for each share, waits for all of them, and returns the shares that they give back. None if a thread is refused, or
+/// if a worker ends with a fault; the fault is written then.
 #[tactic(auto, using(crate::proofs::GivenBack::none_left, crate::proofs::GivenBack::all_left, crate::proofs::GivenBack::all_keep))]
 fn shares_back<
     J: JobName + Send + Sync,
@@ -287,32 +287,7 @@ fn shares_back<
     ensures left { AreLeft J.work_limit (length shares.items) result.items }
     ensures within { All (λ share. KeepsLimit J.work_limit share.counts) result.items }
 {
-    match run_each_share(rt, alloc, shared, shares, gate) {
-        Ok(back) => back,
-        Err(_) => Vec::new(alloc),
-    }
-}
-
-/// Runs a thread for each share, and waits for all of them. Returns all their shares, or a fault that is
-/// written: that of a thread, Spawn if the system refuses a thread, or Memory if memory ran out.
-fn run_each_share<
-    J: JobName + Send + Sync,
-    H: JobSource + Send + Sync,
-    R: Threads + Wait + Sync,
-    G: Gate + Sync,
->(
-    rt: &R,
-    alloc: Global,
-    shared: &Shared<J, H>,
-    shares: Vec<Share>,
-    gate: &G,
-) -> Result<Vec<Share>, WrittenFault>
-    requires passes { All (λ share. IsPassOf shared.now.cell share.pass) shares.items }
-    requires shares { map counts_of_share shares.items ≡ zero_counts_of_all (length shares.items) }
-    ensures all { IfOk result (λ back. length back.items ≡ length shares.items) }
-    ensures each { IfOk result (λ back. HoldFrom (IsGivenBack J.work_limit) 0 back.items) }
-{
-    thread::scope(
+    let back = thread::scope(
         thread::scope_env(),
         rt,
         |scope| -> Result<Vec<Share>, WrittenFault>
@@ -323,7 +298,11 @@ fn run_each_share<
             let threads = start_threads(scope, rt, alloc, shared, shares, gate)?;
             join_threads(rt, threads, room)
         },
-    )
+    );
+    match back {
+        Ok(back) => back,
+        Err(_) => Vec::new(alloc),
+    }
 }
 
 /// Room for this many shares; refused as Memory if memory ran out.

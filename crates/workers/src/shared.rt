@@ -50,20 +50,37 @@ impl<J: JobName> Shared<J> {
         ensures passes { IfOk result (λ made. All (λ share. IsPassOf made.0.cell share.pass) made.1.items) }
         ensures back { IfErr result (λ arena. arena.records ≡ []) }
     {
-        let Ok(job) = core.job().copy() else {
-            return Err(core.into_arena());
-        };
-        Shared::over(alloc, core, job, None)
+        let job = core.job().copy().ok();
+        Shared::over_copy(alloc, core, job)
     }
 }
 
 impl<J: JobName, H: JobSource> Shared<J, H> {
-    ghost use Rattle.std.specs.Prelude.{◌≡◌, ◌<◌, [], Some, length, map, slice_get, All, IfErr, IfOk};
+    ghost use Rattle.std.specs.Prelude.{◌≡◌, ◌<◌, [], None, Some, length, map, slice_get, All, IfErr, IfOk, IfSome};
     ghost use Rattle.workers.specs.Book.{zero_counts_of_all, counts_of_share, outside_fault};
     ghost use Rattle.workers.specs.Work.{IsWrittenOver};
     ghost use Rattle.workers.specs.DoneCell.{IsPassOf};
 
-    /// The same with the limit of work that `J` names, and with another holder of the job, whose calls the threads run and whose
+    /// `new` over a copy of the job, if there was memory for it.
+    fn over_copy(
+        alloc: Global,
+        core: Core<H>,
+        job: Option<H>,
+    ) -> Result<(Shared<J, H>, Vec<Share>), Arena>
+        requires core { core.job ≡ J.job }
+        requires job { IfSome job (λ job. H.job job ≡ J.job) }
+        requires limit { J.work_limit ≡ None }
+        ensures shares { IfOk result (λ made. map counts_of_share made.1.items ≡ zero_counts_of_all (length core.state.tasks)) }
+        ensures passes { IfOk result (λ made. All (λ share. IsPassOf made.0.cell share.pass) made.1.items) }
+        ensures back { IfErr result (λ arena. arena.records ≡ []) }
+    {
+        match job {
+            Some(job) => Shared::over(alloc, core, job, None),
+            None => Err(core.into_arena()),
+        }
+    }
+
+    /// `new` with the limit of work that `J` names, and with another holder of the job, whose calls the threads run and whose
     /// storage they search.
     pub(crate) fn over(
         alloc: Global,

@@ -6,7 +6,7 @@ use crate::gate::{Gate, Spin};
 use crate::worker::Worker;
 use crate::worker::ended::WorkFault;
 use rv_ledger::{Key, LentValue};
-use rv_step::{Pause, Run, SpareRun};
+use rv_step::{EndedRun, Pause, Run, SpareRun};
 use std::alloc::AllocError;
 use std::mem::replace;
 use std::sync::Wait;
@@ -20,7 +20,9 @@ impl<J: JobName, H: JobSource, R: Wait, G: Gate, S: Spin + Drop> Worker<'_, J, H
     ghost use Rattle.rv_step.specs.declared.ended_run.EndedRun.{EndedRun};
     ghost use Rattle.rv_step.specs.declared.stage.Stage.TheVariants as stages;
     ghost use Rattle.stm_core.specs.CoreState.{IsReadyOf, IsWithin};
+    ghost use Rattle.stm_core.specs.declared.next_step.NextStep.{NextStep};
     ghost use Rattle.stm_core.specs.declared.next_step.NextStep.TheVariants as next_step;
+    ghost use Rattle.workers.specs.declared.book.share.Share.{Share};
     ghost use Rattle.workers.specs.Work.{IsBlocked, IsReadAnswer, IsRecordAnswer, IsRunAnswer, IsStepFault, Steps};
 
     /// Runs a call outside the lock up to a read that meets an estimate, or up to its end. At the end the worker passes the gate,
@@ -36,26 +38,33 @@ impl<J: JobName, H: JobSource, R: Wait, G: Gate, S: Spin + Drop> Worker<'_, J, H
         let own = shared.call(call);
         let Ok(mut run) = Run::start_in(alloc, replace(&mut self.spare, SpareRun::new(alloc)), own)
         else {
-            return Err(WorkFault::Met(self.shared.refuse(self.rt, OutsideFault::Memory)));
+            return Err(self.refuse_memory());
         };
-        if !self.run_to_end(call, incarnation, &mut run)? {
-            self.spare = run.into_spare();
-            return Ok(NextStep::Make {
-                kind: StepKind::Park,
-                call,
-                incarnation,
-            });
+        match self.run_to_end(call, incarnation, &mut run) {
+            Ok(true) => {}
+            Ok(false) => {
+                self.spare = run.into_spare();
+                return Ok(NextStep::Make {
+                    kind: StepKind::Park,
+                    call,
+                    incarnation,
+                });
+            }
+            Err(fault) => {
+                self.spare = run.into_spare();
+                return Err(fault);
+            }
         }
         self.gate.held(self.share.worker());
         let ended = run.finish_in(&mut self.spare);
         let Ok(reads) = reads_made(alloc, &ended) else {
-            return Err(WorkFault::Met(self.shared.refuse(self.rt, OutsideFault::Memory)));
+            return Err(self.refuse_run(ended));
         };
         let mut ready = ReadyRecord::of(ended, reads);
-        let next = self.hand_in(call, incarnation, &mut ready)?;
+        let next = self.hand_in(call, incarnation, &mut ready);
         // The rest of what the record left over in `ready` is dropped here, after the lock is released.
         self.spare.keep_answers(ready.take_answers());
-        Ok(next)
+        next
     }
 
     /// Continues a call's run to its end. Returns false if it meets an estimate before that.
@@ -68,7 +77,7 @@ impl<J: JobName, H: JobSource, R: Wait, G: Gate, S: Spin + Drop> Worker<'_, J, H
     {
         for _ in self.rt.forever() {
             let Ok(pause) = run.go() else {
-                return Err(WorkFault::Met(self.shared.refuse(self.rt, OutsideFault::Memory)));
+                return Err(self.refuse_memory());
             };
             let Pause::Ask(key) = pause else {
                 return Ok(true);
@@ -101,9 +110,7 @@ impl<J: JobName, H: JobSource, R: Wait, G: Gate, S: Spin + Drop> Worker<'_, J, H
         match self.read_under_lock(call, incarnation, key, base) {
             Ok(ReadResult::Given(value, origin)) => match run.answer_stored(value, origin) {
                 Ok(()) => Ok(true),
-                Err(AllocError) => Err(WorkFault::Met(
-                    self.shared.refuse(self.rt, OutsideFault::Memory),
-                )),
+                Err(AllocError) => Err(self.refuse_memory()),
             },
             Ok(ReadResult::Blocked) => Ok(false),
             Err(written) => Err(WorkFault::Refused(written)),
@@ -125,6 +132,22 @@ impl<J: JobName, H: JobSource, R: Wait, G: Gate, S: Spin + Drop> Worker<'_, J, H
         let book = &mut *guard;
         book.holds();
         book.read_with_base(&mut self.share, call, incarnation, key, base)
+    }
+
+    /// Writes that memory ran out outside the lock. It ends the worker, whatever step it owes.
+    fn refuse_memory(&self) -> WorkFault
+        ensures { (step : NextStep) (left : Share) → IsStepFault J.job J.work_limit step left result }
+    {
+        WorkFault::Met(self.shared.refuse(self.rt, OutsideFault::Memory))
+    }
+
+    /// Drops a run that can't be handed in because memory ran out, and writes that.
+    #[cold]
+    fn refuse_run(&self, run: EndedRun) -> WorkFault
+        ensures { (step : NextStep) (left : Share) → IsStepFault J.job J.work_limit step left result }
+    {
+        drop(run);
+        self.refuse_memory()
     }
 
     /// Hands in the ended run of a call. Returns the step that it owes then.

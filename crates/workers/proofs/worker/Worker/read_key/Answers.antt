@@ -1,4 +1,5 @@
 use Rattle.std.proofs.Common.{Ok, subst}
+use Rattle.stm_core.specs.declared.next_step.NextStep.TheVariants.{Run}
 use Rattle.stm_core.specs.declared.next_step.ReadResult.{ReadResult}
 use Rattle.workers.specs.Work.{IsReadAnswer}
 use Rattle.workers.proofs.Steps.{read_leaves, read_refused}
@@ -22,3 +23,6 @@ returns-in-Ok-Blocked-clause-steps g c =
 pub returns-in-Err-clause-fault : goal.returns-in-Err-clause-fault
 returns-in-Err-clause-fault g c =
     read_refused (g.J.JobName.job) (g.J.JobName.work_limit) c.args.key.now c.args.call c.args.incarnation c.args.self.now.share c.read_under_lock.new.self.share c.in-Err.written c.in-Err.ensures
+
+pub returns-in-Err-answer_stored-clause-fault : goal.returns-in-Err-answer_stored-clause-fault
+returns-in-Err-answer_stored-clause-fault g c = c.refuse_memory.ensures (Run c.args.call c.args.incarnation) c.read_under_lock.new.self.share

@@ -1,6 +1,6 @@
 use Rattle.std.proofs.Common.{length}
 use Rattle.workers.proofs.GivenBack.{all_given}
-use Rattle.workers.proofs.executor.fn.run_each_share.scope.Goals as goal
+use Rattle.workers.proofs.executor.fn.shares_back.scope.Goals as goal
 
 pub returns : goal.returns
 returns g c =
