@@ -1,5 +1,5 @@
 -- What a refused command printed at most.
-use Rattle.std.proofs.Common.{◌≡◌, ◌⊎◌, ℕ, List, [], ◌∷◌, ◌++◌, Bool, true, false, refl, sym, ◌∙◌, ap, subst, inl, inr}
+use Rattle.std.proofs.Common.{◌≡◌, ◌⊎◌, ℕ, List, [], ◌∷◌, ◌++◌, Bool, true, refl, sym, ◌∙◌, ap, subst, inl, inr}
 use Rattle.std.proofs.lemmas.List.{append-nil}
 use Rattle.std.proofs.lemmas.Option.{IfSome_then}
 use Rattle.std.specs.Prelude.{⊤, Option, Some, None, Result, Ok, IfOk, IfSome, IsOkAnd, option_and_then}
@@ -214,13 +214,5 @@ refused_prints content may_fail typed may_refuse old new (ChainOf workers limit 
 pub counted_prints : (content : Contents) (typed : Option (List ℕ)) (may_refuse : WriteFault → Type 0) (old new : Option (List ℕ)) (asked : Asked) (counts : RunCounts)
     → AreCountsAsked content asked (Some counts) → Prints content typed old new asked → PrintsAtMost content typed may_refuse old new asked
 counted_prints content typed may_refuse old new (RunOf file workers true) counts are h = inr (refl, h)
-counted_prints content typed may_refuse old new (RunOf file workers false) counts are h = cc
 counted_prints content typed may_refuse old new (DriveOf file workers schedule true) counts are h = inr (refl, h)
-counted_prints content typed may_refuse old new (DriveOf file workers schedule false) counts are h = cc
-counted_prints content typed may_refuse old new (SeqOf file) counts are h = cc
-counted_prints content typed may_refuse old new (ConflictsOf file) counts are h = cc
-counted_prints content typed may_refuse old new (AsmOf file out) counts are h = cc
-counted_prints content typed may_refuse old new (DisOf file) counts are h = cc
-counted_prints content typed may_refuse old new (DebugOf file call more) counts are h = cc
-counted_prints content typed may_refuse old new (MigrateOf file out) counts are h = cc
-counted_prints content typed may_refuse old new (ChainOf workers limit gas digest brief store) counts are h = cc
+counted_prints content typed may_refuse old new asked counts are h = cc

@@ -47,10 +47,7 @@ if_any (Some bytes) P h = h
 at_fault : (fault : OpenFault) (old new : Option (List StoreOrder)) (path : List ℕ) → new ≡ old → AsksAsTold old new path (Store (opening_fault fault))
 at_fault disk.Busy old new path same = same
 at_fault disk.HotJournal old new path same = same
-at_fault disk.Unreadable old new path same = inl same
-at_fault disk.NotASession old new path same = inl same
-at_fault disk.Full old new path same = inl same
-at_fault disk.Memory old new path same = inl same
+at_fault fault old new path same = inl same
 
 pub not_opened : (input : Option (List ℕ)) (fault : OpenFault) (told : StoreFault) (old new : Option (List StoreOrder)) (path : List ℕ) → told ≡ opening_fault fault → new ≡ old → IfSome input (λ _. AsksAsTold old new path (Store told))
 not_opened input fault told old new path is same = rw is (if_any input _ (at_fault fault old new path same))
@@ -58,11 +55,7 @@ not_opened input fault told old new path is same = rw is (if_any input _ (at_fau
 -- one that keeps no session of the settings
 vain : (error : StoreError) (old new : Option (List StoreOrder)) (path : List ℕ) → AsksInVain old new path → AsksAsTold old new path (Store (fault_of_store error))
 vain failure.OutOfMemory old new path asks = asks
-vain failure.Io old new path asks = asks
-vain failure.Corrupt old new path asks = asks
-vain failure.Full old new path asks = asks
-vain failure.Broken old new path asks = asks
-vain failure.Unstorable old new path asks = asks
+vain error old new path asks = asks
 
 at_none : (fault : SessionFault) (old new : Option (List StoreOrder)) (path : List ℕ) → AsksForNone old new path → AsksAsTold old new path (Store (session.store_fault_of fault))
 at_none unwanted.NotASession old new path asks = inr asks
@@ -89,15 +82,12 @@ ended fault old new path _ asks = asks
 of_end : (may_fail : Type 0) (settings : Settings) (fault : ServeFault StoreFault) (old new : FileMoment) (bytes : List ℕ) (before after : Option (List ℕ))
     → IsEndedBy may_fail (IsFileAnswer settings) (IsShutBy settings) fault old bytes new before after → IsOfSession (durably_cut fault)
 of_end may_fail settings (serve.Broken request.BadLine) old new bytes before after h = tt
-of_end may_fail settings (serve.Broken request.Cut) old new bytes before after h = tt
-of_end may_fail settings serve.Unreadable old new bytes before after h = tt
-of_end may_fail settings (serve.Output fault) old new bytes before after h = tt
 of_end may_fail settings (serve.Shut Busy) old new bytes before after h = h.8.cause
 of_end may_fail settings (serve.Shut HotJournal) old new bytes before after h = h.8.cause
 of_end may_fail settings (serve.Shut NotASession) old new bytes before after h = h.8.cause
 of_end may_fail settings (serve.Shut OtherVersion) old new bytes before after h = h.8.cause
 of_end may_fail settings (serve.Shut OtherSettings) old new bytes before after h = h.8.cause
-of_end may_fail settings (serve.Shut fault) old new bytes before after h = tt
+of_end may_fail settings fault old new bytes before after h = tt
 
 pub of_session : (may_fail : Type 0) (settings : Settings) (fault : ServeFault StoreFault) (old new : FileMoment) (input : Option (List ℕ)) (before after : Option (List ℕ)) (e : Refusal) → e ≡ durably_cut fault
     → IfSome input (λ bytes. IsEndedBy may_fail (IsFileAnswer settings) (IsShutBy settings) fault old bytes new before after) → IfSome input (λ _. IsOfSession e)

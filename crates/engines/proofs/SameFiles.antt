@@ -9,7 +9,7 @@ use Rattle.block_file.specs.Block.{BlockValue, parsed_block}
 use Rattle.block_file.specs.Schedule.{parsed_schedule}
 use Rattle.block_file.specs.declared.fault.BlockFault.{BlockFault}
 use Rattle.clap.specs.Words.{Text}
-use Rattle.cmdline.specs.Line.{Asked, RunOf, SeqOf, ConflictsOf, DriveOf, AsmOf, DisOf, DebugOf, MigrateOf, ChainOf}
+use Rattle.cmdline.specs.Line.{Asked, RunOf, SeqOf, DriveOf}
 use Rattle.elf32.specs.Layout.{Layout}
 use Rattle.programs.specs.Programs.{calls_over, program_of_file, programs_of, with_program}
 use Rattle.programs.specs.declared.fault.ProgramFault.{ProgramFault}
@@ -105,12 +105,7 @@ prints_result content typed old new file (SeqOf named) is h = nested (content fi
 prints_result content typed old new file (DriveOf named workers schedule counts) is h =
     nested (content file) (λ b. answer_of content (parsed_block b)) (λ answer. IsOkAnd answer (Appends old new))
     (subst (λ f. PrintsResult content old new f) is.0 (drive_is_seq content typed old new named workers schedule counts is.1 h))
-prints_result content typed old new file (ConflictsOf named) is h = absurd is
-prints_result content typed old new file (AsmOf named out) is h = absurd is
-prints_result content typed old new file (DisOf named) is h = absurd is
-prints_result content typed old new file (DebugOf named call more) is h = absurd is
-prints_result content typed old new file (MigrateOf named out) is h = absurd is
-prints_result content typed old new file (ChainOf workers limit gas digest brief store) is h = absurd is
+prints_result content typed old new file asked is h = absurd is
 
 one_text : (answer : Option (Result (List ℕ) Refusal)) (one other : List ℕ) → IsSome answer → IfSome answer (λ a. IsOkAnd a (Appends (Some []) (Some one)))
     → IfSome answer (λ a. IsOkAnd a (Appends (Some []) (Some other))) → one ≡ other

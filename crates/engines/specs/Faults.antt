@@ -26,15 +26,16 @@ use Rattle.engines.specs.declared.fault.InputFault.TheVariants.{BadLine, Cut}
 use Rattle.engines.specs.declared.fault.Refusal.{Refusal}
 use Rattle.engines.specs.declared.fault.Refusal.TheVariants.{File, Block, Elf, Asm, Seq, Schedule, Run, Drive, Debug, Request, Store, Output}
 
+abbrev pub file_row : FileFault → ℕ × List ℕ
+file_row Unreadable = (1, codes "Unreadable")
+file_row Unwritable = (2, codes "Unwritable")
+file_row TooLong = (3, codes "TooLong")
+
 abbrev pub file_number : FileFault → ℕ
-file_number Unreadable = 1
-file_number Unwritable = 2
-file_number TooLong = 3
+file_number fault = (file_row fault).0
 
 abbrev pub file_name : FileFault → List ℕ
-file_name Unreadable = codes "Unreadable"
-file_name Unwritable = codes "Unwritable"
-file_name TooLong = codes "TooLong"
+file_name fault = (file_row fault).1
 
 -- the name and the number of a refusal of a file, as they are printed
 unfoldable pub file_text : FileFault → List ℕ
@@ -51,15 +52,16 @@ unfoldable pub seq_text : SeqFault → List ℕ
 seq_text fault = seq_name fault ++ codes " " ++ decimal (seq_number fault)
 
 -- the same for the input of a session
+abbrev pub input_row : InputFault → ℕ × List ℕ
+input_row BadLine = (1, codes "BadLine")
+input_row Cut = (2, codes "Cut")
+input_row input.Unreadable = (3, codes "Unreadable")
+
 abbrev pub input_number : InputFault → ℕ
-input_number BadLine = 1
-input_number Cut = 2
-input_number input.Unreadable = 3
+input_number fault = (input_row fault).0
 
 abbrev pub input_name : InputFault → List ℕ
-input_name BadLine = codes "BadLine"
-input_name Cut = codes "Cut"
-input_name input.Unreadable = codes "Unreadable"
+input_name fault = (input_row fault).1
 
 unfoldable pub input_text : InputFault → List ℕ
 input_text fault = input_name fault ++ codes " " ++ decimal (input_number fault)

@@ -9,7 +9,8 @@ const CALL_COST: u64 = 1_500;
 /// What a read costs by threads, in gas: it is made and checked under the lock.
 const READ_COST: u64 = 300;
 
-/// What an addition costs by threads, in gas, besides its call: later reads of its key pass it, and their checks compare it.
+/// What an addition costs by threads, in gas, besides its call. It was chosen so that the frames of
+/// bench/sums run no slower by threads than in order; it is not a time that was measured by itself.
 const SUM_COST: u64 = 600;
 
 /// What a worker costs, in gas: its thread.

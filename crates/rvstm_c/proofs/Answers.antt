@@ -20,19 +20,14 @@ use Rattle.rvstm_c.specs.declared.session.EmbeddedSession.{EmbeddedSession}
 whole_dump : (settings : Settings) (s : State) (buffer : EmptyBuffer) (whole : Answer) → IsMadeWhole s (answer.Storage buffer) whole → IsTurn settings s Dump whole s
 whole_dump settings s buffer (answer.Done bytes) made = (ap Done made, refl)
 whole_dump settings s buffer (answer.Failed failure) made = (subst (MayTurnFail settings s Dump) (sym made) tt, refl)
-whole_dump settings s buffer answer.Last made = absurd made
-whole_dump settings s buffer (answer.Refused refusal) made = absurd made
-whole_dump settings s buffer (answer.Storage other) made = absurd made
+whole_dump settings s buffer whole made = absurd made
 
 pub whole_turn : (settings : Settings) (s after : State) (ask : Ask) (given whole : Answer) → IsTurn settings s ask given after → IsMadeWhole after given whole → IsTurn settings s ask whole after
 whole_turn settings s after ask (answer.Storage buffer) whole turned made =
     subst (λ (a : Ask). IsTurn settings s a whole after) (sym turned.0)
     (subst (λ (z : State). IsTurn settings s Dump whole z) (sym turned.1)
     (whole_dump settings s buffer whole (subst (λ (z : State). IsMadeWhole z (answer.Storage buffer) whole) turned.1 made)))
-whole_turn settings s after ask (answer.Done bytes) whole turned made = subst (λ (a : Answer). IsTurn settings s ask a after) (sym made) turned
-whole_turn settings s after ask answer.Last whole turned made = subst (λ (a : Answer). IsTurn settings s ask a after) (sym made) turned
-whole_turn settings s after ask (answer.Refused refusal) whole turned made = subst (λ (a : Answer). IsTurn settings s ask a after) (sym made) turned
-whole_turn settings s after ask (answer.Failed failure) whole turned made = subst (λ (a : Answer). IsTurn settings s ask a after) (sym made) turned
+whole_turn settings s after ask given whole turned made = subst (λ (a : Answer). IsTurn settings s ask a after) (sym made) turned
 
 -- a request that passed the test for what a line may have
 pub asked : (b : Bool) (ask : Ask) (before : EmbeddedSession) (status : ℕ) (after : EmbeddedSession) → b ≡ false → TakesTurn ask before status after → IsCalled (cond b None (Some ask)) before status after
