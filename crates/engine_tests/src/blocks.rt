@@ -91,7 +91,7 @@ fn push_count(alloc: Global, text: &mut String, call: u32) -> Result<(), AllocEr
 }
 
 /// The result of this many counts of a key, fewer than 65,536.
-fn result_of_counts(alloc: Global, calls: u32) -> Result<String, AllocError> {
+pub fn result_of_counts(alloc: Global, calls: u32) -> Result<String, AllocError> {
     let mut text = String::new(alloc);
     for call in 0..calls {
         push_count(alloc, &mut text, call)?;
@@ -103,10 +103,4 @@ fn result_of_counts(alloc: Global, calls: u32) -> Result<String, AllocError> {
     )?;
     text.push_str(end.as_str())?;
     Ok(text)
-}
-
-/// Whether a text is the result of forty counts.
-pub fn is_forty_counts(alloc: Global, text: &[u8]) -> Result<bool, AllocError> {
-    let wanted = result_of_counts(alloc, 40)?;
-    Ok(text == wanted.as_bytes())
 }

@@ -84,14 +84,15 @@ pub fn in_order(alloc: Global, job: &Job) -> Result<Outcome, AllocError> {
     run_in_order(alloc, job)
 }
 
-/// The text of an outcome.
-pub fn text_of(alloc: Global, outcome: &Outcome) -> Result<String, AllocError> {
-    let text = result_text(alloc, outcome.receipts.as_slice(), &outcome.store)?;
-    String::from_utf8_lossy(alloc, text.as_slice())
+/// Whether the result of an outcome has this text.
+pub fn has_text(alloc: Global, outcome: &Outcome, text: &[u8]) -> Result<bool, AllocError> {
+    let found = result_text(alloc, outcome.receipts.as_slice(), &outcome.store)?;
+    Ok(found.as_slice() == text)
 }
 
-/// The text of the outcome of running the calls of a job in order.
-pub fn text_in_order(alloc: Global, job: &Job) -> Result<String, AllocError> {
-    let outcome = in_order(alloc, job)?;
-    text_of(alloc, &outcome)
+/// Whether the result of an outcome has the text of running the calls of a job in order.
+pub fn is_as_in_order(alloc: Global, outcome: &Outcome, job: &Job) -> Result<bool, AllocError> {
+    let wanted = in_order(alloc, job)?;
+    let text = result_text(alloc, wanted.receipts.as_slice(), &wanted.store)?;
+    has_text(alloc, outcome, text.as_slice())
 }

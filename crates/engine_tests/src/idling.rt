@@ -149,7 +149,7 @@ fn rows_and_looks<J: JobName + Send + Sync, R: Threads + Wait + Sync + Abort>(
         here: AtomicBool::new(false),
         looks: AtomicU64::new(0),
     };
-    let (shared, mut shares) = shares_of::<J, R>(rt, alloc, job, 2)?;
+    let (shared, mut shares) = shares_of::<J>(alloc, job, 2)?;
     assert!(rt; shares.len() == 2);
     let busy = shares.remove(0);
     let idle = shares.remove(0);

@@ -1,5 +1,5 @@
-//! Tests of the engines by their functions: workers and their threads, chains of blocks, and the debugger. They are here, and not
-//! in the crates of the engines, because a crate with tests is proved twice.
+//! Tests of the engines by their functions: workers and their threads, chains of blocks, the debugger, and calls for which memory,
+//! or a thread, is refused. They are here, and not in the crates of the engines, because a crate with tests is proved twice.
 #![tactic(auto)]
 
 #[cfg(test)]
@@ -16,6 +16,8 @@ mod debugging;
 mod full_arena;
 #[cfg(test)]
 mod idling;
+#[cfg(test)]
+mod refused;
 #[cfg(test)]
 mod rows;
 #[cfg(test)]

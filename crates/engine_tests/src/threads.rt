@@ -4,11 +4,11 @@
 ghost use Rattle.std.specs.Prelude.{◌≡◌, ◌≤◌, All, IfOk, None};
 ghost use Rattle.workers.specs.DoneCell.{IsPassOf};
 
-use crate::blocks::{forty_count_lines, is_forty_counts};
-use crate::calls::{job_of, text_in_order, text_of};
+use crate::blocks::{forty_count_lines, result_of_counts};
+use crate::calls::{has_text, is_as_in_order, job_of};
 use crate::rows::{COUNT, ECHO};
 use rv_ledger::{Counts, Job};
-use std::alloc::Global;
+use std::alloc::{AllocError, Global};
 use std::marker::Brand;
 use std::process::Abort;
 use std::sync::Wait;
@@ -43,18 +43,6 @@ const TWO_RESULTS: &str = "call 0 returned gas 13 pc 00010004 out 0102\n\
 
 const THREE_ECHOES: &str = "call 0 1000 -\ncall 0 1000 01\ncall 0 1000 0102\n";
 
-/// The text of the outcome of a job that this many workers run.
-fn run_text<R: Threads + Wait + Sync>(
-    rt: &R,
-    alloc: Global,
-    executor: &mut Executor,
-    job: Job,
-    workers: usize,
-) -> Result<String, Fail> {
-    let outcome = executor.run_block(rt, alloc, job, workers)?;
-    Ok(text_of(alloc, &outcome)?)
-}
-
 /// Whether this many workers get the right text of forty counts.
 fn are_counted<R: Threads + Wait + Sync>(
     rt: &R,
@@ -64,8 +52,9 @@ fn are_counted<R: Threads + Wait + Sync>(
 ) -> Result<bool, Fail> {
     let lines = forty_count_lines(alloc)?;
     let job = job_of(alloc, &[COUNT], lines.as_str())?;
-    let text = run_text(rt, alloc, executor, job, workers)?;
-    Ok(is_forty_counts(alloc, text.as_bytes())?)
+    let outcome = executor.run_block(rt, alloc, job, workers)?;
+    let wanted = result_of_counts(alloc, 40)?;
+    Ok(has_text(alloc, &outcome, wanted.as_bytes())?)
 }
 
 /// By each number of workers, twice on one executor.
@@ -99,12 +88,11 @@ fn bad_count(rt: HostRuntime) -> Result<(), Fail> {
 }
 
 /// What the workers of a job share, and the share of each.
-pub fn shares_of<J: JobName, R: Abort>(
-    rt: &R,
+pub fn shares_of<J: JobName>(
     alloc: Global,
     job: &Job,
     workers: usize,
-) -> Result<(Shared<J>, Vec<Share>), Fail>
+) -> Result<(Shared<J>, Vec<Share>), AllocError>
     requires job { job.now ≡ J.job }
     requires limit { J.work_limit ≡ None }
     requires count { (1 ≤ workers) × (workers ≤ 32) }
@@ -113,7 +101,7 @@ pub fn shares_of<J: JobName, R: Abort>(
     let core = Core::new(alloc, job.copy()?, workers)?;
     match Shared::new(alloc, core) {
         Ok(made) => Ok(made),
-        Err(_) => panic!(rt; "there is no memory"),
+        Err(_) => Err(AllocError),
     }
 }
 
@@ -204,13 +192,12 @@ fn is_alone<J: JobName, R: Wait + Abort>(
     requires job { job.now ≡ J.job }
     requires limit { J.work_limit ≡ None }
 {
-    let (shared, shares) = shares_of::<J, R>(rt, alloc, job, 3)?;
+    let (shared, shares) = shares_of::<J>(alloc, job, 3)?;
     let back = work_from(rt, alloc, &shared, shares, first)?;
     let are_right = are_shares(back.as_slice(), first);
     let (answer, _) = settle(alloc, shared.into_book(), back, job);
-    let text = text_of(alloc, &answer?)?;
-    let wanted = text_in_order(alloc, job)?;
-    Ok(are_right && text.as_str() == wanted.as_str())
+    let is_right = is_as_in_order(alloc, &answer?, job)?;
+    Ok(are_right && is_right)
 }
 
 /// The same for any job.
@@ -238,7 +225,7 @@ fn is_foreign<J: JobName, R: Wait + Abort>(rt: &R, alloc: Global, job: &Job) -> 
     requires job { job.now ≡ J.job }
     requires limit { J.work_limit ≡ None }
 {
-    let (shared, shares) = shares_of::<J, R>(rt, alloc, job, 2)?;
+    let (shared, shares) = shares_of::<J>(alloc, job, 2)?;
     let mut back = work_in_turn(rt, alloc, &shared, shares)?;
     let _ = back.pop();
     let (answer, _) = settle(alloc, shared.into_book(), back, job);
@@ -302,8 +289,8 @@ fn echo_at_gate<R: Threads + Wait + Sync>(
     let gate = Meeting::new();
     let job = job_of(alloc, &[ECHO], TWO_ECHOES)?;
     let outcome = executor.run_block_with(rt, alloc, job, 2, &gate)?;
-    let text = text_of(alloc, &outcome)?;
-    Ok((text.as_str() == TWO_RESULTS, gate.is_met()))
+    let is_right = has_text(alloc, &outcome, TWO_RESULTS.as_bytes())?;
+    Ok((is_right, gate.is_met()))
 }
 
 #[test]

@@ -25,7 +25,7 @@ from rvstm_tools.texts.blocks import CallLine
 from rvstm_tools.texts.keys import Storage, numbered_key
 
 SECONDS_A_RUN = 60
-LEFT_OUT = "exhausted::"
+TAKEN = "refused::second_tries::"
 BLOCK, PROGRAM, RUN, ANSWER = (b"failed %s\n" % want for want in (b"block Memory 8", b"elf Memory 16", b"seq Memory 1", b"output Memory 3"))
 FAILURES: dict[bytes, tuple[bytes, ...]] = {
     Asks.FRAME: (BLOCK, PROGRAM, RUN, ANSWER), Asks.TRY: (BLOCK, PROGRAM, RUN, ANSWER), Asks.PROGRAM: (PROGRAM, ANSWER),
@@ -222,7 +222,7 @@ def sessions_of(rvstm: Path, place: Path) -> Iterator[Trial]:
 def tests_of(path: Path, place: Path) -> Iterator[Trial]:
     listed = running.output_of([path, "--list"]).decode()
     for test in re.findall(r"^(\S+): test$", listed, re.MULTILINE):
-        if not test.startswith(LEFT_OUT):
+        if test.startswith(TAKEN):
             yield Trial(test, place, [path, test], is_passed)
 
 
@@ -267,16 +267,16 @@ which memory runs out is a wrong one. A session of `chain`, in order and with th
 which runs frames with `seq`. One answer may be `failed AREA Memory N` of an area that the request may want memory for. Then storage,
 rules, programs, height and digest are as before it, which the requests after it show.
 
-Each of TESTS tries a refused call a second time, and must pass. Those of its module exhausted are left out: they take the memory away
-themselves, and make one try. It needs a C compiler, for the library that refuses.
+Of TESTS, only those of the module second_tries are run. Each tries a refused call a second time, and must pass. It needs a C compiler,
+for the library that refuses.
 """,
-    "crates/rvstm/out/rvstm crates/growth_tests/out/growth_tests_tests",
+    "crates/rvstm/out/rvstm crates/engine_tests/out/engine_tests_tests",
     run,
     (
         options.RVSTM,
         argument(
             "tests", metavar="TESTS", type=finding.absolute, nargs="?",
-            help="the tests of library calls, as `rt test` in crates/growth_tests leaves them in out/growth_tests_tests",
+            help="the tests of library calls, as `rt test` in crates/engine_tests leaves them in out/engine_tests_tests",
         ),
     ),
 )

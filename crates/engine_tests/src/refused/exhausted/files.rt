@@ -1,7 +1,7 @@
 //! Files and texts that are read and written while memory is refused.
 
-use crate::exhausted::attempts::{Attempt, Tried, Way, comes_right, done, refused};
-use crate::images::{NotMade, TOUCH, outcome_of_source};
+use crate::refused::exhausted::attempts::{Attempt, Tried, Way, comes_right, done, refused};
+use crate::refused::images::{NotMade, TOUCH, outcome_of_source};
 use block_file::{BlockFault, Cause, parse};
 use byte_streams::WriteFault;
 use elf32::{ElfError, Image, load, write};

@@ -1,6 +1,6 @@
 //! A gate at which memory is taken away from workers.
 
-use crate::limits::{no_blocks, take_rest, take_space};
+use crate::refused::limits::{no_blocks, take_rest, take_space};
 use std::alloc::{AllocError, Global};
 use std::rt::Clock;
 use std::sync::atomic::{AtomicBool, Ordering};

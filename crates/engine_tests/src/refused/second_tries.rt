@@ -1,9 +1,9 @@
 //! Calls for which `scripts/growths` refuses one request for memory, and which are made once more then.
 
-use crate::exhausted::attempts::Way;
-use crate::exhausted::{assert_come_right, runs_echo};
-use crate::images::{COUNT, KEY, NotMade, job_of};
-use crate::rows::are_counts;
+use crate::refused::exhausted::attempts::Way;
+use crate::refused::exhausted::{assert_come_right, runs_echo};
+use crate::refused::images::{COUNT, KEY, NotMade, job_of};
+use crate::refused::rows::are_counts;
 use std::alloc::Global;
 use std::sync::Wait;
 use std::thread::Threads;

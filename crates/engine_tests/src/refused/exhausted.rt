@@ -1,13 +1,15 @@
 //! Blocks run while memory, or a thread, is refused. The tests take the memory away themselves.
 
-ghost use Rattle.std.specs.Prelude.{◌≡◌, ◌≤◌, All, IfOk, None};
+ghost use Rattle.std.specs.Prelude.{◌≡◌, All, None};
 ghost use Rattle.workers.specs.DoneCell.{IsPassOf};
 
-use crate::exhausted::attempts::Way;
-use crate::images::{COUNT, ECHO, KEY, NotMade, assembled_call, job_of};
-use crate::limits::{no_blocks, reserve_of, take_rest, take_space};
-use crate::rows::{ECHO_TEXT, ECHOED, are_counts, has_text};
-use crate::taking::Taking;
+use crate::calls::has_text;
+use crate::refused::exhausted::attempts::Way;
+use crate::refused::images::{COUNT, ECHO, KEY, NotMade, assembled_call, job_of};
+use crate::refused::limits::{no_blocks, reserve_of, take_rest, take_space};
+use crate::refused::rows::{ECHO_TEXT, ECHOED, are_counts};
+use crate::refused::taking::Taking;
+use crate::threads::shares_of;
 use rv_ledger::{Call, Job, Outcome, Store};
 use std::alloc::{AllocError, Global};
 use std::marker::Brand;
@@ -15,7 +17,6 @@ use std::process::Abort;
 use std::rt::Clock;
 use std::sync::Wait;
 use std::thread::Threads;
-use stm_core::Core;
 use workers::{Chain, Executor, JobName, Open, RunFault, Share, Shared, settle, work};
 
 pub mod attempts;
@@ -186,23 +187,6 @@ fn chain_growth_refused(rt: HostRuntime) {
     assert!(rt; matches!(is_chain_refused(&rt, rt.alloc()), Ok(true)));
 }
 
-/// What the two workers of a job share, and the share of each.
-fn shares_of<J: JobName, R: Abort>(
-    rt: &R,
-    alloc: Global,
-    job: &Job,
-) -> Result<(Shared<J>, Vec<Share>), NotMade>
-    requires job { job.now ≡ J.job }
-    requires limit { J.work_limit ≡ None }
-    ensures { IfOk result (λ made. All (λ share. IsPassOf made.0.cell share.pass) made.1.items) }
-{
-    let core = Core::new(alloc, job.copy()?, 2)?;
-    match Shared::new(alloc, core) {
-        Ok(made) => Ok(made),
-        Err(_) => panic!(rt; "there is no memory"),
-    }
-}
-
 /// The share of a worker who works while this many bytes are left to it.
 fn work_on_spare<J: JobName, R: Wait>(
     rt: &R,
@@ -258,7 +242,7 @@ fn answer_on_spare<J: JobName, R: Wait + Abort>(
     requires job { job.now ≡ J.job }
     requires limit { J.work_limit ≡ None }
 {
-    let (shared, mut shares) = shares_of::<J, R>(rt, alloc, job)?;
+    let (shared, mut shares) = shares_of::<J>(alloc, job, 2)?;
     assert!(rt; first < shares.len());
     let share = shares.remove(first);
     let mut back = Vec::with_capacity(alloc, 2)?;

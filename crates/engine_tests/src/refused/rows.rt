@@ -1,9 +1,7 @@
 //! Blocks with the steps of their workers, and the right outcome of each.
 
-use crate::images::{COND, GET, PUT, SEEN};
-use receipts::result_text;
+use crate::refused::images::{COND, GET, PUT, SEEN};
 use rv_ledger::{Change, End, Key, Outcome, Receipt, StoredValue};
-use std::alloc::{AllocError, Global};
 
 /// The key of LATE_WRITER.
 const K: &[u8] = b"\0\0\0\0\0\0\0\0\0\0\0\0\0\0\0\0\0\0\0\0\0\0\0\0\0\0\0\0\0\0\0\x01";
@@ -33,7 +31,7 @@ pub struct Row {
     /// The worker of each step.
     pub schedule: &'static [u16],
     /// The text of the result.
-    pub text: &'static str,
+    pub text: &'static [u8],
 }
 
 /// Two writers of a key and a reader of it. The reader first reads what the first call wrote, and is aborted then.
@@ -43,7 +41,7 @@ pub const LATE_WRITER: Row = Row {
     schedule: &[
         0, 0, 0, 0, 1, 1, 1, 2, 2, 2, 2, 2, 2, 2, 2, 1, 1, 1, 1, 1, 1, 1, 1, 1, 1, 1, 1, 1, 1,
     ],
-    text: "\
+    text: b"\
         call 0 returned gas 419 pc 00010018 out -\n\
         regs 00000000 00000000 00110000 00000000 00000000 00000000 00000000 00000000 \
         00000000 00000000 00100000 00000000 00000001 00000000 00000000 00000000 \
@@ -74,7 +72,7 @@ pub const WITHDRAWN_WRITE: Row = Row {
         0, 1, 1, 1, 1, 1, 1, 1, 1, 1, 1, 1, 1, 1, 1, 1, 1, 0, 0, 0, 0, 0, 0, 0, 0, 0, 0, 0, 0, 0,
         0, 0, 0, 0, 0, 0, 0, 0, 0, 0, 0, 0,
     ],
-    text: "\
+    text: b"\
         call 0 returned gas 419 pc 00010018 out -\n\
         regs 00000000 00000000 00110000 00000000 00000000 00000000 00000000 00000000 \
         00000000 00000000 00100000 00000000 00000001 00000000 00000000 00000000 \
@@ -99,19 +97,13 @@ pub const WITHDRAWN_WRITE: Row = Row {
 pub const ECHOED: &[u8] = b"\x01\x02";
 
 /// The result of a block of one call of ECHO with that input.
-pub const ECHO_TEXT: &str = "\
+pub const ECHO_TEXT: &[u8] = b"\
     call 0 returned gas 13 pc 00010004 out 0102\n\
     regs 00000000 00000000 00110000 00000000 00000000 00000000 00000000 00000000 \
     00000000 00000000 00100000 00000002 00000000 00000000 00000000 00000000 \
     00000000 00000003 00000000 00000000 00000000 00000000 00000000 00000000 \
     00000000 00000000 00000000 00000000 00000000 00000000 00000000 00000000\n\
     end\n";
-
-/// Whether the result of an outcome has this text.
-pub fn has_text(alloc: Global, outcome: &Outcome, text: &str) -> Result<bool, AllocError> {
-    let found = result_text(alloc, outcome.receipts.as_slice(), &outcome.store)?;
-    Ok(found.as_slice() == text.as_bytes())
-}
 
 /// Whether the calls of COUNT ended as they must: each counts the key up by one, and the storage has no other key.
 pub fn are_counts(outcome: &Outcome, calls: u32) -> bool {

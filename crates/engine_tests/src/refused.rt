@@ -8,17 +8,10 @@
 //! `scripts/growths` runs the tests of `second_tries` again and again: their first request for memory fails, then their second,
 //! and so on. A call whose request fails is refused as Memory, and `run_block` as Memory or as Spawn. The call is made once more,
 //! and must then return the right result. Without that script no call is refused.
-#![tactic(auto)]
 
-#[cfg(test)]
 mod exhausted;
-#[cfg(test)]
 mod images;
-#[cfg(test)]
 mod limits;
-#[cfg(test)]
 mod rows;
-#[cfg(test)]
 mod second_tries;
-#[cfg(test)]
 mod taking;

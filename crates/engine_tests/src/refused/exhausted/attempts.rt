@@ -2,7 +2,7 @@
 
 ghost use Rattle.std.specs.Prelude.{◌≤◌, ◌<◌};
 
-use crate::limits::{no_blocks, take_rest, take_space};
+use crate::refused::limits::{no_blocks, take_rest, take_space};
 use std::alloc::{AllocError, Global};
 
 /// The size of the piece of memory; the call gets more and more of it.

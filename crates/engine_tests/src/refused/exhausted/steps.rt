@@ -3,12 +3,13 @@
 ghost use Rattle.stm_state.specs.Steps.{Record};
 ghost use Rattle.stm_core.specs.CoreState.{IsDue};
 
-use crate::exhausted::attempts::{Attempt, Tried, Way, comes_right, done, refused};
-use crate::images::{
+use crate::calls::has_text;
+use crate::refused::exhausted::attempts::{Attempt, Tried, Way, comes_right, done, refused};
+use crate::refused::images::{
     COUNT, ECHO, KEY, LEN, NotMade, PUT, TOUCH, TOUCH_MANY, assembled_call, image_of, job_of,
     outcome_of_source,
 };
-use crate::rows::{K_1, LATE_WRITER, Row, WITHDRAWN_WRITE, has_text};
+use crate::refused::rows::{K_1, LATE_WRITER, Row, WITHDRAWN_WRITE};
 use debugger::{Replay, ReplayFault};
 use read_set::Origin;
 use rv_ledger::{End, Job, Key, Outcome, Receipt, Value};

@@ -8,7 +8,7 @@ use std::path::PathBuf;
 use std::rt::Files;
 
 /// What is asked of files.
-#[derive(Clone, Copy, PartialEq, Eq)]
+#[derive(Clone, Copy)]
 pub enum DiskRequest {
     /// Opening a file that is there.
     Open,
@@ -38,12 +38,14 @@ pub struct FailingFiles<R: Files> {
 }
 
 impl<R: Files> FailingFiles<R> {
-    /// Refused if this is what fails.
-    fn ask(&self, request: DiskRequest) -> io::Result<()> {
-        if request == self.failing {
-            return Err(io::Error::from(self.kind));
-        }
-        Ok(())
+    /// Whether this is what fails.
+    fn fails(&self, request: DiskRequest) -> bool {
+        request as u8 == self.failing as u8
+    }
+
+    /// How it fails.
+    fn error(&self) -> io::Error {
+        io::Error::from(self.kind)
     }
 
     /// Counts a change.
@@ -58,15 +60,17 @@ impl<R: Files> Files for FailingFiles<R> {
     type Dir = R::Dir;
 
     fn open_file(&self, how: &OpenOptions, path: &str) -> io::Result<R::File> {
-        let is_made = how.asks_create() || how.asks_create_new();
         if how.asks_write() {
             self.count();
         }
-        self.ask(if is_made {
+        let request = if how.asks_create() || how.asks_create_new() {
             DiskRequest::Make
         } else {
             DiskRequest::Open
-        })?;
+        };
+        if self.fails(request) {
+            return Err(self.error());
+        }
         self.rt.open_file(how, path)
     }
 
@@ -75,12 +79,16 @@ impl<R: Files> Files for FailingFiles<R> {
     }
 
     fn metadata(&self, path: &str) -> io::Result<Metadata> {
-        self.ask(DiskRequest::Look)?;
+        if self.fails(DiskRequest::Look) {
+            return Err(self.error());
+        }
         self.rt.metadata(path)
     }
 
     fn symlink_metadata(&self, path: &str) -> io::Result<Metadata> {
-        self.ask(DiskRequest::LookAtLink)?;
+        if self.fails(DiskRequest::LookAtLink) {
+            return Err(self.error());
+        }
         self.rt.symlink_metadata(path)
     }
 
@@ -90,7 +98,9 @@ impl<R: Files> Files for FailingFiles<R> {
 
     fn rename(&self, from: &str, to: &str) -> io::Result<()> {
         self.count();
-        self.ask(DiskRequest::Rename)?;
+        if self.fails(DiskRequest::Rename) {
+            return Err(self.error());
+        }
         self.rt.rename(from, to)
     }
 
@@ -112,7 +122,9 @@ impl<R: Files> Files for FailingFiles<R> {
     }
 
     fn canonicalize<B: Allocator>(&self, alloc: B, path: &str) -> io::Result<PathBuf<B>> {
-        self.ask(DiskRequest::Resolve)?;
+        if self.fails(DiskRequest::Resolve) {
+            return Err(self.error());
+        }
         self.rt.canonicalize(alloc, path)
     }
 }
