@@ -121,7 +121,10 @@ class Check:
     def followed(self, place: Place) -> str | None:
         """What the cause of a place is handed to, whose uses are places in turn; None if that is not known."""
         one = next((one for one in reversed(place.around) if one.how in HANDED_ON), Around(How.BLOCK, ""))
-        if one.how is How.ARGUMENT:
+        name = place.function()
+        functions = self.uses.functions.get(name, []) if name is not None else []
+        makes = len(functions) == 1 and functions[0].makes_cause()
+        if one.how is How.ARGUMENT and not makes:
             functions = [function for function in self.uses.functions.get(one.text, []) if len(function.parameters) == one.count]
             given = [function.parameters[one.number] for function in functions]
             names = {parameter.name for parameter in given if CAUSE.search(parameter.type)}
@@ -130,8 +133,6 @@ class Check:
                 return f"handed to {one.text}"
         if one.how in (How.LET, How.CONST) and self.follow(place.kind, one.text, None if one.how is How.CONST else place.function()):
             return f"kept as {one.text}"
-        name = place.function()
-        functions = self.uses.functions.get(name, []) if name is not None else []
         if name is not None and len(functions) == 1 and CAUSE.match(functions[0].result) and self.follow_calls(place.kind, name):
             place.call = name
             return f"reported by {name}"

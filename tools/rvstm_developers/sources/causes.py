@@ -40,7 +40,9 @@ AREAS = {
         "apply_receipts", "commit", "copy_with_receipts", "counts_by_share", "finished_of", "load_job", "outcome_of", "room_for_read",
         "run_fault", "share_out", "write_outside",
     },
-    "OutsideFault :: Memory": {"Run :: start_in", "Vec :: with_capacity", "answer_stored", "go", "reads_made"},
+    "OutsideFault :: Memory": {"Vec :: with_capacity", "refuse_memory"},
+    "refuse_memory": {"Run :: start_in", "answer_stored", "go", "reads_made", "refuse_run"},
+    "refuse_run": {"reads_made"},
     "DriveFault :: Memory": {"core_of", "from", "hand_in", "load_job"},
     "ReplayFault :: Memory": {
         "Replay :: start", "debug_lines_to", "go_run", "place_text", "push_str", "run_after", "step_run", "store_left", "vec",

@@ -80,6 +80,10 @@ class Function:
         types = (parameter.type for parameter in self.parameters)
         return any(kept and kept[0] != "&" and not CAUSE.search(kept) and self.result.endswith(f", {kept} >") for kept in types)
 
+    def makes_cause(self) -> bool:
+        """Whether its result is a cause, and it was handed none."""
+        return CAUSE.match(self.result) is not None and not any(CAUSE.search(parameter.type) for parameter in self.parameters)
+
 
 class Uses:
     def __init__(self, folder: Path) -> None:
