@@ -57,7 +57,8 @@ AREAS = {
     "SOURCE_MEMORY": {"", "open_apart", "put", "read_text"},
 }
 """The calls whose want of memory an area reports: of the requests of a session, of a run in order, with threads and along a schedule,
-of a debugged call, of the file of a session, and of texts, sources, blocks and programs."""
+of a debugged call, of the file of a session, and of texts, sources, blocks and programs. A name in small letters is a function that
+makes a cause: the calls after which it is called."""
 
 SIZE = re.compile(r":: try_from \(|\. checked_\w+ \(")  # calls that fail if a size does not fit a word of the machine
 NEVER = re.compile(r"$^")
