@@ -11,7 +11,7 @@ use std::io;
 /// Writes all the bytes. Refused as Io if a write failed, and as WroteNothing if a write took no bytes; then a
 /// beginning of the bytes was written, and not all of them.
 pub fn write_whole<W: Destination>(bytes: &[u8], out: &mut W) -> Result<(), WriteFault>
-    ensures writes { WritesText W.contents W.may_refuse result out.old out.new bytes.now }
+    ensures writes { WritesText W.Destination result out.old out.new bytes.now }
     ensures fault { IfErr result (λ e. e ≢ WriteFault.Memory) }
 {
     let mut rest = bytes;

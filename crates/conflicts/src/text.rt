@@ -23,7 +23,7 @@ pub(crate) fn push_conflicts<W: Destination>(
     conflicts: &Conflicts,
     out: &mut W,
 )
-    ensures { Appended W.contents W.may_refuse text.old out.old text.new out.new (conflicts_text conflicts.now.calls.items conflicts.now.paths.items conflicts.now.keys.items) }
+    ensures { Appended W.Destination text.old out.old text.new out.new (conflicts_text conflicts.now.calls.items conflicts.now.paths.items conflicts.now.keys.items) }
 {
     let calls = conflicts.calls.as_slice();
     let paths = conflicts.paths.as_slice();
@@ -42,7 +42,7 @@ pub(crate) fn push_conflicts<W: Destination>(
 
 /// Appends the lines of the writers of some keys.
 fn push_all_writers<W: Destination>(text: &mut TextBuffer, keys: &[HotKey], out: &mut W)
-    ensures { Appended W.contents W.may_refuse text.old out.old text.new out.new (flat_map writers_line keys.now) }
+    ensures { Appended W.Destination text.old out.old text.new out.new (flat_map writers_line keys.now) }
 {
     for key in keys {
         push_writers(text, key, out);
@@ -51,7 +51,7 @@ fn push_all_writers<W: Destination>(text: &mut TextBuffer, keys: &[HotKey], out:
 
 /// Appends the line of the writers of a key.
 fn push_writers<W: Destination>(text: &mut TextBuffer, key: &HotKey, out: &mut W)
-    ensures { Appended W.contents W.may_refuse text.old out.old text.new out.new (writers_line key.now) }
+    ensures { Appended W.Destination text.old out.old text.new out.new (writers_line key.now) }
 {
     text.push(b"writers ", out);
     push_key(text, key.key().bytes(), out);
@@ -60,7 +60,7 @@ fn push_writers<W: Destination>(text: &mut TextBuffer, key: &HotKey, out: &mut W
 
 /// Appends some calls, each after a space, and ends the line.
 fn push_more_calls<W: Destination>(text: &mut TextBuffer, calls: &[u16], out: &mut W)
-    ensures { Appended W.contents W.may_refuse text.old out.old text.new out.new (more_fields (map decimal calls.now)) }
+    ensures { Appended W.Destination text.old out.old text.new out.new (more_fields (map decimal calls.now)) }
 {
     for call in calls {
         push_numbered(text, b" ", u64::from(*call), out);
@@ -76,7 +76,7 @@ fn push_calls<W: Destination>(
     out: &mut W,
 )
     requires { length paths.now ≡ length calls.now }
-    ensures { Appended W.contents W.may_refuse text.old out.old text.new out.new (flat_map conflict_lines (enumerate_from 0 (zip calls.now paths.now))) }
+    ensures { Appended W.Destination text.old out.old text.new out.new (flat_map conflict_lines (enumerate_from 0 (zip calls.now paths.now))) }
 {
     for (index, call) in calls.iter().enumerate() {
         let path = paths[index];
@@ -92,7 +92,7 @@ fn push_call<W: Destination>(
     path: u64,
     out: &mut W,
 )
-    ensures { Appended W.contents W.may_refuse text.old out.old text.new out.new (conflict_lines (index, (call.now, path))) }
+    ensures { Appended W.Destination text.old out.old text.new out.new (conflict_lines (index, (call.now, path))) }
 {
     push_waits(text, index, call.waits(), out);
     push_call_line(text, index, call.gas(), path, out);
@@ -100,7 +100,7 @@ fn push_call<W: Destination>(
 
 /// Appends the lines of the waits of the call at an index.
 fn push_waits<W: Destination>(text: &mut TextBuffer, index: usize, waits: &[KeyWaits], out: &mut W)
-    ensures { Appended W.contents W.may_refuse text.old out.old text.new out.new (flat_map (wait_line index) waits.now) }
+    ensures { Appended W.Destination text.old out.old text.new out.new (flat_map (wait_line index) waits.now) }
 {
     for wait in waits {
         push_wait(text, index, wait, out);
@@ -109,7 +109,7 @@ fn push_waits<W: Destination>(text: &mut TextBuffer, index: usize, waits: &[KeyW
 
 /// Appends the line of the waits of the call at an index at one key.
 fn push_wait<W: Destination>(text: &mut TextBuffer, index: usize, wait: &KeyWaits, out: &mut W)
-    ensures { Appended W.contents W.may_refuse text.old out.old text.new out.new (wait_line index wait.now) }
+    ensures { Appended W.Destination text.old out.old text.new out.new (wait_line index wait.now) }
 {
     push_numbered(text, b"wait ", index as u64, out);
     push_numbered(text, b" ", u64::from(wait.from), out);
@@ -126,7 +126,7 @@ fn push_call_line<W: Destination>(
     path: u64,
     out: &mut W,
 )
-    ensures { Appended W.contents W.may_refuse text.old out.old text.new out.new (path_line index gas path) }
+    ensures { Appended W.Destination text.old out.old text.new out.new (path_line index gas path) }
 {
     push_numbered(text, b"call ", index as u64, out);
     push_gas_and_path(text, u64::from(gas), path, out);
@@ -135,7 +135,7 @@ fn push_call_line<W: Destination>(
 /// Appends a word and a number in decimal.
 fn push_numbered<W: Destination>(text: &mut TextBuffer, word: &[u8], number: u64, out: &mut W)
     requires { length word.now ≤ 65536 }
-    ensures { Appended W.contents W.may_refuse text.old out.old text.new out.new (word.now ++ decimal number) }
+    ensures { Appended W.Destination text.old out.old text.new out.new (word.now ++ decimal number) }
 {
     text.push(word, out);
     push_decimal(text, number, out);
@@ -143,7 +143,7 @@ fn push_numbered<W: Destination>(text: &mut TextBuffer, word: &[u8], number: u64
 
 /// Appends the words and numbers of some gas and a path, and ends the line.
 fn push_gas_and_path<W: Destination>(text: &mut TextBuffer, gas: u64, path: u64, out: &mut W)
-    ensures { Appended W.contents W.may_refuse text.old out.old text.new out.new (codes " gas " ++ (decimal gas ++ (codes " path " ++ (decimal path ++ codes "\n")))) }
+    ensures { Appended W.Destination text.old out.old text.new out.new (codes " gas " ++ (decimal gas ++ (codes " path " ++ (decimal path ++ codes "\n")))) }
 {
     push_numbered(text, b" gas ", gas, out);
     push_numbered(text, b" path ", path, out);
@@ -152,7 +152,7 @@ fn push_gas_and_path<W: Destination>(text: &mut TextBuffer, gas: u64, path: u64,
 
 /// Appends the lines of the keys at which some call waits.
 fn push_hot_keys<W: Destination>(text: &mut TextBuffer, keys: &[HotKey], out: &mut W)
-    ensures { Appended W.contents W.may_refuse text.old out.old text.new out.new (flat_map key_line keys.now) }
+    ensures { Appended W.Destination text.old out.old text.new out.new (flat_map key_line keys.now) }
 {
     for key in keys {
         push_hot_key(text, key, out);
@@ -161,7 +161,7 @@ fn push_hot_keys<W: Destination>(text: &mut TextBuffer, keys: &[HotKey], out: &m
 
 /// Appends the line of a key at which some call waits.
 fn push_hot_key<W: Destination>(text: &mut TextBuffer, key: &HotKey, out: &mut W)
-    ensures { Appended W.contents W.may_refuse text.old out.old text.new out.new (key_line key.now) }
+    ensures { Appended W.Destination text.old out.old text.new out.new (key_line key.now) }
 {
     text.push(b"key ", out);
     push_key(text, key.key().bytes(), out);
@@ -170,7 +170,7 @@ fn push_hot_key<W: Destination>(text: &mut TextBuffer, key: &HotKey, out: &mut W
 
 /// Appends the numbers of writers and of waits at a key, and ends the line.
 fn push_key_counts<W: Destination>(text: &mut TextBuffer, writers: usize, waits: u64, out: &mut W)
-    ensures { Appended W.contents W.may_refuse text.old out.old text.new out.new (codes " writers " ++ (decimal writers ++ (codes " waits " ++ (decimal waits ++ codes "\n")))) }
+    ensures { Appended W.Destination text.old out.old text.new out.new (codes " writers " ++ (decimal writers ++ (codes " waits " ++ (decimal waits ++ codes "\n")))) }
 {
     push_numbered(text, b" writers ", writers as u64, out);
     push_numbered(text, b" waits ", waits, out);
@@ -179,7 +179,7 @@ fn push_key_counts<W: Destination>(text: &mut TextBuffer, writers: usize, waits:
 
 /// Appends the line of the sums over all calls.
 fn push_sums<W: Destination>(text: &mut TextBuffer, calls: usize, gas: u64, path: u64, out: &mut W)
-    ensures { Appended W.contents W.may_refuse text.old out.old text.new out.new (sum_line calls gas path) }
+    ensures { Appended W.Destination text.old out.old text.new out.new (sum_line calls gas path) }
 {
     push_numbered(text, b"all calls ", calls as u64, out);
     push_gas_and_path(text, gas, path, out);

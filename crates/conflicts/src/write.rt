@@ -17,7 +17,7 @@ pub fn write_conflicts<W: Destination>(
     conflicts: &Conflicts,
     out: &mut W,
 ) -> Result<(), WriteFault>
-    ensures writes { WritesText W.contents W.may_refuse result out.old out.new
+    ensures writes { WritesText W.Destination result out.old out.new
         (conflicts_text conflicts.now.calls.items conflicts.now.paths.items conflicts.now.keys.items) }
     ensures memory { IfErr result (λ e. e ≡ WriteFault.Memory → out.new ≡ out.old) }
 {

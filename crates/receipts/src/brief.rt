@@ -36,7 +36,7 @@ fn push_receipts<W: Destination>(
     receipts: &[Receipt],
     out: &mut W,
 )
-    ensures { Appended W.contents W.may_refuse text.old out.old text.new out.new (receipts_text is_brief receipts.now) }
+    ensures { Appended W.Destination text.old out.old text.new out.new (receipts_text is_brief receipts.now) }
 {
     push_calls(text, is_brief, receipts, out);
     text.push(b"end\n", out);
@@ -49,7 +49,7 @@ fn push_calls<W: Destination>(
     receipts: &[Receipt],
     out: &mut W,
 )
-    ensures { Appended W.contents W.may_refuse text.old out.old text.new out.new (flat_map (lines_of_call is_brief) (enumerate_from 0 receipts.now)) }
+    ensures { Appended W.Destination text.old out.old text.new out.new (flat_map (lines_of_call is_brief) (enumerate_from 0 receipts.now)) }
 {
     for (index, receipt) in receipts.iter().enumerate() {
         push_call(text, is_brief, index, receipt, out);
@@ -64,7 +64,7 @@ fn push_call<W: Destination>(
     receipt: &Receipt,
     out: &mut W,
 )
-    ensures { Appended W.contents W.may_refuse text.old out.old text.new out.new (lines_of_call is_brief (index, receipt.now)) }
+    ensures { Appended W.Destination text.old out.old text.new out.new (lines_of_call is_brief (index, receipt.now)) }
 {
     push_call_line(text, index, receipt, out);
     if !is_brief {

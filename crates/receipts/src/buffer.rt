@@ -43,7 +43,7 @@ impl TextBuffer {
     #[inline(always)]
     pub fn push<W: Destination>(&mut self, bytes: &[u8], out: &mut W)
         requires { length bytes.now ≤ PIECE }
-        ensures { Appended W.contents W.may_refuse self.old out.old self.new out.new bytes.now }
+        ensures { Appended W.Destination self.old out.old self.new out.new bytes.now }
     {
         self.make_room(bytes.len(), out);
         match self.waiting.extend_from_slice(bytes) {
@@ -56,7 +56,7 @@ impl TextBuffer {
     #[inline(always)]
     fn make_room<W: Destination>(&mut self, count: usize, out: &mut W)
         requires { count ≤ PIECE }
-        ensures appended { Appended W.contents W.may_refuse self.old out.old self.new out.new [] }
+        ensures appended { Appended W.Destination self.old out.old self.new out.new [] }
         ensures room { vec_len self.new.waiting + count ≤ PIECE }
     {
         if count > PIECE - self.waiting.len() {
@@ -68,7 +68,7 @@ impl TextBuffer {
     #[cold]
     #[inline(never)]
     fn write_waiting<W: Destination>(&mut self, out: &mut W)
-        ensures appended { Appended W.contents W.may_refuse self.old out.old self.new out.new [] }
+        ensures appended { Appended W.Destination self.old out.old self.new out.new [] }
         ensures empty { self.new.waiting.items ≡ [] }
     {
         self.refused = first_refusal(self.refused, self.waiting.as_slice(), out);
@@ -77,7 +77,7 @@ impl TextBuffer {
 
     /// Writes what waits. Refused as the first write that was refused.
     pub fn finish<W: Destination>(self, out: &mut W) -> Result<(), WriteFault>
-        ensures writes { FinishesText W.contents W.may_refuse result self out.old out.new }
+        ensures writes { FinishesText W.Destination result self out.old out.new }
         ensures fault { IfErr result (λ e. e ≢ WriteFault.Memory) }
     {
         let mut text = self;

@@ -60,7 +60,7 @@ fn digits_of(bytes: u8x16) -> (u8x16, u8x16)
 #[inline(always)]
 fn push_sixteen<W: Destination>(text: &mut TextBuffer, bytes: &[u8], out: &mut W)
     requires { length bytes.now ≡ 16 }
-    ensures { Appended W.contents W.may_refuse text.old out.old text.new out.new (encode_lower bytes.now) }
+    ensures { Appended W.Destination text.old out.old text.new out.new (encode_lower bytes.now) }
 {
     let (front, back) = digits_of(u8x16::from_slice(bytes));
     text.push(front.to_array().as_slice(), out);
@@ -89,14 +89,14 @@ fn word_field(word: u32) -> [u8; 16]
 
 /// Appends a space and a word in eight hex digits.
 pub(crate) fn push_word_field<W: Destination>(text: &mut TextBuffer, word: u32, out: &mut W)
-    ensures { Appended W.contents W.may_refuse text.old out.old text.new out.new (32 ∷ word_text word) }
+    ensures { Appended W.Destination text.old out.old text.new out.new (32 ∷ word_text word) }
 {
     text.push(&word_field(word)[..9], out);
 }
 
 /// Appends the 32 bytes of a key in 64 hex digits.
 pub fn push_key<W: Destination>(text: &mut TextBuffer, bytes: &[u8; 32], out: &mut W)
-    ensures { Appended W.contents W.may_refuse text.old out.old text.new out.new (encode_lower bytes.now) }
+    ensures { Appended W.Destination text.old out.old text.new out.new (encode_lower bytes.now) }
 {
     let (front, back) = bytes.as_slice().split_at(16);
     push_sixteen(text, front, out);
@@ -105,7 +105,7 @@ pub fn push_key<W: Destination>(text: &mut TextBuffer, bytes: &[u8; 32], out: &m
 
 /// Appends bytes in hex, two digits each.
 fn push_hex<W: Destination>(text: &mut TextBuffer, bytes: &[u8], out: &mut W)
-    ensures { Appended W.contents W.may_refuse text.old out.old text.new out.new (encode_lower bytes.now) }
+    ensures { Appended W.Destination text.old out.old text.new out.new (encode_lower bytes.now) }
 {
     let mut rest = bytes;
     while rest.len() >= 16 {
@@ -118,7 +118,7 @@ fn push_hex<W: Destination>(text: &mut TextBuffer, bytes: &[u8], out: &mut W)
 
 /// Appends bytes in hex, as `push_hex` does, but four at a time.
 fn push_fours<W: Destination>(text: &mut TextBuffer, bytes: &[u8], out: &mut W)
-    ensures { Appended W.contents W.may_refuse text.old out.old text.new out.new (encode_lower bytes.now) }
+    ensures { Appended W.Destination text.old out.old text.new out.new (encode_lower bytes.now) }
 {
     let mut rest = bytes;
     while let [a, b, c, d, more @ ..] = rest {
@@ -130,7 +130,7 @@ fn push_fours<W: Destination>(text: &mut TextBuffer, bytes: &[u8], out: &mut W)
 
 /// Appends bytes in hex, as `push_hex` does, but one at a time.
 fn push_pairs<W: Destination>(text: &mut TextBuffer, bytes: &[u8], out: &mut W)
-    ensures { Appended W.contents W.may_refuse text.old out.old text.new out.new (encode_lower bytes.now) }
+    ensures { Appended W.Destination text.old out.old text.new out.new (encode_lower bytes.now) }
 {
     let mut rest = bytes;
     while let [byte, more @ ..] = rest {
@@ -141,7 +141,7 @@ fn push_pairs<W: Destination>(text: &mut TextBuffer, bytes: &[u8], out: &mut W)
 
 /// Appends bytes in hex, or a dash if there are none.
 pub fn push_bytes<W: Destination>(text: &mut TextBuffer, bytes: &[u8], out: &mut W)
-    ensures { Appended W.contents W.may_refuse text.old out.old text.new out.new (bytes_text bytes.now) }
+    ensures { Appended W.Destination text.old out.old text.new out.new (bytes_text bytes.now) }
 {
     if bytes.is_empty() {
         text.push(b"-", out);
@@ -152,7 +152,7 @@ pub fn push_bytes<W: Destination>(text: &mut TextBuffer, bytes: &[u8], out: &mut
 
 /// Appends a number in decimal.
 pub fn push_decimal<W: Destination>(text: &mut TextBuffer, number: u64, out: &mut W)
-    ensures { Appended W.contents W.may_refuse text.old out.old text.new out.new (decimal number) }
+    ensures { Appended W.Destination text.old out.old text.new out.new (decimal number) }
 {
     text.push(itoa::Buffer::new().format(number).as_bytes(), out);
 }

@@ -41,7 +41,7 @@ pub(crate) fn push_result<W: Destination>(
     store: &Store,
     out: &mut W,
 )
-    ensures { Appended W.contents W.may_refuse text.old out.old text.new out.new (result_text receipts.now store.now) }
+    ensures { Appended W.Destination text.old out.old text.new out.new (result_text receipts.now store.now) }
 {
     push_calls(text, receipts, out);
     push_store(text, store, out);
@@ -50,7 +50,7 @@ pub(crate) fn push_result<W: Destination>(
 
 /// Appends the lines of all calls.
 fn push_calls<W: Destination>(text: &mut TextBuffer, receipts: &[Receipt], out: &mut W)
-    ensures { Appended W.contents W.may_refuse text.old out.old text.new out.new (flat_map call_lines (enumerate_from 0 receipts.now)) }
+    ensures { Appended W.Destination text.old out.old text.new out.new (flat_map call_lines (enumerate_from 0 receipts.now)) }
 {
     for (index, receipt) in receipts.iter().enumerate() {
         push_call(text, index, receipt, out);
@@ -59,7 +59,7 @@ fn push_calls<W: Destination>(text: &mut TextBuffer, receipts: &[Receipt], out: 
 
 /// Appends the lines of the call at an index.
 fn push_call<W: Destination>(text: &mut TextBuffer, index: usize, receipt: &Receipt, out: &mut W)
-    ensures { Appended W.contents W.may_refuse text.old out.old text.new out.new (call_lines (index, receipt.now)) }
+    ensures { Appended W.Destination text.old out.old text.new out.new (call_lines (index, receipt.now)) }
 {
     push_call_line(text, index, receipt, out);
     push_regs(text, &receipt.regs, out);
@@ -73,7 +73,7 @@ pub(crate) fn push_call_line<W: Destination>(
     receipt: &Receipt,
     out: &mut W,
 )
-    ensures { Appended W.contents W.may_refuse text.old out.old text.new out.new (call_line index receipt.now) }
+    ensures { Appended W.Destination text.old out.old text.new out.new (call_line index receipt.now) }
 {
     push_end(text, index, receipt.end, out);
     push_gas_and_pc(text, receipt.gas, receipt.pc, out);
@@ -84,7 +84,7 @@ pub(crate) fn push_call_line<W: Destination>(
 
 /// Appends the index of a call, and the name of its end.
 fn push_end<W: Destination>(text: &mut TextBuffer, index: usize, end: End, out: &mut W)
-    ensures { Appended W.contents W.may_refuse text.old out.old text.new out.new (codes "call " ++ (decimal index ++ (32 ∷ end_name end))) }
+    ensures { Appended W.Destination text.old out.old text.new out.new (codes "call " ++ (decimal index ++ (32 ∷ end_name end))) }
 {
     text.push(b"call ", out);
     push_decimal(text, index as u64, out);
@@ -94,7 +94,7 @@ fn push_end<W: Destination>(text: &mut TextBuffer, index: usize, end: End, out: 
 
 /// Appends the gas of a call, and the pc where it ended.
 fn push_gas_and_pc<W: Destination>(text: &mut TextBuffer, gas: u32, pc: u32, out: &mut W)
-    ensures { Appended W.contents W.may_refuse text.old out.old text.new out.new (codes " gas " ++ (decimal gas ++ (codes " pc " ++ word_text pc))) }
+    ensures { Appended W.Destination text.old out.old text.new out.new (codes " gas " ++ (decimal gas ++ (codes " pc " ++ word_text pc))) }
 {
     text.push(b" gas ", out);
     push_decimal(text, u64::from(gas), out);
@@ -104,7 +104,7 @@ fn push_gas_and_pc<W: Destination>(text: &mut TextBuffer, gas: u32, pc: u32, out
 
 /// Appends the line of the 32 registers, x0 first.
 pub(crate) fn push_regs<W: Destination>(text: &mut TextBuffer, regs: &Regs, out: &mut W)
-    ensures { Appended W.contents W.may_refuse text.old out.old text.new out.new (regs_line regs.now) }
+    ensures { Appended W.Destination text.old out.old text.new out.new (regs_line regs.now) }
 {
     text.push(b"regs", out);
     push_words(text, regs.values(), out);
@@ -112,7 +112,7 @@ pub(crate) fn push_regs<W: Destination>(text: &mut TextBuffer, regs: &Regs, out:
 
 /// Appends words, each after a space, and ends the line.
 fn push_words<W: Destination>(text: &mut TextBuffer, words: &[u32; 32], out: &mut W)
-    ensures { Appended W.contents W.may_refuse text.old out.old text.new out.new (more_fields (map word_text words.now)) }
+    ensures { Appended W.Destination text.old out.old text.new out.new (more_fields (map word_text words.now)) }
 {
     for word in words {
         push_word_field(text, *word, out);
@@ -127,7 +127,7 @@ pub(crate) fn push_writes<W: Destination>(
     writes: &Writes,
     out: &mut W,
 )
-    ensures { Appended W.contents W.may_refuse text.old out.old text.new out.new (flat_map (write_line index) (entries writes.now)) }
+    ensures { Appended W.Destination text.old out.old text.new out.new (flat_map (write_line index) (entries writes.now)) }
 {
     for (key, change) in writes.as_slice() {
         push_write(text, index, key, change, out);
@@ -142,7 +142,7 @@ fn push_write<W: Destination>(
     change: &Change<StoredValue>,
     out: &mut W,
 )
-    ensures { Appended W.contents W.may_refuse text.old out.old text.new out.new (write_line index (key.now, change.now)) }
+    ensures { Appended W.Destination text.old out.old text.new out.new (write_line index (key.now, change.now)) }
 {
     push_write_key(text, index, key, out);
     match change {
@@ -155,7 +155,7 @@ fn push_write<W: Destination>(
 
 /// Appends the index of a call and a key that it wrote, up to the space after them.
 fn push_write_key<W: Destination>(text: &mut TextBuffer, index: usize, key: &Key, out: &mut W)
-    ensures { Appended W.contents W.may_refuse text.old out.old text.new out.new (codes "write " ++ (decimal index ++ (32 ∷ (encode_lower key.now ++ codes " ")))) }
+    ensures { Appended W.Destination text.old out.old text.new out.new (codes "write " ++ (decimal index ++ (32 ∷ (encode_lower key.now ++ codes " ")))) }
 {
     text.push(b"write ", out);
     push_decimal(text, index as u64, out);
@@ -166,7 +166,7 @@ fn push_write_key<W: Destination>(text: &mut TextBuffer, index: usize, key: &Key
 
 /// Appends the word `add` and an amount.
 fn push_sum<W: Destination>(text: &mut TextBuffer, amount: u64, out: &mut W)
-    ensures { Appended W.contents W.may_refuse text.old out.old text.new out.new (codes "add " ++ decimal amount) }
+    ensures { Appended W.Destination text.old out.old text.new out.new (codes "add " ++ decimal amount) }
 {
     text.push(b"add ", out);
     push_decimal(text, amount, out);
@@ -174,7 +174,7 @@ fn push_sum<W: Destination>(text: &mut TextBuffer, amount: u64, out: &mut W)
 
 /// Appends the lines of the storage.
 fn push_store<W: Destination>(text: &mut TextBuffer, store: &Store, out: &mut W)
-    ensures { Appended W.contents W.may_refuse text.old out.old text.new out.new (flat_map store_line (entries store.now)) }
+    ensures { Appended W.Destination text.old out.old text.new out.new (flat_map store_line (entries store.now)) }
 {
     for (key, value) in store.iter() {
         push_entry(text, key, value, out);
@@ -188,7 +188,7 @@ pub fn push_entry<W: Destination>(
     value: &StoredValue,
     out: &mut W,
 )
-    ensures { Appended W.contents W.may_refuse text.old out.old text.new out.new (store_line (key.now, value.now)) }
+    ensures { Appended W.Destination text.old out.old text.new out.new (store_line (key.now, value.now)) }
 {
     text.push(b"store ", out);
     push_key(text, key.bytes(), out);

@@ -18,7 +18,7 @@ pub fn write_result<W: Destination>(
     store: &Store,
     out: &mut W,
 ) -> Result<(), WriteFault>
-    ensures writes { WritesText W.contents W.may_refuse result out.old out.new (result_text receipts.now store.now) }
+    ensures writes { WritesText W.Destination result out.old out.new (result_text receipts.now store.now) }
     ensures memory { IfErr result (λ e. e ≡ WriteFault.Memory → out.new ≡ out.old) }
 {
     let Ok(mut text) = TextBuffer::new(alloc) else {
@@ -34,7 +34,7 @@ pub fn write_outcome<W: Destination>(
     outcome: &Outcome,
     out: &mut W,
 ) -> Result<(), WriteFault>
-    ensures writes { WritesText W.contents W.may_refuse result out.old out.new (result_text outcome.now.receipts.items outcome.now.store) }
+    ensures writes { WritesText W.Destination result out.old out.new (result_text outcome.now.receipts.items outcome.now.store) }
     ensures memory { IfErr result (λ e. e ≡ WriteFault.Memory → out.new ≡ out.old) }
 {
     write_result(alloc, outcome.receipts.as_slice(), &outcome.store, out)

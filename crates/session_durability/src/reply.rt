@@ -31,7 +31,7 @@ pub(crate) fn write_reply<S: Store, W: Destination>(
     reply: FileReply,
     out: &mut W,
 ) -> Result<(), WriteFault>
-    ensures { PrintsText W.contents W.may_refuse W.is_flushed result out.old out.new (reply_text session.now.state session.now.found reply) }
+    ensures { PrintsText W.Destination result out.old out.new (reply_text session.now.state session.now.found reply) }
 {
     match reply {
         FileReply::Turn(answer) => write_answer(&session.state, answer, out),
@@ -48,7 +48,7 @@ fn print_last<S: Store, W: Destination>(
     session: &FileSession<S>,
     out: &mut W,
 ) -> Result<(), WriteFault>
-    ensures { PrintsText W.contents W.may_refuse W.is_flushed result out.old out.new (last_text (last_of session.now.state.last (option_map answer_parts session.now.found))) }
+    ensures { PrintsText W.Destination result out.old out.new (last_text (last_of session.now.state.last (option_map answer_parts session.now.found))) }
 {
     match &session.state.last {
         Some(_) => write_answer(&session.state, Answer::Last, out),

@@ -5,7 +5,7 @@ use Rattle.std.proofs.KnownBytes.{Appends-kept, Appends-trans}
 use Rattle.std.specs.Io.KnownBytes.{Appends, Keeps}
 use Rattle.std.specs.Prelude.{IfErr, OnOk}
 use Rattle.std.proofs.lemmas.Result.{IfErr-weaker}
-use Rattle.byte_streams.specs.Written.{AppendsPart, AtMostAs, WritesText}
+use Rattle.byte_streams.specs.Written.{AppendsPart, AtMostAs, Writer, WritesText}
 use Rattle.byte_streams.specs.declared.fault.WriteFault.{WriteFault}
 use Rattle.session_serving.specs.Writing.{PrintsText, Says}
 
@@ -37,30 +37,30 @@ says_behind (Err e) line text before mid after a (part, left, whole, s) = (
   Appends-trans before mid after line part a s,
 )
 
-module _ {S X : Type 0} {contents : S → Option (List ℕ)} {may_refuse : S → WriteFault → Type 0} {is_flushed : S → Type 0} where
+module _ {S X : Type 0} {to : Writer S} where
   -- a part of a text was written
-  pub cut : {Y : Type 0} {e : WriteFault} {old new : S} {text : List ℕ} → WritesText {X = Y} contents may_refuse (Err e) old new text → PrintsText {X = X} contents may_refuse is_flushed (Err e) old new text
-  cut {old = old} {new = new} {text = text} w = record { says = part_of text (contents old) (contents new) w.err; flushed = tt; refused = w.cause; no_worse = w.same }
+  pub cut : {Y : Type 0} {e : WriteFault} {old new : S} {text : List ℕ} → WritesText {X = Y} to (Err e) old new text → PrintsText {X = X} to (Err e) old new text
+  cut {old = old} {new = new} {text = text} w = record { says = part_of text (to.contents old) (to.contents new) w.err; flushed = tt; refused = w.cause; no_worse = w.same }
 
   -- a part of a text with more after it was written
-  pub cut_before : {Y : Type 0} {e : WriteFault} {old new : S} {line : List ℕ} (text : List ℕ) → WritesText {X = Y} contents may_refuse (Err e) old new line → PrintsText {X = X} contents may_refuse is_flushed (Err e) old new (line ++ text)
-  cut_before {old = old} {new = new} {line = line} text w = record { says = part_before line text (contents old) (contents new) w.err; flushed = tt; refused = w.cause; no_worse = w.same }
+  pub cut_before : {Y : Type 0} {e : WriteFault} {old new : S} {line : List ℕ} (text : List ℕ) → WritesText {X = Y} to (Err e) old new line → PrintsText {X = X} to (Err e) old new (line ++ text)
+  cut_before {old = old} {new = new} {line = line} text w = record { says = part_before line text (to.contents old) (to.contents new) w.err; flushed = tt; refused = w.cause; no_worse = w.same }
 
   -- a text after a line that was written
-  pub printed_behind : {Y : Type 0} {y : Y} {r : Result X WriteFault} {old mid new : S} {line text : List ℕ} → WritesText contents may_refuse (Ok y) old mid line → PrintsText contents may_refuse is_flushed r mid new text → PrintsText contents may_refuse is_flushed r old new (line ++ text)
+  pub printed_behind : {Y : Type 0} {y : Y} {r : Result X WriteFault} {old mid new : S} {line text : List ℕ} → WritesText to (Ok y) old mid line → PrintsText to r mid new text → PrintsText to r old new (line ++ text)
   printed_behind {r = r} {old = old} {mid = mid} {new = new} {line = line} {text = text} w p = record {
-    says = says_behind r line text (contents old) (contents mid) (contents new) w.ok p.says;
+    says = says_behind r line text (to.contents old) (to.contents mid) (to.contents new) w.ok p.says;
     flushed = p.flushed;
     refused = IfErr-weaker r _ _ w.same p.refused;
     no_worse = λ fault h. w.same fault (p.no_worse fault h);
   }
 
   -- a text that was written, and then flushed
-  pub printed : {Y : Type 0} {y : Y} (r : Result X WriteFault) {old mid new : S} {text : List ℕ} → WritesText contents may_refuse (Ok y) old mid text
-      → Keeps (contents mid) (contents new) → OnOk r (is_flushed new) → IfErr r (may_refuse mid) → AtMostAs (may_refuse new) (may_refuse mid)
-      → PrintsText contents may_refuse is_flushed r old new text
+  pub printed : {Y : Type 0} {y : Y} (r : Result X WriteFault) {old mid new : S} {text : List ℕ} → WritesText to (Ok y) old mid text
+      → Keeps (to.contents mid) (to.contents new) → OnOk r (to.is_flushed new) → IfErr r (to.may_refuse mid) → AtMostAs (to.may_refuse new) (to.may_refuse mid)
+      → PrintsText to r old new text
   printed r {old = old} {mid = mid} {new = new} {text = text} w keeps ended cause same = record {
-    says = flushed r text (contents old) (contents mid) (contents new) w.ok keeps;
+    says = flushed r text (to.contents old) (to.contents mid) (to.contents new) w.ok keeps;
     flushed = ended;
     refused = IfErr-weaker r _ _ w.same cause;
     no_worse = λ fault h. w.same fault (same fault h);

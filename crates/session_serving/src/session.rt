@@ -72,7 +72,7 @@ pub trait Session {
     /// Writes an answer in the session that it leaves, and flushes it. Refused if a write failed; a beginning of the answer was
     /// written.
     fn write<W: Destination>(&self, reply: Self::Reply, out: &mut W) -> Result<(), WriteFault>
-        ensures { PrintsText W.contents W.may_refuse W.is_flushed result out.old out.new (text_of self.now reply) };
+        ensures { PrintsText W.Destination result out.old out.new (text_of self.now reply) };
 
     /// Between two requests a crash leaves the session as it is.
     ghost settled: { (settings : Settings) (s : Self) (rest : List Ask) → is_kept settings s → is_open s → leaves settings s rest s };

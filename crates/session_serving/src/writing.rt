@@ -26,7 +26,7 @@ pub fn write_answer<W: Destination>(
     answer: Answer,
     out: &mut W,
 ) -> Result<(), WriteFault>
-    ensures { PrintsText W.contents W.may_refuse W.is_flushed result out.old out.new (turn_reply_text (reply_in state.now answer)) }
+    ensures { PrintsText W.Destination result out.old out.new (turn_reply_text (reply_in state.now answer)) }
 {
     match answer {
         Answer::Done(bytes) => {
@@ -48,7 +48,7 @@ pub fn write_answer<W: Destination>(
 
 /// Writes the answer that is kept of the last frame, or the refusal if there is none.
 fn print_last<W: Destination>(state: &State, out: &mut W) -> Result<(), WriteFault>
-    ensures { PrintsText W.contents W.may_refuse W.is_flushed result out.old out.new (turn_reply_text (last_reply state.now.last)) }
+    ensures { PrintsText W.Destination result out.old out.new (turn_reply_text (last_reply state.now.last)) }
 {
     match &state.last {
         Some(kept) => print_kept(kept, out),
@@ -61,7 +61,7 @@ fn print_last<W: Destination>(state: &State, out: &mut W) -> Result<(), WriteFau
 
 /// Writes an answer that is kept.
 fn print_kept<W: Destination>(kept: &KeptAnswer, out: &mut W) -> Result<(), WriteFault>
-    ensures { PrintsText W.contents W.may_refuse W.is_flushed result out.old out.new (turn_reply_text (kept_reply kept.now)) }
+    ensures { PrintsText W.Destination result out.old out.new (turn_reply_text (kept_reply kept.now)) }
 {
     let line = line_of_kept(kept);
     write_both(line.as_str().as_bytes(), bytes_of_kept(kept), out)
@@ -73,7 +73,7 @@ fn print_storage<W: Destination>(
     buffer: EmptyBuffer,
     out: &mut W,
 ) -> Result<(), WriteFault>
-    ensures { PrintsText W.contents W.may_refuse W.is_flushed result out.old out.new (turn_reply_text (Done (dump_text state.now.rules state.now.store))) }
+    ensures { PrintsText W.Destination result out.old out.new (turn_reply_text (Done (dump_text state.now.rules state.now.store))) }
 {
     let line = done_line(dump_length(state.rules, &state.store));
     write_whole(line.as_str().as_bytes(), out)?;
@@ -83,7 +83,7 @@ fn print_storage<W: Destination>(
 
 /// Answers bytes that are no request: writes the refusal, and flushes it. Refused if a write failed.
 pub(crate) fn print_end<W: Destination>(fault: RequestFault, out: &mut W) -> Result<(), WriteFault>
-    ensures { PrintsText W.contents W.may_refuse W.is_flushed result out.old out.new (end_text (Some fault)) }
+    ensures { PrintsText W.Destination result out.old out.new (end_text (Some fault)) }
 {
     let line = refusal_line("refused ", parts_of(fault));
     print(line.as_str().as_bytes(), out)
@@ -91,7 +91,7 @@ pub(crate) fn print_end<W: Destination>(fault: RequestFault, out: &mut W) -> Res
 
 /// Writes a line and the bytes after it, and flushes them.
 pub fn write_both<W: Destination>(line: &[u8], bytes: &[u8], out: &mut W) -> Result<(), WriteFault>
-    ensures { PrintsText W.contents W.may_refuse W.is_flushed result out.old out.new (line.now ++ bytes.now) }
+    ensures { PrintsText W.Destination result out.old out.new (line.now ++ bytes.now) }
 {
     write_whole(line, out)?;
     print(bytes, out)
@@ -99,7 +99,7 @@ pub fn write_both<W: Destination>(line: &[u8], bytes: &[u8], out: &mut W) -> Res
 
 /// Writes a text and flushes it, so that it is seen before the next request is read.
 fn print<W: Destination>(text: &[u8], out: &mut W) -> Result<(), WriteFault>
-    ensures { PrintsText W.contents W.may_refuse W.is_flushed result out.old out.new text.now }
+    ensures { PrintsText W.Destination result out.old out.new text.now }
 {
     write_whole(text, out)?;
     flush(out)

@@ -1,6 +1,6 @@
 -- Private help of proofs: no public clause cites it, except `IsTurn`, `IsRequestAnswered` and `left_of`. How a request is
 -- answered stage by stage.
-use Rattle.std.specs.Prelude.{◌≡◌, ◌≢◌, ⊤, ℕ, List, true, false, map, Result, Ok, Err, Option, Some, None, Vec}
+use Rattle.std.specs.Prelude.{◌≡◌, ⊤, ℕ, List, true, false, map, Result, Ok, Err, Option, Some, None, Vec}
 use Rattle.std.specs.declared.alloc.Global.{Global}
 use Rattle.std.specs.Arc.{arc_value}
 use Rattle.std.specs.FinMap.{contains_key}
@@ -11,7 +11,7 @@ use Rattle.elf32.specs.Layout.{Layout}
 use Rattle.overlay.specs.Overlay.{with_changes}
 use Rattle.session_requests.specs.Requests.{Ask, Dump}
 use Rattle.rv_ledger.specs.Key.{Storage}
-use Rattle.byte_streams.specs.declared.fault.WriteFault.TheVariants.{WroteNothing}
+use Rattle.byte_streams.specs.Written.{in_memory}
 use Rattle.receipts.specs.Buffer.{FinishesText}
 use Rattle.receipts.specs.declared.buffer.TextBuffer.{TextBuffer}
 use Rattle.session_turns.specs.Failures.{MayTurnFail}
@@ -108,4 +108,4 @@ IsLoaded programs name file (Some image) = (contains_key programs name ≡ false
 
 -- a text in memory whose end waited in a buffer is whole
 abbrev pub IsFinished : TextBuffer → Vec ℕ Global → Vec ℕ Global → Type 0
-IsFinished waiting text whole = FinishesText {X = Unit {0}} (λ v. Some v.items) (λ _ fault. fault ≢ WroteNothing) (Ok tt) waiting text whole
+IsFinished waiting text whole = FinishesText {X = Unit {0}} in_memory (Ok tt) waiting text whole

@@ -83,7 +83,7 @@ pub fn write_dump<W: Destination>(
     store: &Store,
     out: &mut W,
 ) -> Result<(), WriteFault>
-    ensures writes { WritesText W.contents W.may_refuse result out.old out.new (dump_text rules store.now) }
+    ensures writes { WritesText W.Destination result out.old out.new (dump_text rules store.now) }
     ensures fault { IfErr result (λ fault. fault ≢ WriteFault.Memory) }
 {
     let EmptyBuffer { buffer } = buffer;
@@ -94,7 +94,7 @@ pub fn write_dump<W: Destination>(
 
 /// Appends the text of a storage: a block file of the session's rules.
 fn push_dump<W: Destination>(text: &mut TextBuffer, rules: Rules, store: &Store, out: &mut W)
-    ensures { Appended W.contents W.may_refuse text.old out.old text.new out.new (dump_text rules store.now) }
+    ensures { Appended W.Destination text.old out.old text.new out.new (dump_text rules store.now) }
 {
     push_head(text, rules, out);
     push_store(text, store, out);
@@ -102,7 +102,7 @@ fn push_dump<W: Destination>(text: &mut TextBuffer, rules: Rules, store: &Store,
 
 /// Appends the lines before the first entry's.
 fn push_head<W: Destination>(text: &mut TextBuffer, rules: Rules, out: &mut W)
-    ensures { Appended W.contents W.may_refuse text.old out.old text.new out.new (dump_head rules) }
+    ensures { Appended W.Destination text.old out.old text.new out.new (dump_head rules) }
 {
     text.push(b"rvblock 2\ngas ", out);
     push_decimal(text, u64::from(rules.number()), out);
@@ -111,7 +111,7 @@ fn push_head<W: Destination>(text: &mut TextBuffer, rules: Rules, out: &mut W)
 
 /// Appends the lines of the entries.
 fn push_store<W: Destination>(text: &mut TextBuffer, store: &Store, out: &mut W)
-    ensures { Appended W.contents W.may_refuse text.old out.old text.new out.new (flat_map store_line (entries store.now)) }
+    ensures { Appended W.Destination text.old out.old text.new out.new (flat_map store_line (entries store.now)) }
 {
     for (key, value) in store.iter() {
         push_entry(text, key, value, out);

@@ -90,7 +90,7 @@ pub(crate) fn names(alloc: Global, programs: &ProgramTable) -> Result<Vec<u8>, A
 
 /// Appends the names, ascending, a line each.
 fn push_names<W: Destination>(text: &mut TextBuffer, programs: &ProgramTable, out: &mut W)
-    ensures { Appended W.contents W.may_refuse text.old out.old text.new out.new (names_text (map (λ e. e.0) (fin.entries programs.now))) }
+    ensures { Appended W.Destination text.old out.old text.new out.new (names_text (map (λ e. e.0) (fin.entries programs.now))) }
 {
     for (name, _) in programs.iter() {
         push_name(text, name, out);
@@ -109,7 +109,7 @@ fn name_line(alloc: Global, name: &Key) -> Result<Vec<u8>, AllocError>
 
 /// Appends the line of a name.
 fn push_name<W: Destination>(text: &mut TextBuffer, name: &Key, out: &mut W)
-    ensures { Appended W.contents W.may_refuse text.old out.old text.new out.new (names_text (name.now ∷ [])) }
+    ensures { Appended W.Destination text.old out.old text.new out.new (names_text (name.now ∷ [])) }
 {
     push_key(text, name.bytes(), out);
     text.push(b"\n", out);

@@ -20,7 +20,7 @@ pub(crate) fn push_state<W: Destination>(
     state: &State,
     out: &mut W,
 )
-    ensures { Appended W.contents W.may_refuse text.old out.old text.new out.new (state_text settings state.now) }
+    ensures { Appended W.Destination text.old out.old text.new out.new (state_text settings state.now) }
 {
     push_counts(text, state, out);
     push_settings(text, settings, out);
@@ -29,7 +29,7 @@ pub(crate) fn push_state<W: Destination>(
 
 /// Appends the counts.
 fn push_counts<W: Destination>(text: &mut TextBuffer, state: &State, out: &mut W)
-    ensures { Appended W.contents W.may_refuse text.old out.old text.new out.new (
+    ensures { Appended W.Destination text.old out.old text.new out.new (
         number_line (codes "rules") (rules_number state.now.rules)
         ++ number_line (codes "height") state.now.height
         ++ number_line (codes "keys") (len state.now.store)
@@ -50,7 +50,7 @@ fn key_count(store: &Store) -> u64
 
 /// Appends the settings, except whether a digest is kept.
 fn push_settings<W: Destination>(text: &mut TextBuffer, settings: Settings, out: &mut W)
-    ensures { Appended W.contents W.may_refuse text.old out.old text.new out.new (
+    ensures { Appended W.Destination text.old out.old text.new out.new (
         number_line (codes "frame-limit") settings.frame_limit
         ++ printed_line (codes "frame-gas") (number_text_or_none settings.frame_gas ∷ [])
         ++ number_line (codes "brief") (if settings.is_brief then 1 else 0)) }
@@ -70,7 +70,7 @@ fn one_if(holds: bool) -> u64
 /// Appends a line of a word and a number.
 fn push_number<W: Destination>(text: &mut TextBuffer, word: &[u8], number: u64, out: &mut W)
     requires { length word.now ≤ 65536 }
-    ensures { Appended W.contents W.may_refuse text.old out.old text.new out.new (number_line word.now number) }
+    ensures { Appended W.Destination text.old out.old text.new out.new (number_line word.now number) }
 {
     text.push(word, out);
     text.push(b" ", out);
@@ -80,7 +80,7 @@ fn push_number<W: Destination>(text: &mut TextBuffer, word: &[u8], number: u64, 
 
 /// Appends the line of the bound on gas.
 fn push_gas<W: Destination>(text: &mut TextBuffer, most: Option<u64>, out: &mut W)
-    ensures { Appended W.contents W.may_refuse text.old out.old text.new out.new (printed_line (codes "frame-gas") (number_text_or_none most ∷ [])) }
+    ensures { Appended W.Destination text.old out.old text.new out.new (printed_line (codes "frame-gas") (number_text_or_none most ∷ [])) }
 {
     match most {
         Some(most) => push_number(text, b"frame-gas", most, out),
@@ -91,7 +91,7 @@ fn push_gas<W: Destination>(text: &mut TextBuffer, most: Option<u64>, out: &mut 
 /// Appends the line of the digest, if one is kept.
 #[tactic(auto, using(receipts::proofs::Buffers::nothing_appended))]
 fn push_digest<W: Destination>(text: &mut TextBuffer, digest: Option<[u8; 32]>, out: &mut W)
-    ensures { Appended W.contents W.may_refuse text.old out.old text.new out.new (digest_line digest) }
+    ensures { Appended W.Destination text.old out.old text.new out.new (digest_line digest) }
 {
     match digest {
         Some(digest) => push_digest_line(text, &digest, out),
@@ -101,7 +101,7 @@ fn push_digest<W: Destination>(text: &mut TextBuffer, digest: Option<[u8; 32]>, 
 
 /// Appends the line of a digest.
 fn push_digest_line<W: Destination>(text: &mut TextBuffer, digest: &[u8; 32], out: &mut W)
-    ensures { Appended W.contents W.may_refuse text.old out.old text.new out.new (digest_line (Some digest.now)) }
+    ensures { Appended W.Destination text.old out.old text.new out.new (digest_line (Some digest.now)) }
 {
     text.push(b"digest ", out);
     push_key(text, digest, out);

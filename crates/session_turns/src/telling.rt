@@ -27,7 +27,7 @@ pub(crate) fn content(alloc: Global, store: &Store, key: &Key) -> Result<Vec<u8>
 
 /// Appends a value in a line, or that there is none.
 fn push_content<W: Destination>(text: &mut TextBuffer, value: Option<&StoredValue>, out: &mut W)
-    ensures { Appended W.contents W.may_refuse text.old out.old text.new out.new (value_line (option_copied value.entry)) }
+    ensures { Appended W.Destination text.old out.old text.new out.new (value_line (option_copied value.entry)) }
 {
     match value {
         Some(value) => push_value(text, value, out),
@@ -37,7 +37,7 @@ fn push_content<W: Destination>(text: &mut TextBuffer, value: Option<&StoredValu
 
 /// Appends a value in a line.
 fn push_value<W: Destination>(text: &mut TextBuffer, value: &StoredValue, out: &mut W)
-    ensures { Appended W.contents W.may_refuse text.old out.old text.new out.new (value_line (Some value.now)) }
+    ensures { Appended W.Destination text.old out.old text.new out.new (value_line (Some value.now)) }
 {
     text.push(b"value ", out);
     push_bytes(text, value.bytes(), out);
@@ -67,7 +67,7 @@ fn push_listed<W: Destination>(
     count: u64,
     out: &mut W,
 )
-    ensures { Appended W.contents W.may_refuse text.old out.old text.new out.new (listed store.now from.now count) }
+    ensures { Appended W.Destination text.old out.old text.new out.new (listed store.now from.now count) }
 {
     let mut left = count;
     for (key, value) in store.iter_from(from) {

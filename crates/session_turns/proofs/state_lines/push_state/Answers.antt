@@ -1,7 +1,7 @@
-use Rattle.std.proofs.Common.{◌≡◌, ◌++◌, ◌∷◌, [], ℕ, List, Option, append_assoc, subst, if◌then◌else◌}
+use Rattle.std.proofs.Common.{◌≡◌, ◌++◌, ◌∷◌, [], ℕ, List, append_assoc, subst, if◌then◌else◌}
 use Rattle.std.specs.Prelude.{codes}
 use Rattle.std.specs.FinMap.{len}
-use Rattle.byte_streams.specs.declared.fault.WriteFault.{WriteFault}
+use Rattle.byte_streams.specs.Written.{Writer}
 use Rattle.receipts.proofs.Buffers.{appended_then}
 use Rattle.receipts.specs.Buffer.{Appended}
 use Rattle.receipts.specs.declared.buffer.TextBuffer.{TextBuffer}
@@ -10,13 +10,13 @@ use Rattle.rv_ledger.specs.Rules.{rules_number}
 use Rattle.session_turns.specs.Telling.{digest_line, number_line, number_text_or_none}
 use Rattle.session_turns.proofs.state_lines.push_state.Goals as goal
 
-module _ {S : Type 0} {contents : S → Option (List ℕ)} {may_refuse : S → WriteFault → Type 0} where
+module _ {S : Type 0} {to : Writer S} where
   all_parts : {p q r t : TextBuffer} {k l m n : S} (a b c d e f g h : List ℕ)
-      → Appended contents may_refuse p k q l (((a ++ b) ++ c) ++ d) → Appended contents may_refuse q l r m ((e ++ f) ++ g) → Appended contents may_refuse r m t n h
-      → Appended contents may_refuse p k t n (((((((a ++ b) ++ c) ++ d) ++ e) ++ f) ++ g) ++ h)
+      → Appended to p k q l (((a ++ b) ++ c) ++ d) → Appended to q l r m ((e ++ f) ++ g) → Appended to r m t n h
+      → Appended to p k t n (((((((a ++ b) ++ c) ++ d) ++ e) ++ f) ++ g) ++ h)
   all_parts {p = p} {t = t} {k = k} {n = n} a b c d e f g h x y z =
       let same : ((((a ++ b) ++ c) ++ d) ++ ((e ++ f) ++ g)) ++ h ≡ ((((((a ++ b) ++ c) ++ d) ++ e) ++ f) ++ g) ++ h = simp append_assoc in
-      subst (Appended contents may_refuse p k t n) same (appended_then (appended_then x y) z)
+      subst (Appended to p k t n) same (appended_then (appended_then x y) z)
 
 pub returns : goal.returns
 returns g c = all_parts

@@ -1,5 +1,5 @@
-use Rattle.session_turns.proofs.WholeTexts.{whole_text}
+use Rattle.session_turns.proofs.WholeTexts.{whole_bytes}
 use Rattle.session_turns.proofs.telling.listed.Goals as goal
 
 pub returns : goal.returns
-returns c = whole_text c.finished.result c.in_ok-waiting.waiting c.push_listed.new.text c.new-text.result c.push_listed.new.out _ c.finished.ensures c.in_ok-waiting.ensures c.new-text.ensures.items c.push_listed.ensures
+returns c = whole_bytes c.finished.result c.in_ok-waiting.waiting c.push_listed.new.text c.new-text.result c.push_listed.new.out _ c.finished.ensures c.in_ok-waiting.ensures c.new-text.ensures.items c.push_listed.ensures
