@@ -243,8 +243,10 @@ fn share_out<'a, J: JobName, S: Contents>(
     ensures shares { IfOk result (λ made. map counts_of_share made.1.items ≡ zero_counts_of_all workers) }
     ensures back { IfErr result (λ arena. arena.records ≡ []) }
 {
-    let core = Core::of(alloc, arena, LentJob { block, contents }, workers)?;
-    Shared::over(alloc, core, LentJob { block, contents }, work_limit)
+    match Core::of(alloc, arena, LentJob { block, contents }, workers) {
+        Ok(core) => Shared::over(alloc, core, LentJob { block, contents }, work_limit),
+        Err(arena) => Err(arena),
+    }
 }
 
 /// What a thread promises: a share that it gives back is of this worker, which got exactly one ask answered Done, and has made no
@@ -273,8 +275,8 @@ impl<J: JobName> Promise<Result<Share, WrittenFault>> for GivesBack<J> {
 /// The handle of a thread that runs for a share.
 type Thread<J> = PromisedHandle<Result<Share, WrittenFault>, GivesBack<J>>;
 
-/// Runs a thread for each share, waits for all of them, and returns the shares that they give back. None if a thread is refused, or
-/// if a worker ends with a fault; the fault is written then.
+/// Runs a thread for each share, waits for all of them, and returns the shares that they give back. Returns no share if memory runs
+/// out for the lists of threads and of shares, if a thread is refused, or if a worker ends with a fault; the fault is written then.
 #[tactic(auto, using(crate::proofs::GivenBack::none_left, crate::proofs::GivenBack::all_left, crate::proofs::GivenBack::all_keep))]
 fn shares_back<
     J: JobName + Send + Sync,

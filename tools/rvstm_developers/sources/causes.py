@@ -35,7 +35,7 @@ AREAS = {
     "Failure :: Program": {"loaded", "push_shared", "put_shared", "fail_unkept"},
     "Failure :: Run": {"calls_over", "commit", "put_entries", "room_for_run", "run_calls"},
     "Failure :: Answer": {"EmptyBuffer :: new", "name_line", "receipts_text", "text_answer", "text_of_storage"},
-    "SeqFault :: Memory": {"BufReader :: new", "find_conflicts", "into_result", "load_job", "run_in_order", "run_on_copy", "store_behind"},
+    "SeqFault :: Memory": {"BufReader :: new", "find_conflicts", "into_result", "load_job", "run_in_order", "run_on_copy", "store_after_calls"},
     "RunFault :: Memory": {
         "apply_receipts", "commit", "copy_with_receipts", "counts_by_share", "finished_of", "load_job", "outcome_of", "room_for_read",
         "run_fault", "share_out", "write_outside",

@@ -113,7 +113,7 @@ class Uses:
 
     def enter(self, group: Group, head: Sequence[Item], around: tuple[Around, ...], here: tuple[Around, ...]) -> None:
         text = words(head)
-        if group.kind == "{" and re.search(r"(?:^|[^.] )\bmatch [^{}]*$", text):
+        if group.kind == "{" and re.search(r"(?:^|[^.] )\bmatch [^{}]*$", top_level(text)):
             self.arms(group.items, text.split("match ", 1)[1], (*here, *let_around(head)))
         elif group.kind == "(" and (text.endswith("matches !") or is_pattern(head)):
             return
