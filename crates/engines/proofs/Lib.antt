@@ -1,6 +1,6 @@
 pub mod Again
 pub mod AtMost
-pub mod CallsBehind
+pub mod CallsLeft
 mod Chains
 mod Conflicts
 mod Held

@@ -45,7 +45,7 @@ impl<'a, R: Threads + Wait + Sync> ByThreads<'a, R> {
     /// Runs the calls of a frame after the first ones: some in order if the first ones used little gas, and the others by
     /// threads if that pays.
     #[tactic(auto, using(rv_step::proofs::CallsInOrder::receipts_append, rv_step::proofs::CallsInOrder::after_append))]
-    fn run_behind(
+    fn run_after_first(
         &mut self,
         alloc: Global,
         base: &Store,
@@ -137,7 +137,7 @@ impl<R: Threads + Wait + Sync> CallRunner for ByThreads<'_, R> {
         let (first, others) = calls.split_at(calls.len().min(FIRST_CALLS));
         let (mut receipts, reads) = run_counted(alloc, base, over, first)?;
         let shown = Batches::new(self.workers, receipts.as_slice(), reads);
-        let mut more = self.run_behind(alloc, base, over, shown, others)?;
+        let mut more = self.run_after_first(alloc, base, over, shown, others)?;
         receipts.append(&mut more)?;
         Ok(receipts)
     }

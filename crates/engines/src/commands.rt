@@ -1,6 +1,6 @@
 //! What the program does for each request, over any files, input and writers.
 
-ghost use Rattle.std.specs.Prelude.{◌≡◌, ◌⊎◌, option_map, true, Err, IfErr, IfOk, IfSome, None, Ok, OnErr, OnOk};
+ghost use Rattle.std.specs.Prelude.{◌≡◌, ◌⊎◌, option_map, false, true, Err, IfErr, IfOk, IfSome, None, Ok, OnErr, OnOk, Some};
 ghost use Rattle.block_file.specs.Migrate.{migrated};
 ghost use Rattle.cmdline.specs.Line.{AsmOf, ConflictsOf, DebugOf, DisOf, DriveOf, MigrateOf, RunOf, SeqOf, asked_by_request};
 ghost use Rattle.engines.specs.Dis.{IsSourceFault, file_of_source};
@@ -105,6 +105,19 @@ fn uncounted(done: Result<(), Refusal>) -> Result<Option<RunCounts>, Refusal>
     }
 }
 
+/// The answer to a request whose counts are printed if that is asked for.
+fn if_counted(counts: bool, done: Result<RunCounts, Refusal>) -> Result<Option<RunCounts>, Refusal>
+    ensures counted { counts ≡ true → IfOk done (λ found. result ≡ Ok (Some found)) }
+    ensures uncounted { counts ≡ false → OnOk done (result ≡ Ok None) }
+    ensures refused { IfErr done (λ e. result ≡ Err e) }
+{
+    match done {
+        Ok(found) if counts => Ok(Some(found)),
+        Ok(_) => Ok(None),
+        Err(refusal) => Err(refusal),
+    }
+}
+
 /// Answers the requests of the input in one session, whose calls are run by this many workers, or in order.
 fn session<T: Threads + Wait + Sync, K: SessionStores, I: Source, W: Destination>(
     threads: &T,
@@ -150,17 +163,12 @@ fn run<T: Threads + Wait + Sync, D: Disk, W: Destination>(
     ensures counted { IfOk result (AreCountsAsked (D.content disk.now) (RunOf file.now workers counts)) }
     ensures refused { IfErr result (IsRefusedAs (D.content disk.now) ⊥ None (W.may_refuse out.old) (W.contents out.old) (W.contents out.new) (RunOf file.now workers counts)) }
 {
-    let mut block = NamedFile {
-        disk,
-        path: file,
-        file: None,
-    };
+    let mut block = NamedFile::new(disk, file);
     let mut programs = ProgramFiles { disk };
-    match run_to(threads, alloc, &mut block, &mut programs, workers, out) {
-        Ok(found) if counts => Ok(Some(found)),
-        Ok(_) => Ok(None),
-        Err(refusal) => Err(refusal),
-    }
+    if_counted(
+        counts,
+        run_to(threads, alloc, &mut block, &mut programs, workers, out),
+    )
 }
 
 /// Runs the calls of a block file in order and prints the result.
@@ -173,11 +181,7 @@ fn seq<D: Disk, W: Destination>(
     ensures printed { OnOk result (Prints (D.content disk.now) None (W.contents out.old) (W.contents out.new) (SeqOf file.now)) }
     ensures refused { IfErr result (IsRefusedAs (D.content disk.now) ⊥ None (W.may_refuse out.old) (W.contents out.old) (W.contents out.new) (SeqOf file.now)) }
 {
-    let mut block = NamedFile {
-        disk,
-        path: file,
-        file: None,
-    };
+    let mut block = NamedFile::new(disk, file);
     seq_to(alloc, &mut block, &mut ProgramFiles { disk }, out)
 }
 
@@ -191,11 +195,7 @@ fn conflicts<D: Disk, W: Destination>(
     ensures printed { OnOk result (Prints (D.content disk.now) None (W.contents out.old) (W.contents out.new) (ConflictsOf file.now)) }
     ensures refused { IfErr result (IsRefusedAs (D.content disk.now) ⊥ None (W.may_refuse out.old) (W.contents out.old) (W.contents out.new) (ConflictsOf file.now)) }
 {
-    let mut block = NamedFile {
-        disk,
-        path: file,
-        file: None,
-    };
+    let mut block = NamedFile::new(disk, file);
     conflicts_to(alloc, &mut block, &mut ProgramFiles { disk }, out)
 }
 
@@ -214,22 +214,13 @@ fn drive<D: Disk, W: Destination>(
     ensures counted { IfOk result (AreCountsAsked (D.content disk.now) (DriveOf file.now workers schedule.now counts)) }
     ensures refused { IfErr result (IsRefusedAs (D.content disk.now) ⊥ None (W.may_refuse out.old) (W.contents out.old) (W.contents out.new) (DriveOf file.now workers schedule.now counts)) }
 {
-    let mut block = NamedFile {
-        disk,
-        path: file,
-        file: None,
-    };
-    let mut list = NamedFile {
-        disk,
-        path: schedule,
-        file: None,
-    };
+    let mut block = NamedFile::new(disk, file);
+    let mut list = NamedFile::new(disk, schedule);
     let mut programs = ProgramFiles { disk };
-    match drive_to(alloc, &mut block, &mut programs, &mut list, workers, out) {
-        Ok(found) if counts => Ok(Some(found)),
-        Ok(_) => Ok(None),
-        Err(refusal) => Err(refusal),
-    }
+    if_counted(
+        counts,
+        drive_to(alloc, &mut block, &mut programs, &mut list, workers, out),
+    )
 }
 
 /// Assembles a source and puts its ELF file at a path. If this is refused, an ordinary file at the path stays as it was.
@@ -312,11 +303,7 @@ fn open_apart<'a, D: Disk>(
     ensures apart { OnOk result (AreApart (D.entries disk.now) (D.leads disk.now file.now) (D.leads disk.now out.now)) }
     ensures err { IfErr result (λ e. (e ≡ Refusal.File FileFault.Unwritable) ⊎ (e ≡ memory) ⊎ ((e ≡ Refusal.File FileFault.Unreadable) × (D.content disk.now file.now ≡ None))) }
 {
-    let mut found = NamedFile {
-        disk,
-        path: file,
-        file: None,
-    };
+    let mut found = NamedFile::new(disk, file);
     if found.open_file().is_err() {
         return Err(Refusal::File(FileFault::Unreadable));
     }
@@ -371,11 +358,7 @@ fn dis<D: Disk, W: Destination>(
     ensures printed { OnOk result (Prints (D.content disk.now) None (W.contents out.old) (W.contents out.new) (DisOf file.now)) }
     ensures refused { IfErr result (IsRefusedAs (D.content disk.now) ⊥ None (W.may_refuse out.old) (W.contents out.old) (W.contents out.new) (DisOf file.now)) }
 {
-    let mut program = NamedFile {
-        disk,
-        path: file,
-        file: None,
-    };
+    let mut program = NamedFile::new(disk, file);
     dis_to(alloc, &mut program, out)
 }
 
@@ -392,11 +375,7 @@ fn debug<D: Disk, I: Source, W: Destination>(
     ensures printed { OnOk result (Prints (D.content disk.now) (I.remaining input.old) (W.contents out.old) (W.contents out.new) (DebugOf file.now call has_more)) }
     ensures refused { IfErr result (IsRefusedAs (D.content disk.now) (I.may_fail input.old) (I.remaining input.old) (W.may_refuse out.old) (W.contents out.old) (W.contents out.new) (DebugOf file.now call has_more)) }
 {
-    let mut block = NamedFile {
-        disk,
-        path: file,
-        file: None,
-    };
+    let mut block = NamedFile::new(disk, file);
     let mut programs = ProgramFiles { disk };
     // Not as it is: the proof answers this arm.
     match debug_block_to(alloc, has_more, &mut block, &mut programs, call, input, out) {

@@ -63,12 +63,12 @@ fn replay_of(alloc: Global, has_more: bool, job: Job, call: usize) -> Result<Rep
     let Job { block, store } = job;
     let calls = block.calls();
     let Some(shown) = calls.get(call) else {
-        if !has_more && store_behind(alloc, calls, store).is_err() {
+        if !has_more && store_after_calls(alloc, calls, store).is_err() {
             return Err(Refusal::Seq(SeqFault::Memory));
         }
         return Err(Refusal::Debug(ReplayFault::NoSuchCall));
     };
-    let Ok(left) = store_behind(alloc, &calls[..call], store) else {
+    let Ok(left) = store_after_calls(alloc, &calls[..call], store) else {
         return Err(Refusal::Seq(SeqFault::Memory));
     };
     if !has_more && run_on_copy(alloc, &calls[call..], &left).is_err() {
@@ -82,13 +82,13 @@ fn replay_of(alloc: Global, has_more: bool, job: Job, call: usize) -> Result<Rep
 
 /// Runs calls in order on a copy of a storage, which is dropped. Refused if memory ran out.
 fn run_on_copy(alloc: Global, calls: &[Call], store: &Store) -> Result<(), AllocError> {
-    let _ = store_behind(alloc, calls, store.copy()?)?;
+    let _ = store_after_calls(alloc, calls, store.copy()?)?;
     Ok(())
 }
 
 /// The storage that calls leave if they run in order on `store`. Refused if memory ran out.
 #[tactic(auto, unfolding(rv_step::specs::Fold::store_after))]
-fn store_behind(alloc: Global, calls: &[Call], store: Store) -> Result<Store, AllocError>
+fn store_after_calls(alloc: Global, calls: &[Call], store: Store) -> Result<Store, AllocError>
     ensures { IfOk result (λ s. s ≡ store_after calls.now store) }
 {
     let mut left = store;

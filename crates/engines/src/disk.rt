@@ -72,6 +72,17 @@ pub(crate) struct NamedFile<'a, D: Disk> {
 }
 
 impl<'a, D: Disk> NamedFile<'a, D> {
+    /// The file at a path of a disk, not open yet.
+    pub(crate) fn new(disk: &'a D, path: &'a str) -> NamedFile<'a, D>
+        ensures { result ≡ record { disk = disk.entry; path = path.entry; file = None } }
+    {
+        NamedFile {
+            disk,
+            path,
+            file: None,
+        }
+    }
+
     /// Takes the file out, and opens it if it was not open yet.
     fn take_open(&mut self) -> io::Result<D::File>
         ensures bytes { IfOk result (λ file. IfSome (bytes_left D.File.remaining (D.content self.old.disk.now self.old.path.now) self.old.file) (λ bytes. D.File.remaining file ≡ Some bytes)) }

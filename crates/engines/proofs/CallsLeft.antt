@@ -12,14 +12,14 @@ module _ (n : ℕ) (left now later : List Invocation) (s next : Storage) (front 
   parts = ap (λ calls. calls ++ later) front ∙ ap (λ calls. take n left ++ calls) back ∙ take-append-drop n left
 
   -- the receipts of some calls before those of the others, which run on what these left
-  pub receipts_behind : (done more appended all : List Receipt) → more ≡ receipts_of now s → appended ≡ done ++ more → done ++ receipts_of left s ≡ all
+  pub receipts_of_all : (done more appended all : List Receipt) → more ≡ receipts_of now s → appended ≡ done ++ more → done ++ receipts_of left s ≡ all
       → appended ++ receipts_of later next ≡ all
-  receipts_behind done more appended all ran longer whole =
+  receipts_of_all done more appended all ran longer whole =
       ap (λ receipts. receipts ++ receipts_of later next) (longer ∙ ap (λ receipts. done ++ receipts) ran)
       ∙ append_assoc done (receipts_of now s) (receipts_of later next)
       ∙ ap (λ receipts. done ++ receipts) (ap (λ (t : Storage). receipts_of now s ++ receipts_of later t) is ∙ sym (receipts_append now later s) ∙ ap (λ calls. receipts_of calls s) parts)
       ∙ whole
 
   -- and what all of them leave
-  pub left_behind : (end : Storage) → store_after left s ≡ end → store_after later next ≡ end
-  left_behind end whole = ap (store_after later) is ∙ sym (after_append now later s) ∙ ap (λ calls. store_after calls s) parts ∙ whole
+  pub store_of_all : (end : Storage) → store_after left s ≡ end → store_after later next ≡ end
+  store_of_all end whole = ap (store_after later) is ∙ sym (after_append now later s) ∙ ap (λ calls. store_after calls s) parts ∙ whole
