@@ -69,11 +69,6 @@ pub fn count_lines(alloc: Global, calls: usize) -> Result<String, AllocError> {
     Ok(text)
 }
 
-/// The call lines of forty counts of a key.
-pub fn forty_count_lines(alloc: Global) -> Result<String, AllocError> {
-    count_lines(alloc, 40)
-}
-
 /// Appends the lines of a call that counts a key up: call i ends with x5 = i + 1, and writes that number.
 fn push_count(alloc: Global, text: &mut String, call: u32) -> Result<(), AllocError> {
     let count = call.wrapping_add(1);

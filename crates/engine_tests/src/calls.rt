@@ -10,30 +10,11 @@ use std::alloc::{AllocError, Global};
 use std::sync::Arc;
 use std::test::Fail;
 
-/// The gas limit of each call of `job_of_inputs`.
-const GAS: u32 = 1000;
-
 /// The image of a program.
 pub fn image_of(alloc: Global, words: &[u32]) -> Result<Arc<Image>, Fail> {
     let file = elf_of(alloc, words)?;
     let image = load(alloc, file.as_slice())?;
     Ok(Arc::new(alloc, image)?)
-}
-
-/// A call of an image with an input.
-fn call_of_image(alloc: Global, image: &Arc<Image>, input: &[u8]) -> Result<Call, Fail> {
-    let input = input.to_vec(alloc)?;
-    Ok(Call::new(Arc::try_clone(image)?, GAS, input)?)
-}
-
-/// A job of calls of one program, each with its input, over an empty storage.
-pub fn job_of_inputs(alloc: Global, words: &[u32], inputs: &[&[u8]]) -> Result<Job, Fail> {
-    let image = image_of(alloc, words)?;
-    let mut calls = Vec::new(alloc);
-    for input in inputs {
-        calls.push(call_of_image(alloc, &image, input)?)?;
-    }
-    Ok(Job::new(calls, Store::new(alloc))?)
 }
 
 /// The call of a line.
@@ -84,15 +65,19 @@ pub fn in_order(alloc: Global, job: &Job) -> Result<Outcome, AllocError> {
     run_in_order(alloc, job)
 }
 
+/// The text of the result of an outcome.
+fn text_of(alloc: Global, outcome: &Outcome) -> Result<Vec<u8>, AllocError> {
+    result_text(alloc, outcome.receipts.as_slice(), &outcome.store)
+}
+
 /// Whether the result of an outcome has this text.
 pub fn has_text(alloc: Global, outcome: &Outcome, text: &[u8]) -> Result<bool, AllocError> {
-    let found = result_text(alloc, outcome.receipts.as_slice(), &outcome.store)?;
+    let found = text_of(alloc, outcome)?;
     Ok(found.as_slice() == text)
 }
 
 /// Whether the result of an outcome has the text of running the calls of a job in order.
 pub fn is_as_in_order(alloc: Global, outcome: &Outcome, job: &Job) -> Result<bool, AllocError> {
-    let wanted = in_order(alloc, job)?;
-    let text = result_text(alloc, wanted.receipts.as_slice(), &wanted.store)?;
-    has_text(alloc, outcome, text.as_slice())
+    let wanted = text_of(alloc, &in_order(alloc, job)?)?;
+    has_text(alloc, outcome, wanted.as_slice())
 }

@@ -1,6 +1,6 @@
 //! Blocks run one after another on one executor.
 
-use crate::blocks::{count_lines, forty_count_lines};
+use crate::blocks::count_lines;
 use crate::calls::calls_of;
 use crate::rows::COUNT;
 use rv_ledger::{Call, Key, Receipt, Store};
@@ -11,7 +11,7 @@ use std::test::Fail;
 use std::thread::Threads;
 use workers::{Chain, ChainFault, Executor, RunFault};
 
-/// One count of the key that forty_count_lines counts.
+/// One count of the key that count_lines counts.
 const ONE_COUNT: &str =
     "call 0 1000 0000000000000000000000000000000000000000000000000000000000000001\n";
 
@@ -20,9 +20,6 @@ const TOO_MANY_CALLS: usize = 1025;
 
 /// The calls of each block of a chain, and the number of its workers.
 type Blocks = Vec<(Vec<Call>, usize)>;
-
-/// The answer to a block of a chain.
-type Answer = Result<Vec<Receipt>, ChainFault>;
 
 /// Runs a chain of blocks over an empty storage.
 fn run<R: Threads + Wait + Sync>(
@@ -45,7 +42,7 @@ fn blocks_of(alloc: Global, rows: &[(&str, usize)]) -> Result<Blocks, Fail> {
 
 /// Three blocks of forty counts by 8 workers, and after the first of them one that 33 workers have to run.
 fn four_blocks(alloc: Global) -> Result<Blocks, Fail> {
-    let lines = forty_count_lines(alloc)?;
+    let lines = count_lines(alloc, 40)?;
     let forty = lines.as_str();
     blocks_of(
         alloc,
@@ -65,23 +62,6 @@ fn counted_up(receipts: &[Receipt], from: u32) -> Option<u32> {
     Some(count)
 }
 
-/// Whether these are the answers to the four blocks, of which only the second is refused.
-fn are_answers(answers: &[Answer]) -> bool {
-    match answers {
-        [
-            Ok(first),
-            Err(ChainFault::Run(RunFault::BadCount)),
-            Ok(second),
-            Ok(third),
-        ] => {
-            counted_up(first.as_slice(), 0) == Some(40)
-                && counted_up(second.as_slice(), 40) == Some(80)
-                && counted_up(third.as_slice(), 80) == Some(120)
-        }
-        _ => false,
-    }
-}
-
 /// Whether the key holds this number.
 fn is_counted(store: &Store, number: u32) -> bool {
     let mut key = [0; 32];
@@ -92,17 +72,35 @@ fn is_counted(store: &Store, number: u32) -> bool {
     }
 }
 
+/// Whether a chain has the answers to the four blocks, of which only the second is refused, and the key the last number.
+fn is_right_of_four(chain: &Chain) -> bool {
+    match chain.blocks.as_slice() {
+        [
+            Ok(first),
+            Err(ChainFault::Run(RunFault::BadCount)),
+            Ok(second),
+            Ok(third),
+        ] => {
+            counted_up(first.as_slice(), 0) == Some(40)
+                && counted_up(second.as_slice(), 40) == Some(80)
+                && counted_up(third.as_slice(), 80) == Some(120)
+                && is_counted(&chain.store, 120)
+        }
+        _ => false,
+    }
+}
+
 #[test]
 fn three_chained_blocks(rt: HostRuntime) -> Result<(), Fail> {
-    let chain = run(&rt, rt.alloc(), four_blocks(rt.alloc())?)?;
-    assert!(rt; are_answers(chain.blocks.as_slice()) && is_counted(&chain.store, 120));
+    let is_right = is_right_of_four(&run(&rt, rt.alloc(), four_blocks(rt.alloc())?)?);
+    assert!(rt; is_right);
     Ok(())
 }
 
-/// Whether each answer is that of one call of COUNT, which counts up to the number of its block, from 1 on.
-fn are_single_counts(answers: &[Answer]) -> bool {
+/// Whether each answer of a chain is that of one call of COUNT, which counts up to the number of its block, from 1 to 100.
+fn is_right_of_100(chain: &Chain) -> bool {
     let mut count = 0_u32;
-    for answer in answers {
+    for answer in &chain.blocks {
         let Ok(receipts) = answer else {
             return false;
         };
@@ -111,15 +109,14 @@ fn are_single_counts(answers: &[Answer]) -> bool {
         }
         count = count.wrapping_add(1);
     }
-    true
+    count == 100 && is_counted(&chain.store, 100)
 }
 
 #[test]
 fn a_chain_of_100_blocks(rt: HostRuntime) -> Result<(), Fail> {
     let blocks = blocks_of(rt.alloc(), &[(ONE_COUNT, 2); 100])?;
-    let chain = run(&rt, rt.alloc(), blocks)?;
-    let are_right = chain.blocks.len() == 100 && are_single_counts(chain.blocks.as_slice());
-    assert!(rt; are_right && is_counted(&chain.store, 100));
+    let is_right = is_right_of_100(&run(&rt, rt.alloc(), blocks)?);
+    assert!(rt; is_right);
     Ok(())
 }
 
@@ -140,9 +137,13 @@ fn too_large_block(alloc: Global) -> Result<Blocks, Fail> {
 
 #[test]
 fn chain_too_many_calls(rt: HostRuntime) -> Result<(), Fail> {
-    let chain = run(&rt, rt.alloc(), too_large_block(rt.alloc())?)?;
+    let is_refused = matches!(
+        run(&rt, rt.alloc(), too_large_block(rt.alloc())?)?
+            .blocks
+            .as_slice(),
+        [Err(ChainFault::TooManyCalls)]
+    );
     let printed = format!(in rt.alloc(); "{}", ChainFault::TooManyCalls)?;
-    assert!(rt; matches!(chain.blocks.as_slice(), [Err(ChainFault::TooManyCalls)]));
-    assert!(rt; printed.as_str() == "TooManyCalls 8");
+    assert!(rt; is_refused && printed.as_str() == "TooManyCalls 8");
     Ok(())
 }

@@ -2,9 +2,9 @@
 
 ghost use Rattle.std.specs.Prelude.{⊤};
 
-use crate::calls::{in_order, job_of_inputs};
+use crate::calls::{in_order, job_of};
 use crate::rows::ECHO;
-use byte_streams::{Destination, Source, WriteFault};
+use byte_streams::{FallibleWriter, Source, WriteFault};
 use debugger::{DebugFault, Replay, debug_to};
 use rv_ledger::Outcome;
 use std::alloc::Global;
@@ -14,10 +14,15 @@ use std::process::Abort;
 use std::sync::atomic::{AtomicU64, Ordering};
 use std::test::Fail;
 
-/// The outcome of running some calls of one program in order, each with its input.
-fn outcome_of(alloc: Global, words: &[u32], inputs: &[&[u8]]) -> Result<Outcome, Fail> {
-    let job = job_of_inputs(alloc, words, inputs)?;
+/// The outcome of running a call of ECHO.
+fn outcome_of_echo(alloc: Global) -> Result<Outcome, Fail> {
+    let job = job_of(alloc, &[ECHO], "call 0 1000 0102\n")?;
     Ok(in_order(alloc, &job)?)
+}
+
+/// The replay of that call.
+fn replay_of_echo(alloc: Global) -> Result<Replay, Fail> {
+    Ok(Replay::open(alloc, &outcome_of_echo(alloc)?, 0)?)
 }
 
 /// How many bytes are printed when no line, one, two and all three of those below are answered.
@@ -84,56 +89,42 @@ impl Write for Screen<'_> {
     }
 }
 
-impl Destination for Screen<'_> {
-    ghost may_refuse = { λ _ _. ⊤ };
-
-    ghost memory = { λ _. tt };
-
-    fn write_part(&mut self, bytes: &[u8]) -> io::Result<usize> {
-        self.write(bytes)
-    }
-
-    fn flush_written(&mut self) -> io::Result<()> {
-        self.flush()
-    }
-}
+/// How often a screen can be flushed, the wanted answer, and how many lines are answered then.
+type Typing = (usize, Result<(), DebugFault>, usize);
 
 /// Whether typing at a screen that can be flushed this often gets the wanted answer, after this many lines were answered; and
 /// whether the replay is at the moment that these lines lead to.
-fn is_typed(
-    alloc: Global,
-    flushes: usize,
-    wanted: Result<(), DebugFault>,
-    answered: usize,
-) -> Result<bool, Fail> {
-    let outcome = outcome_of(alloc, ECHO, &[b"\x01\x02"])?;
-    let mut replay = Replay::open(alloc, &outcome, 0)?;
+fn is_typed(alloc: Global, replay: &mut Replay, (flushes, wanted, answered): Typing) -> bool {
     let shown = AtomicU64::new(0);
     let mut typist = Typist {
         typed: 0,
         shown: &shown,
     };
-    let mut screen = Screen {
+    let writer = Screen {
         written: 0,
         shown: &shown,
         flushes,
     };
-    let answer = debug_to(alloc, &mut replay, &mut typist, &mut screen);
+    let mut screen = FallibleWriter { writer };
+    let answer = debug_to(alloc, replay, &mut typist, &mut screen);
     let moment = if answered == 1 || answered == 2 { 1 } else { 0 };
-    Ok(
-        answer == wanted
-            && PRINTED.get(answered).copied() == Some(screen.written)
-            && replay.moment() == moment,
-    )
+    answer == wanted
+        && PRINTED.get(answered).copied() == Some(screen.writer.written)
+        && replay.moment() == moment
+}
+
+/// The same over a replay of its own.
+fn is_echo_typed(alloc: Global, typing: Typing) -> Result<bool, Fail> {
+    Ok(is_typed(alloc, &mut replay_of_echo(alloc)?, typing))
 }
 
 #[test]
 fn a_line_is_answered_before_the_next_is_read(rt: HostRuntime) -> Result<(), Fail> {
     let fault = Err(DebugFault::Output(WriteFault::Io));
-    assert!(rt; is_typed(rt.alloc(), 4, Ok(()), 3)?);
-    assert!(rt; is_typed(rt.alloc(), 0, fault, 1)?);
-    assert!(rt; is_typed(rt.alloc(), 1, fault, 2)?);
-    assert!(rt; is_typed(rt.alloc(), 2, fault, 3)?);
-    assert!(rt; is_typed(rt.alloc(), 3, fault, 3)?);
+    assert!(rt; is_echo_typed(rt.alloc(), (4, Ok(()), 3))?);
+    assert!(rt; is_echo_typed(rt.alloc(), (0, fault, 1))?);
+    assert!(rt; is_echo_typed(rt.alloc(), (1, fault, 2))?);
+    assert!(rt; is_echo_typed(rt.alloc(), (2, fault, 3))?);
+    assert!(rt; is_echo_typed(rt.alloc(), (3, fault, 3))?);
     Ok(())
 }

@@ -133,8 +133,8 @@ fn is_refused<R: Threads + Wait + Sync>(rt: &R, alloc: Global, job: Job) -> bool
     let mut executor = Executor::new(alloc);
     let gate = Rounds::new();
     let answer = executor.run_block_with(rt, alloc, job, WORKERS as usize, &gate);
-    let runs = gate.passed.load(Ordering::SeqCst);
-    matches!(answer, Err(RunFault::ArenaFull)) && executor.shares().is_empty() && runs >= RUNS
+    let is_full = matches!(answer, Err(RunFault::ArenaFull));
+    is_full && executor.shares().is_empty() && gate.passed.load(Ordering::SeqCst) >= RUNS
 }
 
 #[test]

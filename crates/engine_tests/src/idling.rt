@@ -1,12 +1,12 @@
 //! How often an idle worker looks at its block's cell before it asks for work again.
 
-ghost use Rattle.std.specs.Prelude.{◌≡◌, None};
+ghost use Rattle.std.specs.Prelude.{◌≡◌, All, None};
 ghost use Rattle.workers.specs.DoneCell.{IsPassOf};
 
 use crate::calls::job_of;
 use crate::rows::ECHO;
 use crate::threads::shares_of;
-use rv_ledger::Job;
+use rv_ledger::{Counts, Job};
 use std::alloc::Global;
 use std::marker::Brand;
 use std::process::Abort;
@@ -101,22 +101,35 @@ impl Gate for Held {
     }
 }
 
-/// The share of a worker that finds no work until the other one, on a thread of its own, continues.
-fn idle_share<J: JobName + Send + Sync, R: Threads + Wait + Sync>(
+/// The counts of the second of two workers, once both have worked.
+fn second_counts(
+    first: Result<Share, WrittenFault>,
+    second: Result<Share, WrittenFault>,
+) -> Result<Counts, RunFault> {
+    match (first, second) {
+        (Ok(_), Ok(share)) => Ok(share.counts()),
+        (Err(written), _) | (_, Err(written)) => Err(written.fault()),
+    }
+}
+
+/// The counts of the second of two workers, which finds no work until the first one, on a thread of its own, continues.
+fn idle_counts<J: JobName + Send + Sync, R: Threads + Wait + Sync + Abort>(
     rt: &R,
     alloc: Global,
     shared: &Shared<J>,
-    busy: Share,
-    idle: Share,
+    shares: Vec<Share>,
     held: &Held,
-) -> Result<Share, RunFault>
-    requires busy { IsPassOf shared.now.cell busy.pass }
-    requires idle { IsPassOf shared.now.cell idle.pass }
+) -> Result<Counts, RunFault>
+    requires { All (λ share. IsPassOf shared.now.cell share.pass) shares.items }
 {
+    let mut shares = shares;
+    assert!(rt; shares.len() == 2);
+    let busy = shares.remove(0);
+    let idle = shares.remove(0);
     thread::scope(
         thread::scope_env(),
         rt,
-        |scope| -> Result<Share, RunFault>
+        |scope| -> Result<Counts, RunFault>
             requires { IsPassOf shared.now.cell busy.pass × IsPassOf shared.now.cell idle.pass }
         {
             let working = move || -> Result<Share, WrittenFault>
@@ -128,10 +141,7 @@ fn idle_share<J: JobName + Send + Sync, R: Threads + Wait + Sync>(
             held.await_worker();
             let looks = Looks { count: &held.looks };
             let answer = work_spinning(rt, alloc, shared, idle, &Open, looks);
-            match (thread.join(rt), answer) {
-                (Ok(_), Ok(share)) => Ok(share),
-                (Err(written), _) | (_, Err(written)) => Err(written.fault()),
-            }
+            second_counts(thread.join(rt), answer)
         },
     )
 }
@@ -149,11 +159,8 @@ fn rows_and_looks<J: JobName + Send + Sync, R: Threads + Wait + Sync + Abort>(
         here: AtomicBool::new(false),
         looks: AtomicU64::new(0),
     };
-    let (shared, mut shares) = shares_of::<J>(alloc, job, 2)?;
-    assert!(rt; shares.len() == 2);
-    let busy = shares.remove(0);
-    let idle = shares.remove(0);
-    let counts = idle_share(rt, alloc, &shared, busy, idle, &held)?.counts();
+    let (shared, shares) = shares_of::<J>(alloc, job, 2)?;
+    let counts = idle_counts(rt, alloc, &shared, shares, &held)?;
     let tasks = counts.executions.saturating_add(counts.validations);
     let rows = counts.asks.saturating_sub(tasks).saturating_sub(1);
     Ok((rows, held.looks.load(Ordering::SeqCst)))

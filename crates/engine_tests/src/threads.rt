@@ -4,10 +4,10 @@
 ghost use Rattle.std.specs.Prelude.{◌≡◌, ◌≤◌, All, IfOk, None};
 ghost use Rattle.workers.specs.DoneCell.{IsPassOf};
 
-use crate::blocks::{forty_count_lines, result_of_counts};
+use crate::blocks::{count_lines, result_of_counts};
 use crate::calls::{has_text, is_as_in_order, job_of};
 use crate::rows::{COUNT, ECHO};
-use rv_ledger::{Counts, Job};
+use rv_ledger::{Counts, Job, Outcome};
 use std::alloc::{AllocError, Global};
 use std::marker::Brand;
 use std::process::Abort;
@@ -43,6 +43,12 @@ const TWO_RESULTS: &str = "call 0 returned gas 13 pc 00010004 out 0102\n\
 
 const THREE_ECHOES: &str = "call 0 1000 -\ncall 0 1000 01\ncall 0 1000 0102\n";
 
+/// Whether an outcome has the right text of forty counts.
+fn is_of_forty(alloc: Global, outcome: &Outcome) -> Result<bool, AllocError> {
+    let wanted = result_of_counts(alloc, 40)?;
+    has_text(alloc, outcome, wanted.as_bytes())
+}
+
 /// Whether this many workers get the right text of forty counts.
 fn are_counted<R: Threads + Wait + Sync>(
     rt: &R,
@@ -50,11 +56,10 @@ fn are_counted<R: Threads + Wait + Sync>(
     executor: &mut Executor,
     workers: usize,
 ) -> Result<bool, Fail> {
-    let lines = forty_count_lines(alloc)?;
+    let lines = count_lines(alloc, 40)?;
     let job = job_of(alloc, &[COUNT], lines.as_str())?;
     let outcome = executor.run_block(rt, alloc, job, workers)?;
-    let wanted = result_of_counts(alloc, 40)?;
-    Ok(has_text(alloc, &outcome, wanted.as_bytes())?)
+    Ok(is_of_forty(alloc, &outcome)?)
 }
 
 /// By each number of workers, twice on one executor.
@@ -155,6 +160,17 @@ fn work_from<J: JobName, R: Wait + Abort>(
     Ok(back)
 }
 
+/// The answer to a job whose workers gave these shares back.
+pub fn answer_of<J: JobName>(
+    alloc: Global,
+    shared: Shared<J>,
+    back: Vec<Share>,
+    job: &Job,
+) -> Result<Outcome, RunFault> {
+    let (answer, _) = settle(alloc, shared.into_book(), back, job);
+    answer
+}
+
 /// The counts of this many steps and asks, and of this many calls that were each run and validated once.
 fn counts(steps: u64, asks: u64, calls: u64) -> Counts {
     Counts {
@@ -195,27 +211,21 @@ fn is_alone<J: JobName, R: Wait + Abort>(
     let (shared, shares) = shares_of::<J>(alloc, job, 3)?;
     let back = work_from(rt, alloc, &shared, shares, first)?;
     let are_right = are_shares(back.as_slice(), first);
-    let (answer, _) = settle(alloc, shared.into_book(), back, job);
-    let is_right = is_as_in_order(alloc, &answer?, job)?;
+    let is_right = is_as_in_order(alloc, &answer_of(alloc, shared, back, job)?, job)?;
     Ok(are_right && is_right)
 }
 
-/// The same for any job.
-fn is_done_alone<R: Wait + Abort>(
-    rt: &R,
-    alloc: Global,
-    job: &Job,
-    first: usize,
-) -> Result<bool, Fail> {
-    is_alone::<Brand, R>(rt, alloc, job, first)
+/// The same for a job of its own.
+fn is_done_alone<R: Wait + Abort>(rt: &R, alloc: Global, first: usize) -> Result<bool, Fail> {
+    let job = job_of(alloc, &[ECHO], THREE_ECHOES)?;
+    is_alone::<Brand, R>(rt, alloc, &job, first)
 }
 
 /// One worker of three does all the work of three echoes, then the others ask once each.
 #[test]
 fn one_share_alone(rt: HostRuntime) -> Result<(), Fail> {
-    let job = job_of(rt.alloc(), &[ECHO], THREE_ECHOES)?;
     for first in 0..3 {
-        assert!(rt; is_done_alone(&rt, rt.alloc(), &job, first)?);
+        assert!(rt; is_done_alone(&rt, rt.alloc(), first)?);
     }
     Ok(())
 }
@@ -228,19 +238,18 @@ fn is_foreign<J: JobName, R: Wait + Abort>(rt: &R, alloc: Global, job: &Job) -> 
     let (shared, shares) = shares_of::<J>(alloc, job, 2)?;
     let mut back = work_in_turn(rt, alloc, &shared, shares)?;
     let _ = back.pop();
-    let (answer, _) = settle(alloc, shared.into_book(), back, job);
-    Ok(matches!(answer, Err(RunFault::Foreign)))
+    Ok(matches!(answer_of(alloc, shared, back, job), Err(RunFault::Foreign)))
 }
 
-/// The same for any job.
-fn is_foreign_without_one<R: Wait + Abort>(rt: &R, alloc: Global, job: &Job) -> Result<bool, Fail> {
-    is_foreign::<Brand, R>(rt, alloc, job)
+/// The same for a job of its own.
+fn is_foreign_without_one<R: Wait + Abort>(rt: &R, alloc: Global) -> Result<bool, Fail> {
+    let job = job_of(alloc, &[ECHO], ONE_ECHO)?;
+    is_foreign::<Brand, R>(rt, alloc, &job)
 }
 
 #[test]
 fn settle_misses_a_share(rt: HostRuntime) -> Result<(), Fail> {
-    let job = job_of(rt.alloc(), &[ECHO], ONE_ECHO)?;
-    assert!(rt; is_foreign_without_one(&rt, rt.alloc(), &job)?);
+    assert!(rt; is_foreign_without_one(&rt, rt.alloc())?);
     Ok(())
 }
 
@@ -280,17 +289,16 @@ impl Gate for Meeting {
     }
 }
 
-/// Whether two workers who run two echoes get the right text; and whether they met.
+/// Whether two workers who run two echoes get the right text.
 fn echo_at_gate<R: Threads + Wait + Sync>(
     rt: &R,
     alloc: Global,
     executor: &mut Executor,
-) -> Result<(bool, bool), Fail> {
-    let gate = Meeting::new();
+    gate: &Meeting,
+) -> Result<bool, Fail> {
     let job = job_of(alloc, &[ECHO], TWO_ECHOES)?;
-    let outcome = executor.run_block_with(rt, alloc, job, 2, &gate)?;
-    let is_right = has_text(alloc, &outcome, TWO_RESULTS.as_bytes())?;
-    Ok((is_right, gate.is_met()))
+    let outcome = executor.run_block_with(rt, alloc, job, 2, gate)?;
+    Ok(has_text(alloc, &outcome, TWO_RESULTS.as_bytes())?)
 }
 
 #[test]
@@ -298,9 +306,9 @@ fn two_at_once(rt: HostRuntime) -> Result<(), Fail> {
     let mut executor = Executor::new(rt.alloc());
     let mut met = false;
     for _ in 0..TRIES {
-        let (is_right, is_met) = echo_at_gate(&rt, rt.alloc(), &mut executor)?;
-        assert!(rt; is_right);
-        if is_met {
+        let gate = Meeting::new();
+        assert!(rt; echo_at_gate(&rt, rt.alloc(), &mut executor, &gate)?);
+        if gate.is_met() {
             met = true;
             break;
         }

@@ -1,5 +1,6 @@
 //! The calls of block_file.
 
+use crate::asserts::assert_right;
 use block_file::*;
 use rv_ledger::Key;
 use std::alloc::{AllocError, Global};
@@ -46,12 +47,18 @@ fn are_good_calls(calls: &[CallLine]) -> bool {
     }
 }
 
+/// Asserts that a block is that of the good file.
+fn assert_good(rt: &impl Abort, block: &BlockText) {
+    let are_paths = are_paths(block.programs.as_slice(), ["a", "b/~"]);
+    assert_right(rt, are_paths, "programs");
+    let are_stored = is_stored(block, 0, &[]) && is_stored(block, 1, &[10, 255]);
+    assert_right(rt, are_stored, "store");
+    assert_right(rt, are_good_calls(block.calls.as_slice()), "calls");
+}
+
 #[test]
 fn good_file(rt: HostRuntime) -> Result<(), Fail> {
-    let block = parse(rt.alloc(), GOOD_FILE.as_bytes())?;
-    assert!(rt; are_paths(block.programs.as_slice(), ["a", "b/~"]));
-    assert!(rt; is_stored(&block, 0, &[]) && is_stored(&block, 1, &[10, 255]));
-    assert!(rt; are_good_calls(block.calls.as_slice()));
+    assert_good(&rt, &parse(rt.alloc(), GOOD_FILE.as_bytes())?);
     Ok(())
 }
 

@@ -1,8 +1,7 @@
 //! Bytes that are written whole, and writers that stop.
 
-ghost use Rattle.std.specs.Prelude.{⊤};
-
-use byte_streams::{Destination, WriteFault, write_whole};
+use crate::asserts::assert_right;
+use byte_streams::{FallibleWriter, WriteFault, write_whole};
 use std::alloc::{AllocError, Global};
 use std::io;
 use std::io::{ErrorKind, Write};
@@ -41,45 +40,40 @@ impl Write for Slow {
     }
 }
 
-impl Destination for Slow {
-    ghost may_refuse = { λ _ _. ⊤ };
-
-    ghost memory = { λ _. tt };
-
-    fn write_part(&mut self, bytes: &[u8]) -> io::Result<usize> {
-        self.write(bytes)
-    }
-
-    fn flush_written(&mut self) -> io::Result<()> {
-        self.flush()
-    }
-}
-
 /// Whether bytes are written whole, also if there are none.
-fn is_written_twice(alloc: Global) -> Result<bool, WriteFault> {
+fn is_written_twice(alloc: Global) -> bool {
     let mut out = Vec::new(alloc);
-    write_whole(b"", &mut out)?;
-    write_whole(b"two", &mut out)?;
-    Ok(out.as_slice() == b"two".as_slice())
+    write_whole(b"", &mut out) == Ok(())
+        && write_whole(b"two", &mut out) == Ok(())
+        && out.as_slice() == b"two".as_slice()
 }
 
 /// Whether writing three bytes to a writer that takes two is refused with this fault, and the writer holds two then.
 fn stops_at_two(alloc: Global, fails: bool, fault: WriteFault) -> bool {
-    let mut out = Slow {
+    let writer = Slow {
         held: Vec::new(alloc),
         room: 2,
         fails,
     };
-    write_whole(b"two", &mut out) == Err(fault) && out.held.as_slice() == b"tw".as_slice()
+    let mut out = FallibleWriter { writer };
+    let result = write_whole(b"two", &mut out);
+    result == Err(fault) && out.writer.held.as_slice() == b"tw".as_slice()
+}
+
+/// Whether a writer that drops what it takes takes bytes.
+fn is_dropped() -> bool {
+    write_whole(b"two", &mut io::sink()) == Ok(())
 }
 
 #[test]
-fn writes_whole(rt: HostRuntime) -> Result<(), WriteFault> {
-    assert!(rt; is_written_twice(rt.alloc())?);
-    assert!(rt; stops_at_two(rt.alloc(), true, WriteFault::Io));
-    assert!(rt; stops_at_two(rt.alloc(), false, WriteFault::WroteNothing));
-    assert!(rt; write_whole(b"two", &mut io::sink()) == Ok(()));
-    Ok(())
+fn writes_whole(rt: HostRuntime) {
+    let alloc = rt.alloc();
+    assert_right(&rt, is_written_twice(alloc), "a vector");
+    let fails = stops_at_two(alloc, true, WriteFault::Io);
+    assert_right(&rt, fails, "a writer that fails");
+    let takes_nothing = stops_at_two(alloc, false, WriteFault::WroteNothing);
+    assert_right(&rt, takes_nothing, "a writer that takes nothing");
+    assert_right(&rt, is_dropped(), "a sink");
 }
 
 /// The faults.

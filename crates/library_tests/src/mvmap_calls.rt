@@ -1,6 +1,7 @@
 ghost use Rattle.mvmap.specs.Versions.{HasNoEstimate};
 ghost use Rattle.std.specs.Prelude.{OnOk};
 
+use crate::asserts::assert_right;
 use mvmap::{Answer, MvMap};
 use read_set::Version;
 use rv_ledger::{Change, Key, Store, StoredValue, Value};
@@ -233,7 +234,7 @@ fn assert_changes(rt: &impl Abort, alloc: Global, map: &mut MvMap) -> Result<(),
 fn changes(rt: HostRuntime) -> Result<(), Fail> {
     let mut map = empty(rt.alloc());
     assert_changes(&rt, rt.alloc(), &mut map)?;
-    assert_eq!(rt; records_left(map), 0);
+    assert!(rt; records_left(map) == 0);
     Ok(())
 }
 
@@ -294,17 +295,12 @@ fn value_seen(store: &Store, last: u8) -> Option<u8> {
     }
 }
 
-// Asserts that a storage has a value of this byte at the key with this last byte.
-fn assert_value(rt: &impl Abort, store: &Store, last: u8, byte: Option<u8>) {
-    assert_eq!(rt; value_seen(store, last), byte, "at {last}");
-}
-
 // Asserts the values of a storage after the versions of `snapshot`.
 fn assert_values(rt: &impl Abort, store: &Store) {
-    assert_value(rt, store, 1, Some(1));
-    assert_value(rt, store, 2, Some(27));
-    assert_value(rt, store, 3, None);
-    assert_value(rt, store, 4, Some(42));
+    assert_right(rt, value_seen(store, 1) == Some(1), "at 1");
+    assert_right(rt, value_seen(store, 2) == Some(27), "at 2");
+    assert_right(rt, value_seen(store, 3) == None, "at 3");
+    assert_right(rt, value_seen(store, 4) == Some(42), "at 4");
 }
 
 // Stores the value of one byte at the key with this last byte.
@@ -320,22 +316,31 @@ fn insert_three(store: &mut Store) -> Result<(), AllocError> {
     insert_value(store, 3)
 }
 
-// Asserts what a storage of three values has after the versions of four calls.
-fn snapshot(rt: &impl Abort, alloc: Global, store: &mut Store) -> Result<(), ReserveFault> {
-    let mut map = empty(alloc);
-    set(&mut map, key(2), 7, 0, Some(27))?;
-    set(&mut map, key(2), 3, 1, Some(23))?;
-    set(&mut map, key(3), 9, 0, None)?;
-    set(&mut map, key(4), 2, 0, Some(42))?;
-    map.snapshot_into(store)?;
-    assert_values(rt, store);
+// Publishes versions of four calls.
+fn set_four(map: &mut MvMap) -> Result<(), ReserveFault>
+    ensures { OnOk result (HasNoEstimate map.old.versions → HasNoEstimate map.new.versions) }
+{
+    set(map, key(2), 7, 0, Some(27))?;
+    set(map, key(2), 3, 1, Some(23))?;
+    set(map, key(3), 9, 0, None)?;
+    set(map, key(4), 2, 0, Some(42))?;
     Ok(())
 }
 
-// Asserts the same of a storage that is empty so far.
+// Puts the versions of four calls into a storage.
+fn snapshot(alloc: Global, store: &mut Store) -> Result<(), ReserveFault> {
+    let mut map = empty(alloc);
+    set_four(&mut map)?;
+    map.snapshot_into(store)?;
+    Ok(())
+}
+
+// Asserts what a storage that is empty so far has after three values and those versions.
 fn assert_snapshot(rt: &impl Abort, alloc: Global, store: &mut Store) -> Result<(), ReserveFault> {
     insert_three(store)?;
-    snapshot(rt, alloc, store)
+    snapshot(alloc, store)?;
+    assert_values(rt, store);
+    Ok(())
 }
 
 #[test]

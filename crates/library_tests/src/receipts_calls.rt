@@ -123,13 +123,23 @@ fn is_written(alloc: Global, outcome: &Outcome) -> Result<bool, Fail> {
     })
 }
 
+/// Whether the result of the outcome is written so.
+fn is_outcome_written(alloc: Global) -> Result<bool, Fail> {
+    let outcome = outcome(alloc)?;
+    one_text_of(&outcome, &outcome);
+    is_written(alloc, &outcome)
+}
+
+/// Whether the result of no call has only its end.
+fn is_empty_ended(alloc: Global) -> Result<bool, Fail> {
+    let text = result_text(alloc, &[], &Store::new(alloc))?;
+    Ok(text.as_slice() == b"end\n".as_slice())
+}
+
 #[test]
 fn writes_a_result(rt: HostRuntime) -> Result<(), Fail> {
-    let outcome = outcome(rt.alloc())?;
-    one_text_of(&outcome, &outcome);
-    assert!(rt; is_written(rt.alloc(), &outcome)?);
-    let empty = result_text(rt.alloc(), &[], &Store::new(rt.alloc()))?;
-    assert!(rt; empty.as_slice() == b"end\n".as_slice());
+    assert!(rt; is_outcome_written(rt.alloc())?);
+    assert!(rt; is_empty_ended(rt.alloc())?);
     Ok(())
 }
 

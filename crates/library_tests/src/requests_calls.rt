@@ -1,8 +1,8 @@
 //! The requests of an input, each printed as a word with what the request has.
 
+use crate::asserts::assert_right;
 use session_requests::{Asked, Request, RequestFault, RequestLine, next_request};
 use std::alloc::{AllocError, Global};
-use std::process::Abort;
 use std::test::Fail;
 
 /// The greatest length of a frame here.
@@ -12,66 +12,66 @@ const FRAME_LIMIT: u64 = 12;
 const MOST_REQUESTS: usize = 9;
 
 /// Inputs, each with what they ask for.
-const INPUTS: &[(&[u8], &str)] = &[
-    (b"", "end"),
+const INPUTS: &[(&str, &str)] = &[
+    ("", "end"),
     (
-        b"dump\nstate\nprograms\nlast\nq\nwhat",
+        "dump\nstate\nprograms\nlast\nq\nwhat",
         "dump state programs last q bad-line",
     ),
     (
-        b"frame 12\nend\nq\ndump\0\rq\n",
+        "frame 12\nend\nq\ndump\0\rq\n",
         "frame 656e640a710a64756d70000d q end",
     ),
-    (b"try 0\nframe 1\n\nq\n", "try - frame 0a q end"),
-    (b"frame 3\nab", "cut"),
-    (b"frame 9999999999\n", "cut"),
-    (b"frame 13\n0123456789abcq\n", "long 13 q end"),
-    (b"try 13\n0123456789abcq\n", "long 13 q end"),
+    ("try 0\nframe 1\n\nq\n", "try - frame 0a q end"),
+    ("frame 3\nab", "cut"),
+    ("frame 9999999999\n", "cut"),
+    ("frame 13\n0123456789abcq\n", "long 13 q end"),
+    ("try 13\n0123456789abcq\n", "long 13 q end"),
     (
-        b"begin 7 - 13\n0123456789abcq\n",
+        "begin 7 - 13\n0123456789abcq\n",
         "begin 7 30313233343536373839616263 q end",
     ),
     (
-        b"begin 9999999999 0123456789abcdef0123456789abcdef0123456789abcdef0123456789abcdef 9999999999\n",
+        "begin 9999999999 0123456789abcdef0123456789abcdef0123456789abcdef0123456789abcdef 9999999999\n",
         "cut",
     ),
-    (b"program 2\n\x7fEq\n", "program 7f45 q end"),
-    (b"program 131073\nab", "cut"),
-    (b"frame 0100\n", "bad-line"),
-    (b"frame 5 \n", "bad-line"),
-    (b"frame 5\r\n", "bad-line"),
-    (b"Frame 5\n", "bad-line"),
-    (b"\n", "bad-line"),
-    (b"q", "bad-line"),
-    (b"q 1\n", "bad-line"),
+    ("program 2\n\x7fEq\n", "program 7f45 q end"),
+    ("program 131073\nab", "cut"),
+    ("frame 0100\n", "bad-line"),
+    ("frame 5 \n", "bad-line"),
+    ("frame 5\r\n", "bad-line"),
+    ("Frame 5\n", "bad-line"),
+    ("\n", "bad-line"),
+    ("q", "bad-line"),
+    ("q 1\n", "bad-line"),
     (
-        b"qqqqqqqqqqqqqqqqqqqqqqqqqqqqqqqqqqqqqqqqqqqqqqqqqqqqqqqqqqqqqqqqqqqqqqqqqqqqqqqqqqqqqqqqqqqqqqqqqqqqqqqqqqqqqqqqqqqqqqqqqqqqqqqq\nq\n",
+        "qqqqqqqqqqqqqqqqqqqqqqqqqqqqqqqqqqqqqqqqqqqqqqqqqqqqqqqqqqqqqqqqqqqqqqqqqqqqqqqqqqqqqqqqqqqqqqqqqqqqqqqqqqqqqqqqqqqqqqqqqqqqqqqq\nq\n",
         "bad-line",
     ),
-    (b"frame 10000000000\n", "bad-line"),
-    (b"frame 18446744073709551616\n", "bad-line"),
+    ("frame 10000000000\n", "bad-line"),
+    ("frame 18446744073709551616\n", "bad-line"),
     (
-        b"get 00000000000000000000000000000000000000000000000000000000000000ff\nq\n",
+        "get 00000000000000000000000000000000000000000000000000000000000000ff\nq\n",
         "get 255 q end",
     ),
     (
-        b"get 00000000000000000000000000000000000000000000000000000000000000FF\n",
+        "get 00000000000000000000000000000000000000000000000000000000000000FF\n",
         "bad-line",
     ),
     (
-        b"forget 00000000000000000000000000000000000000000000000000000000000000ff\nq\n",
+        "forget 00000000000000000000000000000000000000000000000000000000000000ff\nq\n",
         "forget 255 q end",
     ),
     (
-        b"list 00000000000000000000000000000000000000000000000000000000000000ff 1024\nq\n",
+        "list 00000000000000000000000000000000000000000000000000000000000000ff 1024\nq\n",
         "list 255 1024 q end",
     ),
     (
-        b"list 00000000000000000000000000000000000000000000000000000000000000ff 0\n",
+        "list 00000000000000000000000000000000000000000000000000000000000000ff 0\n",
         "bad-line",
     ),
     (
-        b"list 00000000000000000000000000000000000000000000000000000000000000ff 1025\n",
+        "list 00000000000000000000000000000000000000000000000000000000000000ff 1025\n",
         "bad-line",
     ),
 ];
@@ -106,19 +106,24 @@ fn request_text(alloc: Global, request: &Request) -> Result<String, AllocError> 
     }
 }
 
-/// What comes next in an input, and whether more may come.
-fn asked_text(alloc: Global, asked: &Asked) -> Result<(String, bool), AllocError> {
-    Ok(match asked {
-        Asked::Whole(request) => (request_text(alloc, request)?, true),
+/// What comes next in an input.
+fn asked_text(alloc: Global, asked: &Asked) -> Result<String, AllocError> {
+    match asked {
+        Asked::Whole(request) => request_text(alloc, request),
         Asked::TooLong(RequestLine::Frame(length) | RequestLine::Try(length)) => {
-            (format!(in alloc; "long {length}")?, true)
+            format!(in alloc; "long {length}")
         }
-        Asked::TooLong(_) => (String::from_str(alloc, "long")?, true),
-        Asked::Unkept(_) => (String::from_str(alloc, "unkept")?, true),
-        Asked::Broken(RequestFault::BadLine) => (String::from_str(alloc, "bad-line")?, false),
-        Asked::Broken(RequestFault::Cut) => (String::from_str(alloc, "cut")?, false),
-        Asked::End => (String::from_str(alloc, "end")?, false),
-    })
+        Asked::TooLong(_) => String::from_str(alloc, "long"),
+        Asked::Unkept(_) => String::from_str(alloc, "unkept"),
+        Asked::Broken(RequestFault::BadLine) => String::from_str(alloc, "bad-line"),
+        Asked::Broken(RequestFault::Cut) => String::from_str(alloc, "cut"),
+        Asked::End => String::from_str(alloc, "end"),
+    }
+}
+
+/// Whether nothing comes after this.
+fn is_last(asked: &Asked) -> bool {
+    matches!(asked, Asked::Broken(_) | Asked::End)
 }
 
 /// All that an input asks for.
@@ -127,9 +132,8 @@ fn input_text(alloc: Global, input: &[u8]) -> Result<String, Fail> {
     let mut text = String::new(alloc);
     for _ in 0..MOST_REQUESTS {
         let asked = next_request(alloc, &mut rest, FRAME_LIMIT)?;
-        let (word, goes_on) = asked_text(alloc, &asked)?;
-        text.push_str(word.as_str())?;
-        if !goes_on {
+        text.push_str(asked_text(alloc, &asked)?.as_str())?;
+        if is_last(&asked) {
             break;
         }
         text.push_str(" ")?;
@@ -137,11 +141,16 @@ fn input_text(alloc: Global, input: &[u8]) -> Result<String, Fail> {
     Ok(text)
 }
 
+/// Whether an input asks for this.
+fn asks_for(alloc: Global, input: &str, wanted: &str) -> Result<bool, Fail> {
+    Ok(input_text(alloc, input.as_bytes())?.as_str() == wanted)
+}
+
 #[test]
 fn inputs_ask_for_requests(rt: HostRuntime) -> Result<(), Fail> {
     for (input, wanted) in INPUTS {
-        let text = input_text(rt.alloc(), input)?;
-        assert_eq!(rt; text.as_str(), *wanted);
+        let is_right = asks_for(rt.alloc(), input, wanted)?;
+        assert_right(&rt, is_right, input);
     }
     Ok(())
 }

@@ -154,24 +154,35 @@ fn next(value: u32) -> (Option<u32>, u32) {
     (Some(0x10004), value)
 }
 
-#[test]
-fn immediates(rt: HostRuntime) {
-    assert!(rt; on_immediate(ImmediateOperation::Addi, 0, -1) == next(0xffff_ffff));
-    assert!(rt; on_immediate(ImmediateOperation::Slti, 0xffff_ffff, 0) == next(1));
-    assert!(rt; on_immediate(ImmediateOperation::Sltiu, 5, -1) == next(1));
-    assert!(rt; on_immediate(ImmediateOperation::Xori, 0x0000_ffff, -1) == next(0xffff_0000));
-    assert!(rt; on_immediate(ImmediateOperation::Ori, 0x0f, 0x700) == next(0x70f));
-    assert!(rt; on_immediate(ImmediateOperation::Andi, 0xff, -16) == next(0xf0));
-    shifts_and_uppers(&rt);
+/// Whether each operation computes with an immediate.
+fn compute_immediates() -> bool {
+    on_immediate(ImmediateOperation::Addi, 0, -1) == next(0xffff_ffff)
+        && on_immediate(ImmediateOperation::Slti, 0xffff_ffff, 0) == next(1)
+        && on_immediate(ImmediateOperation::Sltiu, 5, -1) == next(1)
+        && on_immediate(ImmediateOperation::Xori, 0x0000_ffff, -1) == next(0xffff_0000)
+        && on_immediate(ImmediateOperation::Ori, 0x0f, 0x700) == next(0x70f)
+        && on_immediate(ImmediateOperation::Andi, 0xff, -16) == next(0xf0)
 }
 
-fn shifts_and_uppers(rt: &impl Abort) {
-    assert!(rt; shifted(Shift::Slli, 0x8000_0001, 1) == next(2));
-    assert!(rt; shifted(Shift::Srli, 0x8000_0000, 31) == next(1));
-    assert!(rt; shifted(Shift::Srai, 0x8000_0000, 31) == next(0xffff_ffff));
-    assert!(rt; upper(0xfffff) == next(0xffff_f000));
-    assert!(rt; upper_and_pc(1) == next(0x11000));
-    assert!(rt; upper_and_pc(0xfffff) == next(0xf000));
+/// Whether each shift shifts by an amount.
+fn compute_shifts() -> bool {
+    shifted(Shift::Slli, 0x8000_0001, 1) == next(2)
+        && shifted(Shift::Srli, 0x8000_0000, 31) == next(1)
+        && shifted(Shift::Srai, 0x8000_0000, 31) == next(0xffff_ffff)
+}
+
+/// Whether upper immediates are put into the register, alone and with the pc.
+fn compute_uppers() -> bool {
+    upper(0xfffff) == next(0xffff_f000)
+        && upper_and_pc(1) == next(0x11000)
+        && upper_and_pc(0xfffff) == next(0xf000)
+}
+
+#[test]
+fn immediates(rt: HostRuntime) {
+    assert!(rt; compute_immediates());
+    assert!(rt; compute_shifts());
+    assert!(rt; compute_uppers());
 }
 
 fn linked(offset: i32) -> (Option<u32>, u32)

@@ -122,11 +122,15 @@ macro_rules! fence {
     };
 }
 
-/// Checks that each word decodes to the instruction beside it, and that the instruction encodes to the word.
+/// Whether a word decodes to an instruction, and the instruction encodes to the word.
+fn stands_for(word: u32, instr: &Instr) -> bool {
+    decode(word) == Some(*instr) && encode(instr) == word
+}
+
+/// Checks that each word stands for the instruction beside it.
 fn stand_for(rt: &impl Abort, rows: &[(u32, Instr)]) {
     for (word, instr) in rows {
-        assert!(rt; decode(*word) == Some(*instr), "{word:#010x}");
-        assert!(rt; encode(instr) == *word, "{word:#010x}, encoded");
+        assert!(rt; stands_for(*word, instr), "{word:#010x}");
     }
 }
 
@@ -353,31 +357,32 @@ fn jumps_and_uppers(rt: &impl Abort) {
 // Fences that other tools print as a bare word because of their free bits.
 const FENCES: &[u32] = &[0xf927_0f0f, 0x0792_098f, 0x0176_070f, 0xaef4_058f];
 
+/// Whether a word decodes to a fence that encodes to the same word.
 fn is_fence(word: u32) -> bool {
-    matches!(decode(word), Some(Instr::Fence { .. }))
-}
-
-/// The word of the instruction that a word stands for.
-fn again(word: u32) -> Option<u32> {
-    Some(encode(&decode(word)?))
+    match decode(word) {
+        Some(fence @ Instr::Fence { .. }) => encode(&fence) == word,
+        _ => false,
+    }
 }
 
 fn fences(rt: &impl Abort) {
     for word in FENCES {
         assert!(rt; is_fence(*word), "{word:#010x}");
-        assert!(rt; again(*word) == Some(*word), "{word:#010x}, encoded");
     }
 }
 
-#[test]
-fn registers_keep_what_is_written(rt: HostRuntime) {
+/// Whether registers keep what is written to them, except the first, which stays zero.
+fn keep_what_is_written() -> bool {
     let mut regs = Regs::zero();
     regs.set(Reg { number: 0 }, 5);
     regs.set(Reg { number: 31 }, 6);
     regs.set(Reg::a0(), 7);
-    assert!(rt; regs.get(Reg { number: 0 }) == 0);
-    assert!(rt; regs.get(Reg { number: 31 }) == 6);
-    assert!(rt; regs.values()[10] == 7);
+    regs.get(Reg { number: 0 }) == 0 && regs.get(Reg { number: 31 }) == 6 && regs.values()[10] == 7
+}
+
+#[test]
+fn registers_keep_what_is_written(rt: HostRuntime) {
+    assert!(rt; keep_what_is_written());
     assert!(rt; numbers() == [2, 10, 11, 12, 17]);
 }
 

@@ -94,10 +94,19 @@ fn calls(alloc: Global, call: &Call, count: usize) -> Result<Vec<Call>, AllocErr
     Ok(calls)
 }
 
-// The number of calls in a copy of the job of these calls, or why the job is refused.
-fn job_size(alloc: Global, calls: Vec<Call>) -> Result<Result<usize, JobFault>, AllocError> {
-    match Job::new(calls, Store::new(alloc)) {
-        Ok(job) => Ok(Ok(job.copy()?.block.calls().len())),
+// The number of calls in a copy of a job.
+fn copied_size(job: &Job) -> Result<usize, AllocError> {
+    Ok(job.copy()?.block.calls().len())
+}
+
+// The number of calls in a copy of the job of a call, `count` times, or why the job is refused.
+fn job_size(
+    alloc: Global,
+    call: &Call,
+    count: usize,
+) -> Result<Result<usize, JobFault>, AllocError> {
+    match Job::new(calls(alloc, call, count)?, Store::new(alloc)) {
+        Ok(job) => Ok(Ok(copied_size(&job)?)),
         Err(fault) => Ok(Err(fault)),
     }
 }
@@ -109,13 +118,27 @@ const JOBS: &[(usize, Result<usize, JobFault>)] = &[
     (1025, Err(JobFault::TooManyCalls)),
 ];
 
+// Asserts the sizes of the jobs of a call.
+fn assert_jobs(rt: &impl Abort, alloc: Global, call: &Call) -> Result<(), Fail> {
+    for (count, expected) in JOBS {
+        let size = job_size(alloc, call, *count)?;
+        assert!(rt; size == *expected, "{count} calls");
+    }
+    Ok(())
+}
+
 #[test]
 fn jobs(rt: HostRuntime) -> Result<(), Fail> {
-    let alloc = rt.alloc();
-    let call = call(alloc)?;
-    for (count, expected) in JOBS {
-        let size = job_size(alloc, calls(alloc, &call, *count)?)?;
-        assert!(rt; size == *expected, "{count} calls");
+    assert_jobs(&rt, rt.alloc(), &call(rt.alloc())?)
+}
+
+// The first and the last byte of keys, and the byte of the value that is stored there.
+const STORED: &[(u8, u8, u8)] = &[(1, 0, 1), (0, 9, 2), (0, 8, 3), (1, 0, 4)];
+
+// Stores those values.
+fn insert_values(store: &mut Store) -> Result<(), AllocError> {
+    for (first, last, byte) in STORED {
+        store.insert(key(*first, *last), value(*byte))?;
     }
     Ok(())
 }
@@ -123,10 +146,7 @@ fn jobs(rt: HostRuntime) -> Result<(), Fail> {
 // A storage of two keys. One of them had another value before, and a third key was removed.
 fn store(alloc: Global) -> Result<Store, AllocError> {
     let mut store = Store::new(alloc);
-    store.insert(key(1, 0), value(1))?;
-    store.insert(key(0, 9), value(2))?;
-    store.insert(key(0, 8), value(3))?;
-    store.insert(key(1, 0), value(4))?;
+    insert_values(&mut store)?;
     store.remove(&key(0, 8));
     store.remove(&key(5, 5));
     Ok(store)

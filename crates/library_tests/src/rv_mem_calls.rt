@@ -1,8 +1,9 @@
 //! The calls of rv_mem.
 
+use crate::asserts::assert_right;
 use elf32::Image;
 use rv_mem::{Fault, Memory};
-use std::alloc::Global;
+use std::alloc::{AllocError, Global};
 use std::process::Abort;
 use std::test::Fail;
 
@@ -55,15 +56,21 @@ const LOADED: &[(u32, Result<u32, Fault>)] = &[
     (0x0000_fffc, Err(Fault::MemoryFault)),
 ];
 
+// Asserts that an access to this many bytes from an address is right.
+fn assert_access(rt: &impl Abort, is_right: bool, len: u32, address: u32) {
+    assert!(rt; is_right, "{len} from {address:#x}");
+}
+
 fn holds(rt: &impl Abort, memory: &Memory) {
     for (address, expected) in FETCHED {
-        assert!(rt; memory.fetch(*address) == *expected, "{address:#x}");
+        assert_access(rt, memory.fetch(*address) == *expected, 4, *address);
     }
     for (address, expected) in LOADED {
-        assert!(rt; memory.load32(*address) == *expected, "{address:#x}");
+        assert_access(rt, memory.load32(*address) == *expected, 4, *address);
     }
-    assert!(rt; memory.load8(0x0010_0000) == Ok(0x81));
-    assert!(rt; memory.load16(0x0010_0000) == Ok(0x9281));
+    let input = 0x0010_0000;
+    assert_access(rt, memory.load8(input) == Ok(0x81), 1, input);
+    assert_access(rt, memory.load16(input) == Ok(0x9281), 2, input);
 }
 
 #[test]
@@ -95,12 +102,12 @@ fn copies(memory: &mut Memory) -> bool {
 #[test]
 fn stores_and_copies(rt: HostRuntime) -> Result<(), Fail> {
     let mut memory = memory_alone(rt.alloc())?;
-    assert!(rt; stores(&mut memory));
-    assert!(rt; copies(&mut memory));
+    assert_right(&rt, stores(&mut memory), "stores");
+    assert_right(&rt, copies(&mut memory), "copies");
     Ok(())
 }
 
-fn copies_pages(memory: &mut Memory) -> bool {
+fn is_copied_in(memory: &mut Memory) -> bool {
     memory.copy_in(0x0003_0fff, &[5; 0x2002]) == Ok(())
         && memory.load8(0x0003_0ffe) == Ok(0)
         && memory.load8(0x0003_0fff) == Ok(5)
@@ -108,7 +115,7 @@ fn copies_pages(memory: &mut Memory) -> bool {
         && memory.load32(0x0003_3000) == Ok(5)
 }
 
-fn has_copied_pages(memory: &Memory) -> bool {
+fn is_copied_out(memory: &Memory) -> bool {
     let mut out = [0; 0x2004];
     let mut expected = [5; 0x2004];
     expected[0] = 0;
@@ -119,8 +126,8 @@ fn has_copied_pages(memory: &Memory) -> bool {
 #[test]
 fn copies_over_several_pages(rt: HostRuntime) -> Result<(), Fail> {
     let mut memory = memory_alone(rt.alloc())?;
-    assert!(rt; copies_pages(&mut memory));
-    assert!(rt; has_copied_pages(&memory));
+    assert_right(&rt, is_copied_in(&mut memory), "in");
+    assert_right(&rt, is_copied_out(&memory), "out");
     Ok(())
 }
 
@@ -142,11 +149,11 @@ const WRITABLE: &[(u32, u32, bool)] = &[
 fn has_ranges(rt: &impl Abort, memory: &Memory) {
     for (address, len, expected) in READABLE {
         let readable = memory.range_readable(*address, *len);
-        assert!(rt; readable == *expected, "{len} from {address:#x}");
+        assert_access(rt, readable == *expected, *len, *address);
     }
     for (address, len, expected) in WRITABLE {
         let writable = memory.range_writable(*address, *len);
-        assert!(rt; writable == *expected, "{len} from {address:#x}");
+        assert_access(rt, writable == *expected, *len, *address);
     }
 }
 
@@ -156,11 +163,11 @@ fn tests_ranges(rt: HostRuntime) -> Result<(), Fail> {
     Ok(())
 }
 
-// Writes to two pages.
-fn writes(rt: &impl Abort, memory: &mut Memory) {
-    assert!(rt; memory.store32(0x0002_0000, 8) == Ok(()));
-    assert!(rt; memory.store32(0x0003_0000, 9) == Ok(()));
-    assert!(rt; memory.load32(0x0003_1000) == Ok(0));
+// Writes to two pages. Returns whether they may be written, and a third stays as it is.
+fn writes(memory: &mut Memory) -> bool {
+    memory.store32(0x0002_0000, 8) == Ok(())
+        && memory.store32(0x0003_0000, 9) == Ok(())
+        && memory.load32(0x0003_1000) == Ok(0)
 }
 
 // The words at the two places that are written, and at the beginning of the input.
@@ -172,16 +179,36 @@ fn words(memory: &Memory) -> [Result<u32, Fault>; 3] {
     ]
 }
 
+// Whether a memory has the words of the image, and no input.
+fn is_as_loaded(memory: &Memory) -> bool {
+    words(memory) == [Ok(7), Ok(0), Ok(0)]
+}
+
+// Whether the next memory of the image has the image's words.
+fn is_next_as_loaded(alloc: Global, image: &Image) -> Result<bool, AllocError> {
+    Ok(is_as_loaded(&Memory::of(alloc, image, &[])?))
+}
+
+// Whether what is written to this memory of the image is in no other memory, made before or after.
+fn is_written_alone(alloc: Global, image: &Image, first: &mut Memory) -> Result<bool, AllocError> {
+    let second = Memory::of(alloc, image, &[])?;
+    Ok(
+        writes(first)
+            && is_next_as_loaded(alloc, image)?
+            && is_as_loaded(&second)
+            && words(first) == [Ok(8), Ok(9), Ok(1)],
+    )
+}
+
+// Whether the memories of an image share no write.
+fn is_unshared(alloc: Global, image: &Image) -> Result<bool, AllocError> {
+    is_written_alone(alloc, image, &mut Memory::of(alloc, image, &[1])?)
+}
+
 // A write to one memory of an image changes no other memory of it, and no other page of its own.
 #[test]
 fn shares_no_write(rt: HostRuntime) -> Result<(), Fail> {
-    let image = image(rt.alloc())?;
-    let mut first = Memory::of(rt.alloc(), &image, &[1])?;
-    let second = Memory::of(rt.alloc(), &image, &[])?;
-    writes(&rt, &mut first);
-    let third = Memory::of(rt.alloc(), &image, &[])?;
-    assert!(rt; words(&second) == [Ok(7), Ok(0), Ok(0)]);
-    assert!(rt; words(&third) == [Ok(7), Ok(0), Ok(0)]);
-    assert!(rt; words(&first) == [Ok(8), Ok(9), Ok(1)]);
+    let is_right = is_unshared(rt.alloc(), &image(rt.alloc())?)?;
+    assert!(rt; is_right);
     Ok(())
 }

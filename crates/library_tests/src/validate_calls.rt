@@ -133,17 +133,27 @@ fn read_of(alloc: Global, has_version: bool) -> Read {
     }
 }
 
+/// Makes changes.
+fn change_all(map: &mut MvMap, entries: &[Entry]) -> Result<(), ReserveFault> {
+    for entry in entries {
+        change(map, *entry)?;
+    }
+    Ok(())
+}
+
+/// Both answers for a read.
+fn answers_for(alloc: Global, map: &MvMap, read: &Read) -> [bool; 2] {
+    [
+        has_what_was_read(alloc, map, read),
+        still_read(map, 2, read),
+    ]
+}
+
 /// The answers of a row.
 fn answers(alloc: Global, row: &Row) -> Result<[bool; 2], ReserveFault> {
     let mut map = MvMap::over(alloc, Arena::new(alloc));
-    for entry in row.entries {
-        change(&mut map, *entry)?;
-    }
-    let read = read_of(alloc, row.has_version);
-    Ok([
-        has_what_was_read(alloc, &map, &read),
-        still_read(&map, 2, &read),
-    ])
+    change_all(&mut map, row.entries)?;
+    Ok(answers_for(alloc, &map, &read_of(alloc, row.has_version)))
 }
 
 #[test]
@@ -155,16 +165,21 @@ fn standing_reads(rt: HostRuntime) -> Result<(), ReserveFault> {
     Ok(())
 }
 
+/// The answers for the first of two reads, for the second, and for the index past both.
+fn answers_by_index(map: &MvMap, reads: &[Read; 2]) -> [Option<bool>; 3] {
+    [
+        next_read(map, 2, reads, 0),
+        next_read(map, 2, reads, 1),
+        next_read(map, 2, reads, 2),
+    ]
+}
+
 /// The answers for a read that stands, for one that does not, and for the index past both.
 fn in_turn(alloc: Global) -> Result<[Option<bool>; 3], ReserveFault> {
     let mut map = MvMap::over(alloc, Arena::new(alloc));
     change(&mut map, Entry::Publish(0, 0))?;
     let reads = [read_of(alloc, true), read_of(alloc, false)];
-    Ok([
-        next_read(&map, 2, &reads, 0),
-        next_read(&map, 2, &reads, 1),
-        next_read(&map, 2, &reads, 2),
-    ])
+    Ok(answers_by_index(&map, &reads))
 }
 
 #[test]

@@ -1,6 +1,6 @@
 //! What is printed of the workers' counts.
 
-use crate::failing::FailingWriter;
+use crate::failing::failing_writer;
 use byte_streams::WriteFault;
 use engines::{RunCounts, write_counts};
 use rv_ledger::Counts;
@@ -33,9 +33,9 @@ fn counts(alloc: Global) -> Result<RunCounts, AllocError> {
 
 /// Whether a writer that takes this many bytes holds the beginning, and the rest is refused.
 fn is_cut(alloc: Global, counts: &RunCounts, left: usize) -> bool {
-    let mut writer = FailingWriter::new(alloc, left, true);
+    let mut writer = failing_writer(alloc, left, true);
     let answer = write_counts(alloc, counts, &mut writer);
-    answer == Err(WriteFault::Io) && writer.has_beginning(TEXT.as_bytes(), left)
+    answer == Err(WriteFault::Io) && writer.writer.has_beginning(TEXT.as_bytes(), left)
 }
 
 #[test]

@@ -4,7 +4,7 @@ ghost use Rattle.std.specs.Prelude.{⊤};
 
 use crate::asserts::is_unreadable;
 use crate::blocks::run_in_memory;
-use byte_streams::{Destination, Source, WriteFault};
+use byte_streams::{FallibleWriter, Source, WriteFault};
 use engines::Refusal;
 use std::alloc::Global;
 use std::io;
@@ -56,16 +56,17 @@ pub struct FailingWriter {
     pub fails: bool,
 }
 
-impl FailingWriter {
-    /// A writer that took nothing yet.
-    pub fn new(alloc: Global, left: usize, fails: bool) -> FailingWriter {
-        FailingWriter {
-            taken: Vec::new(alloc),
-            left,
-            fails,
-        }
-    }
+/// A destination over such a writer, which took nothing yet.
+pub fn failing_writer(alloc: Global, left: usize, fails: bool) -> FallibleWriter<FailingWriter> {
+    let writer = FailingWriter {
+        taken: Vec::new(alloc),
+        left,
+        fails,
+    };
+    FallibleWriter { writer }
+}
 
+impl FailingWriter {
     /// Whether it took this many bytes, and they are the first ones of a text.
     pub fn has_beginning(&self, text: &[u8], count: usize) -> bool {
         self.taken.len() == count && text.starts_with(self.taken.as_slice())
@@ -93,20 +94,6 @@ impl Write for FailingWriter {
 
     fn flush(&mut self) -> io::Result<()> {
         Ok(())
-    }
-}
-
-impl Destination for FailingWriter {
-    ghost may_refuse = { λ _ _. ⊤ };
-
-    ghost memory = { λ _. tt };
-
-    fn write_part(&mut self, bytes: &[u8]) -> io::Result<usize> {
-        self.write(bytes)
-    }
-
-    fn flush_written(&mut self) -> io::Result<()> {
-        self.flush()
     }
 }
 
@@ -141,10 +128,10 @@ fn is_read_refused(alloc: Global, reads: usize) -> bool {
 
 /// Whether the output is refused if a writer takes this many bytes, and then fails or takes nothing.
 fn is_write_refused(alloc: Global, left: usize, fails: bool) -> bool {
-    let mut writer = FailingWriter::new(alloc, left, fails);
+    let mut writer = failing_writer(alloc, left, fails);
     let answer = run_in_memory(alloc, &mut BLOCK.as_bytes(), &mut writer);
     answer == Err(Refusal::Output(write_fault(fails)))
-        && writer.has_beginning(PRINTED.as_bytes(), left)
+        && writer.writer.has_beginning(PRINTED.as_bytes(), left)
 }
 
 /// Reads and writes of the block fail at each place of its text and of what it prints.

@@ -6,7 +6,7 @@ ghost use Rattle.std.specs.Str.{bytes_eq};
 use crate::asserts::assert_right;
 use crate::echo::{ECHO_FILE, ECHO_LISTING};
 use crate::fake_stores::FakeStores;
-use engines::{Disk, answer_words};
+use engines::{Disk, SessionStores, answer_words};
 use std::alloc::Global;
 use std::io;
 use std::io::Sink;
@@ -92,6 +92,35 @@ const BLOCK: &str =
 const RESULT: &str =
     "store 0000000000000000000000000000000000000000000000000000000000000001 07\nend\n";
 
+/// Whether a command line over a disk of one file, stores and an input prints a text and nothing else, and ends with 0.
+pub fn answers<T: Threads + Wait + Sync, K: SessionStores>(
+    threads: &T,
+    alloc: Global,
+    line: &str,
+    mut disk: OneFile<'_>,
+    stores: &mut K,
+    input: &str,
+    text: &str,
+) -> Result<bool, Fail> {
+    let mut words = Vec::new(alloc);
+    for word in line.split(' ') {
+        words.push(String::from_str(alloc, word)?)?;
+    }
+    let mut input: &[u8] = input.as_bytes();
+    let (mut out, mut errors) = (Vec::new(alloc), Vec::new(alloc));
+    let status = answer_words(
+        threads,
+        alloc,
+        words.as_slice(),
+        &mut disk,
+        stores,
+        &mut input,
+        &mut out,
+        &mut errors,
+    );
+    Ok(status == 0 && out.as_slice() == text.as_bytes() && errors.is_empty())
+}
+
 /// Whether a command line over a disk of one file prints a text and nothing else, and ends with 0.
 fn prints<T: Threads + Wait + Sync>(
     threads: &T,
@@ -101,25 +130,16 @@ fn prints<T: Threads + Wait + Sync>(
     bytes: &[u8],
     text: &str,
 ) -> Result<bool, Fail> {
-    let mut words = Vec::new(alloc);
-    for word in line.split(' ') {
-        words.push(String::from_str(alloc, word)?)?;
-    }
-    let mut disk = OneFile { path, bytes };
-    let mut stores = FakeStores::new(alloc);
-    let mut input: &[u8] = b"";
-    let (mut out, mut errors) = (Vec::new(alloc), Vec::new(alloc));
-    let status = answer_words(
+    let disk = OneFile { path, bytes };
+    answers(
         threads,
         alloc,
-        words.as_slice(),
-        &mut disk,
-        &mut stores,
-        &mut input,
-        &mut out,
-        &mut errors,
-    );
-    Ok(status == 0 && out.as_slice() == text.as_bytes() && errors.is_empty())
+        line,
+        disk,
+        &mut FakeStores::new(alloc),
+        "",
+        text,
+    )
 }
 
 #[test]

@@ -6,9 +6,9 @@ ghost use Rattle.session_file.specs.Opening.{IsFresh};
 ghost use Rattle.sqlite_trees.specs.Memory.{memory_view};
 
 use crate::asserts::assert_right;
-use crate::known_disk::OneFile;
+use crate::known_disk::{OneFile, answers};
 use crate::session_files::{DONE, PUT_ONE};
-use engines::{SessionStores, answer_words};
+use engines::SessionStores;
 use session_disk::OpenFault;
 use sqlite_trees::error::StoreError;
 use sqlite_trees::memory::MemStore;
@@ -125,34 +125,26 @@ const KEPT: &str = "\
     store 0000000000000000000000000000000000000000000000000000000000000009 0a\n";
 
 /// Whether a session over the path `f` answers an input with a text, and ends with 0.
-fn answers<T: Threads + Wait + Sync>(
+fn keeps<T: Threads + Wait + Sync>(
     threads: &T,
     alloc: Global,
     stores: &mut KnownStores<'_>,
     input: &str,
     text: &str,
 ) -> Result<bool, Fail> {
-    let mut words = Vec::new(alloc);
-    for word in "rvstm chain --store f".split(' ') {
-        words.push(String::from_str(alloc, word)?)?;
-    }
-    let mut disk = OneFile {
+    let disk = OneFile {
         path: "",
         bytes: b"",
     };
-    let mut input: &[u8] = input.as_bytes();
-    let (mut out, mut errors) = (Vec::new(alloc), Vec::new(alloc));
-    let status = answer_words(
+    answers(
         threads,
         alloc,
-        words.as_slice(),
-        &mut disk,
+        "rvstm chain --store f",
+        disk,
         stores,
-        &mut input,
-        &mut out,
-        &mut errors,
-    );
-    Ok(status == 0 && out.as_slice() == text.as_bytes() && errors.is_empty())
+        input,
+        text,
+    )
 }
 
 #[test]
@@ -162,9 +154,9 @@ fn a_known_store_is_kept(rt: HostRuntime) -> Result<(), Fail> {
         path: "f",
         store: None,
     };
-    let is_right = answers(&rt, rt.alloc(), &mut stores, PUT_ONE, DONE)?;
+    let is_right = keeps(&rt, rt.alloc(), &mut stores, PUT_ONE, DONE)?;
     assert_right(&rt, is_right, "a first session");
-    let is_right = answers(&rt, rt.alloc(), &mut stores, NEXT, KEPT)?;
+    let is_right = keeps(&rt, rt.alloc(), &mut stores, NEXT, KEPT)?;
     assert_right(&rt, is_right, "the next one");
     Ok(())
 }

@@ -4,7 +4,7 @@ use crate::answers::{answer_along, answer_on};
 use crate::asserts::assert_right;
 use crate::command_lines::{RESULT, disk_of_echo};
 use crate::echo::ECHO_LISTING;
-use crate::failing::{FailingReader, FailingWriter};
+use crate::failing::{FailingReader, failing_writer};
 use byte_streams::WriteFault;
 use engines::{FileFault, Refusal, report, write_refusal};
 use std::alloc::Global;
@@ -81,7 +81,7 @@ fn is_write_reported<R: Threads + Wait + Sync>(
     fails: bool,
 ) -> io::Result<bool> {
     let stored = disk_of_echo(alloc)?;
-    let mut out = FailingWriter::new(alloc, left, fails);
+    let mut out = failing_writer(alloc, left, fails);
     let mut errors = Vec::new(alloc);
     let (line, input) = (line.as_bytes(), TYPED.as_bytes());
     let status = answer_on(rt, alloc, line, &stored, input, &mut out, &mut errors);
@@ -93,7 +93,7 @@ fn is_write_reported<R: Threads + Wait + Sync>(
     Ok(
         status == 1
             && errors.as_slice() == error.as_bytes()
-            && out.has_beginning(text.as_bytes(), left),
+            && out.writer.has_beginning(text.as_bytes(), left),
     )
 }
 
@@ -119,20 +119,20 @@ const LINE: &str = "rvstm: file TooLong 3\n";
 /// Whether the status is 1 and a beginning of the line is written if standard error takes this many bytes and then fails or
 /// takes nothing. Writing the line must then be refused too.
 fn is_report_cut(alloc: Global, left: usize, fails: bool, fault: WriteFault) -> bool {
-    let mut errors = FailingWriter::new(alloc, left, fails);
+    let mut errors = failing_writer(alloc, left, fails);
     let status = report(&REFUSAL, &mut errors);
-    let mut again = FailingWriter::new(alloc, left, fails);
+    let mut again = failing_writer(alloc, left, fails);
     let answer = write_refusal(&REFUSAL, &mut again);
     status == 1
-        && errors.has_beginning(LINE.as_bytes(), left)
+        && errors.writer.has_beginning(LINE.as_bytes(), left)
         && answer == Err(fault)
-        && again.has_beginning(LINE.as_bytes(), left)
+        && again.writer.has_beginning(LINE.as_bytes(), left)
 }
 
 /// Whether the whole line is written if standard error takes one byte a write.
 fn is_report_whole(alloc: Global) -> bool {
-    let mut errors = FailingWriter::new(alloc, usize::MAX, true);
-    report(&REFUSAL, &mut errors) == 1 && errors.taken.as_slice() == LINE.as_bytes()
+    let mut errors = failing_writer(alloc, usize::MAX, true);
+    report(&REFUSAL, &mut errors) == 1 && errors.writer.taken.as_slice() == LINE.as_bytes()
 }
 
 #[test]
@@ -154,7 +154,7 @@ fn has_status_without_errors<R: Threads + Wait + Sync>(
     let stored = disk_of_echo(alloc)?;
     let mut input: &[u8] = b"";
     let mut out = Vec::new(alloc);
-    let mut errors = FailingWriter::new(alloc, 0, true);
+    let mut errors = failing_writer(alloc, 0, true);
     let line = line.as_bytes();
     let status = answer_along(rt, alloc, line, &stored, &mut input, &mut out, &mut errors);
     Ok(status == 1 && out.as_slice() == printed.as_bytes())

@@ -2,7 +2,7 @@
 
 use crate::asserts::is_unreadable;
 use crate::echo::{ECHO_FILE, ECHO_LISTING, ECHO_SOURCE};
-use crate::failing::{FailingReader, FailingWriter, write_fault};
+use crate::failing::{FailingReader, failing_writer, write_fault};
 use engines::{FileFault, Refusal, dis_to, file_of_source};
 use std::alloc::Global;
 use std::process::Abort;
@@ -31,10 +31,10 @@ fn is_source_unreadable(alloc: Global) -> bool {
 /// Whether a listing is refused if its writer takes this many bytes, and then fails or takes nothing.
 fn is_listing_refused(alloc: Global, left: usize, fails: bool) -> bool {
     let mut file = ECHO_FILE;
-    let mut writer = FailingWriter::new(alloc, left, fails);
+    let mut writer = failing_writer(alloc, left, fails);
     let answer = dis_to(alloc, &mut file, &mut writer);
     answer == Err(Refusal::Output(write_fault(fails)))
-        && writer.has_beginning(ECHO_LISTING.as_bytes(), left)
+        && writer.writer.has_beginning(ECHO_LISTING.as_bytes(), left)
 }
 
 #[test]

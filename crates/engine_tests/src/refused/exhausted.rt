@@ -4,12 +4,12 @@ ghost use Rattle.std.specs.Prelude.{◌≡◌, All, None};
 ghost use Rattle.workers.specs.DoneCell.{IsPassOf};
 
 use crate::calls::has_text;
-use crate::refused::exhausted::attempts::Way;
+use crate::refused::exhausted::attempts::{Tried, Way, done, refused};
 use crate::refused::images::{COUNT, ECHO, KEY, NotMade, assembled_call, job_of};
 use crate::refused::limits::{no_blocks, reserve_of, take_rest, take_space};
 use crate::refused::rows::{ECHO_TEXT, ECHOED, are_counts};
 use crate::refused::taking::Taking;
-use crate::threads::shares_of;
+use crate::threads::{answer_of, shares_of};
 use rv_ledger::{Call, Job, Outcome, Store};
 use std::alloc::{AllocError, Global};
 use std::marker::Brand;
@@ -17,7 +17,7 @@ use std::process::Abort;
 use std::rt::Clock;
 use std::sync::Wait;
 use std::thread::Threads;
-use workers::{Chain, Executor, JobName, Open, RunFault, Share, Shared, settle, work};
+use workers::{Chain, Executor, JobName, Open, RunFault, Share, Shared, work};
 
 pub mod attempts;
 mod files;
@@ -45,6 +45,18 @@ pub fn runs_echo<R: Threads + Wait + Sync>(
     let echo = job_of(alloc, &[(ECHO, ECHOED)])?;
     let outcome = executor.run_block(rt, alloc, echo, 2)?;
     Ok(has_text(alloc, &outcome, ECHO_TEXT)?)
+}
+
+/// Whether an executor runs calls of COUNT by some workers, and the outcome is right.
+pub fn runs_counts<R: Threads + Wait + Sync>(
+    rt: &R,
+    alloc: Global,
+    executor: &mut Executor,
+    calls: &[(&str, &[u8])],
+    workers: usize,
+) -> Result<bool, NotMade> {
+    let outcome = executor.run_block(rt, alloc, job_of(alloc, calls)?, workers)?;
+    Ok(are_counts(&outcome, u32::try_from(calls.len()).unwrap_or(0)))
 }
 
 /// Asserts that calls which are refused in this way return the right answers in the end.
@@ -89,21 +101,19 @@ fn shares_in_order(rt: HostRuntime) {
     assert!(rt; matches!(are_shares_in_order(&rt, rt.alloc()), Ok(true)));
 }
 
-/// Runs a job by this many workers while no address is left for a thread's stack.
+/// Runs eight calls of COUNT by this many workers while no address is left for a thread's stack.
 fn run_without_space<R: Threads + Wait + Sync>(
     rt: &R,
     alloc: Global,
     executor: &mut Executor,
-    job: Job,
     workers: usize,
-) -> Result<Result<Outcome, RunFault>, AllocError> {
+) -> Result<Result<Outcome, RunFault>, NotMade> {
+    let counts = job_of(alloc, &[(COUNT, KEY); 8])?;
     let mut held = no_blocks(alloc)?;
     let reserve = reserve_of(alloc, RESERVE)?;
     take_space(alloc, &mut held);
     drop(reserve);
-    let answer = executor.run_block(rt, alloc, job, workers);
-    drop(held);
-    Ok(answer)
+    Ok(executor.run_block(rt, alloc, counts, workers))
 }
 
 /// Whether a block of two workers is refused as Spawn while no address is left for a thread's stack; and whether the executor
@@ -113,10 +123,11 @@ fn is_spawn_refused<R: Threads + Wait + Sync>(
     alloc: Global,
     executor: &mut Executor,
 ) -> Result<bool, NotMade> {
-    let counts = job_of(alloc, &[(COUNT, KEY); 8])?;
-    let answer = run_without_space(rt, alloc, executor, counts, 2)?;
-    let is_refused = matches!(answer, Err(RunFault::Spawn));
-    Ok(runs_echo(rt, alloc, executor)? && is_refused)
+    let is_refused = matches!(
+        run_without_space(rt, alloc, executor, 2)?,
+        Err(RunFault::Spawn)
+    );
+    Ok(is_refused && runs_echo(rt, alloc, executor)?)
 }
 
 /// Every thread is refused.
@@ -133,10 +144,8 @@ fn runs_alone<R: Threads + Wait + Sync>(
     alloc: Global,
     executor: &mut Executor,
 ) -> Result<bool, NotMade> {
-    let counts = job_of(alloc, &[(COUNT, KEY); 8])?;
-    let before = executor.run_block(rt, alloc, counts.copy()?, 1)?;
-    let alone = run_without_space(rt, alloc, executor, counts, 1)?;
-    Ok(are_counts(&before, 8) && are_counts(&alone?, 8))
+    let is_run_before = runs_counts(rt, alloc, executor, &[(COUNT, KEY); 8], 1)?;
+    Ok(is_run_before && are_counts(&run_without_space(rt, alloc, executor, 1)??, 8))
 }
 
 /// The second thread is refused. The first gets the stack of the thread of a block before.
@@ -148,21 +157,6 @@ fn second_thread_refused(rt: HostRuntime) {
     assert!(rt; matches!(is_refused, Ok(true)));
 }
 
-/// Runs a chain while all memory is refused.
-fn chain_without_memory<R: Threads + Wait + Sync>(
-    rt: &R,
-    alloc: Global,
-    executor: &mut Executor,
-    blocks: Vec<(Vec<Call>, usize)>,
-) -> Result<Result<Chain, AllocError>, AllocError> {
-    let mut held = no_blocks(alloc)?;
-    take_space(alloc, &mut held);
-    take_rest(alloc, &mut held);
-    let answer = executor.run_chain(rt, alloc, Store::new(alloc), blocks);
-    drop(held);
-    Ok(answer)
-}
-
 /// One call of COUNT, as a chain of one block for two workers.
 fn chain_of_counts(alloc: Global) -> Result<Vec<(Vec<Call>, usize)>, NotMade> {
     let mut calls = Vec::new(alloc);
@@ -172,12 +166,28 @@ fn chain_of_counts(alloc: Global) -> Result<Vec<(Vec<Call>, usize)>, NotMade> {
     Ok(blocks)
 }
 
+/// Whether a chain of a count is refused while all memory is.
+fn lacks_memory<R: Threads + Wait + Sync>(
+    rt: &R,
+    alloc: Global,
+    executor: &mut Executor,
+) -> Result<bool, NotMade> {
+    let blocks = chain_of_counts(alloc)?;
+    let mut held = no_blocks(alloc)?;
+    take_space(alloc, &mut held);
+    take_rest(alloc, &mut held);
+    Ok(
+        executor
+            .run_chain(rt, alloc, Store::new(alloc), blocks)
+            .is_err(),
+    )
+}
+
 /// Whether the growth of a chain itself is refused, and no block is run: the shares are those of the block before.
 fn is_chain_refused<R: Threads + Wait + Sync>(rt: &R, alloc: Global) -> Result<bool, NotMade> {
     let mut executor = Executor::new(alloc);
     let before = runs_echo(rt, alloc, &mut executor)?;
-    let blocks = chain_of_counts(alloc)?;
-    let is_refused = chain_without_memory(rt, alloc, &mut executor, blocks)?.is_err();
+    let is_refused = lacks_memory(rt, alloc, &mut executor)?;
     let are_kept = executor.shares().len() == 2;
     Ok(before && is_refused && are_kept && runs_echo(rt, alloc, &mut executor)?)
 }
@@ -209,73 +219,91 @@ fn work_on_spare<J: JobName, R: Wait>(
     }
 }
 
-/// The workers of some shares work one after another. Each gives its share back, or is refused as the first one was.
-fn work_after<J: JobName, R: Wait + Abort>(
+/// The shares of workers who work one after another. Each gives its share back, or is refused as the first one was.
+fn work_others<J: JobName, R: Wait + Abort>(
     rt: &R,
     alloc: Global,
     shared: &Shared<J>,
     shares: Vec<Share>,
-    back: &mut Vec<Share>,
     fault: Option<RunFault>,
-) -> Result<(), AllocError>
+) -> Result<Vec<Share>, AllocError>
     requires { All (λ share. IsPassOf shared.now.cell share.pass) shares.items }
 {
+    let mut back = Vec::new(alloc);
     for share in shares {
         match work(rt, alloc, shared, share, &Open) {
             Ok(share) => back.push(share)?,
             Err(written) => assert!(rt; Some(written.fault()) == fault),
         }
     }
-    Ok(())
+    Ok(back)
 }
 
-/// The answer to a job of two workers. Worker `first` works first, with `spare` bytes, and the other one works after it. The
-/// other one is refused if the first one was, with the same fault.
-fn answer_on_spare<J: JobName, R: Wait + Abort>(
+/// The shares that two workers give back, in their order. Worker `first` works first, with `spare` bytes, and the other one works
+/// after it. The other one is refused only if the first one was, with the same fault.
+fn work_two<J: JobName, R: Wait + Abort>(
+    rt: &R,
+    alloc: Global,
+    shared: &Shared<J>,
+    shares: Vec<Share>,
+    first: usize,
+    spare: usize,
+    rest: &mut Vec<Vec<u8>>,
+) -> Result<Vec<Share>, AllocError>
+    requires { All (λ share. IsPassOf shared.now.cell share.pass) shares.items }
+{
+    let mut shares = shares;
+    assert!(rt; first < shares.len());
+    let share = shares.remove(first);
+    let alone = work_on_spare(rt, alloc, shared, share, spare, rest)?;
+    let mut back = work_others(rt, alloc, shared, shares, alone.as_ref().err().copied())?;
+    if let Ok(share) = alone {
+        assert!(rt; first <= back.len());
+        back.insert(first, share)?;
+    }
+    Ok(back)
+}
+
+/// The result of a try to run the two calls of a job by two workers, of whom worker `first` works first, with `spare` bytes.
+fn tried_on_spare<J: JobName, R: Wait + Abort>(
     rt: &R,
     alloc: Global,
     job: &Job,
     first: usize,
     spare: usize,
     rest: &mut Vec<Vec<u8>>,
-) -> Result<Result<Outcome, RunFault>, NotMade>
+) -> Result<Tried, NotMade>
     requires job { job.now ≡ J.job }
     requires limit { J.work_limit ≡ None }
 {
-    let (shared, mut shares) = shares_of::<J>(alloc, job, 2)?;
-    assert!(rt; first < shares.len());
-    let share = shares.remove(first);
-    let mut back = Vec::with_capacity(alloc, 2)?;
-    let alone = work_on_spare(rt, alloc, &shared, share, spare, rest)?;
-    let fault = alone.as_ref().err().copied();
-    work_after(rt, alloc, &shared, shares, &mut back, fault)?;
-    if let Ok(share) = alone {
-        assert!(rt; first <= back.len());
-        back.insert(first, share)?;
-    }
-    let (answer, _) = settle(alloc, shared.into_book(), back, job);
-    Ok(answer)
+    let (shared, shares) = shares_of::<J>(alloc, job, 2)?;
+    let back = work_two(rt, alloc, &shared, shares, first, spare, rest)?;
+    Ok(match answer_of(alloc, shared, back, job) {
+        Ok(outcome) => done(are_counts(&outcome, 2)),
+        Err(fault) => refused(fault == RunFault::Memory),
+    })
 }
 
-/// Leaves more and more memory to a worker until the block has its outcome. Returns how often it was refused as Memory before,
-/// and the last answer.
-fn refusals_of<R: Wait + Abort>(
+/// Leaves more and more memory to a worker until the block is not refused as Memory. Returns whether it was at first, and has the
+/// right outcome in the end.
+fn is_refused_first<R: Wait + Abort>(
     rt: &R,
     alloc: Global,
     job: &Job,
     first: usize,
-) -> Result<(usize, Result<Outcome, RunFault>), NotMade> {
+) -> Result<bool, NotMade> {
     let (mut space, mut rest) = (no_blocks(alloc)?, no_blocks(alloc)?);
     let reserve = reserve_of(alloc, WORK_ROOM)?;
     take_space(alloc, &mut space);
     drop(reserve);
     for step in 0..STEPS {
-        let answer = answer_on_spare::<Brand, R>(rt, alloc, job, first, step * STEP, &mut rest)?;
-        if !matches!(answer, Err(RunFault::Memory)) {
-            return Ok((step, answer));
+        match tried_on_spare::<Brand, R>(rt, alloc, job, first, step * STEP, &mut rest)? {
+            Tried::Refused => {}
+            Tried::Done => return Ok(step > 0),
+            Tried::Wrong => return Ok(false),
         }
     }
-    Ok((STEPS, Err(RunFault::Memory)))
+    Ok(false)
 }
 
 /// Whether the growths of a worker that works alone are refused before the block has its outcome.
@@ -285,8 +313,7 @@ fn are_growths_refused<R: Wait + Abort>(
     first: usize,
 ) -> Result<bool, NotMade> {
     let job = job_of(alloc, &[(COUNT, KEY); 2])?;
-    let (refusals, answer) = refusals_of(rt, alloc, &job, first)?;
-    Ok(refusals > 0 && are_counts(&answer?, 2))
+    is_refused_first(rt, alloc, &job, first)
 }
 
 /// The growths of a worker that works alone are refused one after another, because more and more memory is left to it. The other
@@ -298,24 +325,31 @@ fn growths_of_work_refused(rt: HostRuntime) {
     assert!(rt; matches!(are_growths_refused(&rt, rt.alloc(), 1), Ok(true)));
 }
 
-/// Whether a job is refused as Memory at a gate at which memory is taken away from workers, and the executor runs other blocks
-/// after that.
+/// Whether a job is refused as Memory at a gate at which memory is taken away from workers.
+fn is_refused_at_gate<R: Threads + Wait + Sync + Clock + Clone + Drop>(
+    rt: &R,
+    alloc: Global,
+    executor: &mut Executor,
+    refused: [bool; 2],
+) -> Result<bool, NotMade> {
+    let job = job_of(alloc, &[(COUNT, KEY); 4])?;
+    let gate = Taking::new(rt.clone()?, alloc, refused)?;
+    let answer = executor.run_block_with(rt, alloc, job, 2, &gate);
+    Ok(matches!(answer, Err(RunFault::Memory)) && gate.is_taken())
+}
+
+/// The same; and whether the executor runs other blocks after that.
 fn is_refused<R: Threads + Wait + Sync + Clock + Clone + Drop>(
     rt: &R,
     alloc: Global,
     refused: [bool; 2],
 ) -> Result<bool, NotMade> {
-    let job = job_of(alloc, &[(COUNT, KEY); 4])?;
     let mut executor = Executor::new(alloc);
-    let own = job.copy()?;
-    let gate = Taking::new(rt.clone()?, alloc, refused)?;
-    let answer = executor.run_block_with(rt, alloc, own, 2, &gate);
-    let is_taken = gate.is_taken();
-    drop(gate);
-    let is_usable = runs_echo(rt, alloc, &mut executor)?;
-    let outcome = executor.run_block(rt, alloc, job, 2)?;
-    let is_memory = matches!(answer, Err(RunFault::Memory));
-    Ok(is_taken && is_memory && is_usable && are_counts(&outcome, 4))
+    Ok(
+        is_refused_at_gate(rt, alloc, &mut executor, refused)?
+            && runs_echo(rt, alloc, &mut executor)?
+            && runs_counts(rt, alloc, &mut executor, &[(COUNT, KEY); 4], 2)?,
+    )
 }
 
 /// Memory is refused only to the first worker, only to the second, and to both.

@@ -1,7 +1,7 @@
 //! Calls for which `scripts/growths` refuses one request for memory, and which are made once more then.
 
 use crate::refused::exhausted::attempts::Way;
-use crate::refused::exhausted::{assert_come_right, runs_echo};
+use crate::refused::exhausted::{assert_come_right, runs_counts, runs_echo};
 use crate::refused::images::{COUNT, KEY, NotMade, job_of};
 use crate::refused::rows::are_counts;
 use std::alloc::Global;
@@ -22,26 +22,30 @@ fn growths(rt: HostRuntime) {
 
 /// Whether eight calls of COUNT by four threads have the right outcome. If they are refused as Memory or as Spawn, the executor
 /// runs another block, and then these calls once more.
-fn counts<R: Threads + Wait + Sync>(rt: &R, alloc: Global) -> Result<bool, NotMade> {
-    let mut executor = Executor::new(alloc);
+fn counts<R: Threads + Wait + Sync>(
+    rt: &R,
+    alloc: Global,
+    executor: &mut Executor,
+) -> Result<bool, NotMade> {
     let job = job_of(alloc, &[(COUNT, KEY); 8])?;
-    let again = job.copy()?;
     match executor.run_block(rt, alloc, job, WORKERS) {
         Ok(outcome) => Ok(are_counts(&outcome, 8)),
-        Err(RunFault::Memory | RunFault::Spawn) => {
-            let is_usable = runs_echo(rt, alloc, &mut executor)?;
-            let outcome = executor.run_block(rt, alloc, again, WORKERS)?;
-            Ok(is_usable && are_counts(&outcome, 8))
-        }
+        Err(RunFault::Memory | RunFault::Spawn) => Ok(
+            runs_echo(rt, alloc, executor)?
+                && runs_counts(rt, alloc, executor, &[(COUNT, KEY); 8], WORKERS)?,
+        ),
         Err(_) => Ok(false),
     }
 }
 
 #[test]
 fn run_block_growths_refused(rt: HostRuntime) {
-    let is_right = match counts(&rt, rt.alloc()) {
+    let is_right = match counts(&rt, rt.alloc(), &mut Executor::new(rt.alloc())) {
         Ok(is_right) => is_right,
-        Err(_) => matches!(counts(&rt, rt.alloc()), Ok(true)),
+        Err(_) => matches!(
+            counts(&rt, rt.alloc(), &mut Executor::new(rt.alloc())),
+            Ok(true)
+        ),
     };
     assert!(rt; is_right);
 }

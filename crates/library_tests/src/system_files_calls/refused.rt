@@ -143,8 +143,8 @@ fn is_refused<R: Files<File = File> + Copy>(
         kind,
         changes: Cell::new(0),
     };
-    let told = replace(alloc, &mut SystemDisk { rt: &files }, "failing/out", NEW);
-    told == Err(fault) && files.changes.get() == changes
+    let result = replace(alloc, &mut SystemDisk { rt: &files }, "failing/out", NEW);
+    result == Err(fault) && files.changes.get() == changes
 }
 
 #[test]

@@ -40,7 +40,7 @@ pub enum Step {
     Refused(&'static str),
     /// The new bytes are put at a path if the system lets it be written. If not, the old bytes stay.
     Stays(&'static str),
-    /// A name is taken: what is there is neither left over, nor made anew.
+    /// A name is taken: what is there is not removed as left over, and no file is made there.
     Taken(&'static str),
     /// A file has these bytes.
     Has(&'static str, &'static [u8]),
@@ -62,6 +62,15 @@ pub fn is_folder_made<R: Files>(rt: &R, alloc: Global, folder: &str) -> bool {
     rt.create_dir(folder).is_ok()
 }
 
+/// How many names end in a part of what a folder reads as: each ends with a zero.
+fn ends_in(part: &[u8]) -> usize {
+    let mut names = 0_usize;
+    for byte in part {
+        names = names.wrapping_add((*byte == 0) as usize);
+    }
+    names
+}
+
 /// How many names a folder has.
 fn count<R: Files>(rt: &R, folder: &str) -> io::Result<usize> {
     let mut dir = rt.open_dir(folder)?;
@@ -72,9 +81,7 @@ fn count<R: Files>(rt: &R, folder: &str) -> io::Result<usize> {
         if len == 0 {
             break;
         }
-        for byte in part.get(..len).unwrap_or(&[]) {
-            names = names.wrapping_add((*byte == 0) as usize);
-        }
+        names = names.wrapping_add(ends_in(part.get(..len).unwrap_or(&[])));
     }
     // Two of them are the folder itself and the one above it.
     Ok(names.wrapping_sub(2))
@@ -121,7 +128,7 @@ fn stays_unless_writable<R: Files<File = File> + AllocGlobal + Clone>(rt: &R, pa
     is_unwritable(rt, rt.alloc(), path) && has(rt, path, OLD)
 }
 
-/// Whether what is at a name is neither left over, nor made anew.
+/// Whether what is at a name is not removed as left over, and no file is made there.
 fn is_taken<R: Files<File = File>>(rt: &R, name: &str) -> bool {
     let mut disk = SystemDisk { rt };
     let stays = disk.remove_left_over(name).is_err();
@@ -155,18 +162,21 @@ fn is_device<R: Files>(rt: &R, path: &str) -> bool {
     }
 }
 
+/// Whether a request was met.
+fn is_met(answer: io::Result<()>) -> bool {
+    answer.is_ok()
+}
+
 /// Makes a step. Returns whether it went as it says.
 fn does<R: Files<File = File> + AllocGlobal + Clone>(rt: &R, step: &Step) -> bool {
     match *step {
         Step::Folder(path) => is_folder_made(rt, rt.alloc(), path),
-        Step::RemoveFolder(path) => rt.remove_dir_all(rt.alloc(), path).is_ok(),
-        Step::Write(path) => fs::write(rt, path, OLD).is_ok(),
-        Step::RemoveFile(path) => rt.remove_file(path).is_ok(),
-        Step::Mode(path, mode) => rt
-            .set_permissions(path, Permissions::from_mode(mode))
-            .is_ok(),
-        Step::Link(to, path) => rt.symlink(to, path).is_ok(),
-        Step::HardLink(from, path) => rt.hard_link(from, path).is_ok(),
+        Step::RemoveFolder(path) => is_met(rt.remove_dir_all(rt.alloc(), path)),
+        Step::Write(path) => is_met(fs::write(rt, path, OLD)),
+        Step::RemoveFile(path) => is_met(rt.remove_file(path)),
+        Step::Mode(path, mode) => { is_met(rt.set_permissions(path, Permissions::from_mode(mode))) }
+        Step::Link(to, path) => is_met(rt.symlink(to, path)),
+        Step::HardLink(from, path) => is_met(rt.hard_link(from, path)),
         Step::Put(path, folder, names) => is_put(rt, path, folder, names),
         Step::Refused(path) => is_unwritable(rt, rt.alloc(), path),
         Step::Stays(path) => stays_unless_writable(rt, path),

@@ -111,9 +111,9 @@ pub enum Way {
 }
 
 /// Whether a call that is refused in this way leaves then what it must leave, and returns the right answer in the end.
-pub fn comes_right<A: Attempt>(alloc: Global, call: &mut A, way: Way) -> Result<bool, AllocError> {
+pub fn comes_right<A: Attempt>(alloc: Global, call: &mut A, way: Way) -> bool {
     match way {
-        Way::Exhausted => is_refused_first(alloc, call),
-        Way::OneRequest => Ok(is_made_again(alloc, call)),
+        Way::Exhausted => is_refused_first(alloc, call) == Ok(true),
+        Way::OneRequest => is_made_again(alloc, call),
     }
 }

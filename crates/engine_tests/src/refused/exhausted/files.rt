@@ -43,13 +43,13 @@ impl Attempt for Assembling {
 /// Writing the file of TOUCH.
 #[derive(Drop)]
 struct Writing<'a> {
-    program: Program,
+    program: &'a Program,
     file: &'a [u8],
 }
 
 impl Attempt for Writing<'_> {
     fn attempt(&mut self, alloc: Global) -> Tried {
-        match write(alloc, &self.program) {
+        match write(alloc, self.program) {
             Ok(file) => done(file.as_slice() == self.file),
             Err(fault) => refused(fault == ElfError::Memory),
         }
@@ -75,11 +75,12 @@ impl Attempt for Loading<'_> {
 pub fn files(alloc: Global, way: Way) -> Result<bool, NotMade> {
     let program = assemble(alloc, TOUCH)?;
     let file = write(alloc, &program)?;
-    let file = file.as_slice();
-    let is_assembled = comes_right(alloc, &mut Assembling, way)?;
-    let is_written = comes_right(alloc, &mut Writing { program, file }, way)?;
-    let is_loaded = comes_right(alloc, &mut Loading { file }, way)?;
-    Ok(is_assembled && is_written && is_loaded)
+    let (program, file) = (&program, file.as_slice());
+    Ok(
+        comes_right(alloc, &mut Assembling, way)
+            && comes_right(alloc, &mut Writing { program, file }, way)
+            && comes_right(alloc, &mut Loading { file }, way),
+    )
 }
 
 /// A block file of three keys, two programs and two calls.
@@ -118,14 +119,14 @@ const TOUCH_TEXT: &[u8] = b"\
 
 /// Writing the result of TOUCH, into room that is there.
 #[derive(Drop)]
-struct Printing {
-    outcome: Outcome,
+struct Printing<'a> {
+    outcome: &'a Outcome,
     text: Vec<u8>,
 }
 
-impl Attempt for Printing {
+impl Attempt for Printing<'_> {
     fn attempt(&mut self, alloc: Global) -> Tried {
-        let answer = write_outcome(alloc, &self.outcome, &mut self.text);
+        let answer = write_outcome(alloc, self.outcome, &mut self.text);
         let is_beginning = TOUCH_TEXT.starts_with(self.text.as_slice());
         match answer {
             Ok(()) => done(self.text.as_slice() == TOUCH_TEXT),
@@ -139,9 +140,8 @@ impl Attempt for Printing {
 
 /// Whether a block file is read, and a result written.
 pub fn texts(alloc: Global, way: Way) -> Result<bool, NotMade> {
-    let outcome = outcome_of_source(alloc, TOUCH)?;
     let text = Vec::with_capacity(alloc, 1024)?;
-    let is_read = comes_right(alloc, &mut Parsing, way)?;
-    let is_written = comes_right(alloc, &mut Printing { outcome, text }, way)?;
-    Ok(is_read && is_written)
+    let outcome = &outcome_of_source(alloc, TOUCH)?;
+    let is_written = comes_right(alloc, &mut Printing { outcome, text }, way);
+    Ok(is_written && comes_right(alloc, &mut Parsing, way))
 }

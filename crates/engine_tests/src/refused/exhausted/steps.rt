@@ -12,7 +12,7 @@ use crate::refused::images::{
 use crate::refused::rows::{K_1, LATE_WRITER, Row, WITHDRAWN_WRITE};
 use debugger::{Replay, ReplayFault};
 use read_set::Origin;
-use rv_ledger::{End, Job, Key, Outcome, Receipt, Value};
+use rv_ledger::{End, Job, Key, Outcome, Receipt, Store, Value};
 use rv_mem::{Fault, Memory};
 use rv_step::{EndedRun, Pause, Run};
 use scheduler::COUNT_LIMIT;
@@ -62,18 +62,13 @@ impl Attempt for Storing {
 }
 
 /// The instructions of a run, one by one.
-#[derive(Drop)]
-struct Stepping {
-    run: Run,
-}
-
-impl Attempt for Stepping {
+impl Attempt for Run {
     fn attempt(&mut self, _alloc: Global) -> Tried {
         for _ in 0..1000 {
-            if !self.run.is_running() {
+            if !self.is_running() {
                 return Tried::Done;
             }
-            if self.run.step_one().is_err() {
+            if self.step_one().is_err() {
                 return Tried::Refused;
             }
         }
@@ -90,12 +85,17 @@ fn run_of(alloc: Global, source: &str, input: &[u8]) -> Result<Run, NotMade> {
 /// What a receipt shows of a call that returned: its gas, its pc, the number in a register, and the length of its output.
 type Shown = (u32, u32, Option<u32>, usize);
 
-/// What the receipt of a run that ends without asking for a key shows.
-fn end_of(mut run: Run, register: usize) -> Result<Option<Shown>, NotMade> {
-    match run.go()? {
-        Pause::Ended => Ok(shown(&run.finish().receipt, register)),
-        Pause::Ask(_) => Ok(None),
+/// A run that ends without asking for a key, ended.
+fn ended(mut run: Run) -> Result<EndedRun, NotMade> {
+    match run.go() {
+        Ok(Pause::Ended) => Ok(run.finish()),
+        _ => Err(NotMade),
     }
+}
+
+/// What the receipt of a run that ends without asking for a key shows.
+fn end_of(run: Run, register: usize) -> Result<Option<Shown>, NotMade> {
+    Ok(shown(&ended(run)?.receipt, register))
 }
 
 /// What a receipt shows of a call that returned.
@@ -112,17 +112,15 @@ const TOUCHED: Option<Shown> = Some((689, TOUCHED_PC, Some(1830), 4));
 fn stores_alone(alloc: Global, way: Way) -> Result<bool, NotMade> {
     let memory = Memory::of(alloc, &image_of(alloc, TOUCH)?, &[])?;
     let left = PAGES - 1;
-    Ok(comes_right(alloc, &mut Storing { memory, left }, way)?)
+    Ok(comes_right(alloc, &mut Storing { memory, left }, way))
 }
 
 /// Whether the instructions of a run of TOUCH_MANY, which store, are made one by one.
 fn stores_in_run(alloc: Global, way: Way) -> Result<bool, NotMade> {
-    let mut steps = Stepping {
-        run: run_of(alloc, TOUCH_MANY, b"")?,
-    };
-    let is_made = comes_right(alloc, &mut steps, way)?;
-    let Stepping { run } = steps;
-    Ok(is_made && end_of(run, 29)? == TOUCHED)
+    let mut run = run_of(alloc, TOUCH_MANY, b"")?;
+    let is_made = comes_right(alloc, &mut run, way);
+    let end = end_of(run, 29)?;
+    Ok(is_made && end == TOUCHED)
 }
 
 /// Whether stores are made: single ones, and as instructions.
@@ -172,9 +170,9 @@ fn goes_to(
 ) -> Result<bool, NotMade> {
     let run = run_of(alloc, source, KEY)?;
     let mut going = Going { run, value };
-    let is_made = comes_right(alloc, &mut going, way)?;
-    let Going { run, .. } = going;
-    Ok(is_made && end_of(run, register)? == wanted)
+    let is_made = comes_right(alloc, &mut going, way);
+    let end = end_of(going.run, register)?;
+    Ok(is_made && end == wanted)
 }
 
 /// Whether runs of TOUCH_MANY, LEN (the row `length`), COUNT and ECHO reach their ends. ECHO returns 32 bytes, which take memory
@@ -199,34 +197,32 @@ const TOUCHED_MOMENT: u64 = 554;
 const TOUCHED_PC: u32 = 0x0001_005c;
 
 /// A replay of TOUCH_MANY goes to that moment, and then back by one.
-#[derive(Drop)]
-struct Rewinding {
-    replay: Replay,
-}
-
-impl Attempt for Rewinding {
+impl Attempt for Replay {
     fn attempt(&mut self, _alloc: Global) -> Tried {
-        if self.replay.moment() < TOUCHED_MOMENT {
-            if let Err(fault) = self.replay.run_to(TOUCHED_PC) {
-                let is_before = self.replay.moment() < TOUCHED_MOMENT;
+        if self.moment() < TOUCHED_MOMENT {
+            if let Err(fault) = self.run_to(TOUCHED_PC) {
+                let is_before = self.moment() < TOUCHED_MOMENT;
                 return refused(fault == ReplayFault::Memory && is_before);
             }
         }
-        match self.replay.back() {
-            Ok(()) => done(self.replay.moment() == TOUCHED_MOMENT - 1),
+        match self.back() {
+            Ok(()) => done(self.moment() == TOUCHED_MOMENT - 1),
             Err(fault) => {
-                let stands = self.replay.moment() == TOUCHED_MOMENT;
+                let stands = self.moment() == TOUCHED_MOMENT;
                 refused(fault == ReplayFault::Memory && stands)
             }
         }
     }
 }
 
+/// A replay of TOUCH_MANY.
+fn replay(alloc: Global) -> Result<Replay, NotMade> {
+    Ok(Replay::open(alloc, &outcome_of_source(alloc, TOUCH_MANY)?, 0)?)
+}
+
 /// Whether a replay moves forward and back.
 pub fn replays(alloc: Global, way: Way) -> Result<bool, NotMade> {
-    let outcome = outcome_of_source(alloc, TOUCH_MANY)?;
-    let replay = Replay::open(alloc, &outcome, 0)?;
-    Ok(comes_right(alloc, &mut Rewinding { replay }, way)?)
+    Ok(comes_right(alloc, &mut replay(alloc)?, way))
 }
 
 /// A core of two calls of PUT, of which two workers have one each: room for a read of the second one's run, and handing
@@ -243,17 +239,19 @@ fn make_room(core: &mut Core) -> bool {
     core.workers() > 1 && core.room_for_read(1).is_ok()
 }
 
-/// Hands in a run of the first worker; returns the run if it is refused.
-fn record(alloc: Global, core: &mut Core, run: EndedRun) -> (Tried, Option<EndedRun>) {
-    if core.workers() == 0 || core.counts(0).steps >= COUNT_LIMIT {
-        return (Tried::Wrong, None);
-    }
-    let NextStep::Run { .. } = core.doing(0) else {
-        return (Tried::Wrong, None);
+/// Hands in the run that the first worker owes, and keeps the run if it is refused.
+fn record(alloc: Global, core: &mut Core, kept: &mut Option<EndedRun>) -> Tried
+    requires { IsDue 0 Record core.old }
+{
+    let Some(run) = kept.take() else {
+        return Tried::Wrong;
     };
     match core.record(alloc, 0, run) {
-        Ok(_) => (Tried::Done, None),
-        Err(Refused { fault, run }) => (refused(fault == RecordFault::Memory), Some(run)),
+        Ok(_) => Tried::Done,
+        Err(Refused { fault, run }) => {
+            *kept = Some(run);
+            refused(fault == RecordFault::Memory)
+        }
     }
 }
 
@@ -267,22 +265,19 @@ impl Attempt for Recording {
                 Tried::Refused
             };
         }
-        let Some(run) = self.run.take() else {
+        if self.core.workers() == 0 || self.core.counts(0).steps >= COUNT_LIMIT {
+            return Tried::Wrong;
+        }
+        let NextStep::Run { .. } = self.core.doing(0) else {
             return Tried::Wrong;
         };
-        let (tried, back) = record(alloc, &mut self.core, run);
-        self.run = back;
-        tried
+        record(alloc, &mut self.core, &mut self.run)
     }
 }
 
 /// The ended run of a call of PUT.
 fn ended_put(alloc: Global) -> Result<EndedRun, NotMade> {
-    let mut run = run_of(alloc, PUT, K_1)?;
-    match run.go()? {
-        Pause::Ended => Ok(run.finish()),
-        Pause::Ask(_) => Err(NotMade),
-    }
+    ended(run_of(alloc, PUT, K_1)?)
 }
 
 /// Makes the step that a worker owes, who runs PUT.
@@ -323,33 +318,28 @@ fn follow(
     Ok(())
 }
 
+/// Whether a storage has the value of PUT at its key.
+fn has_put(store: &Store) -> bool {
+    let mut key = [0; 32];
+    key[31] = 1;
+    match store.get(&Key::new(key)) {
+        Some(value) => value.bytes() == b"\x01".as_slice(),
+        None => false,
+    }
+}
+
 /// Whether a core is done, and has the value of PUT at its key.
 fn is_put(alloc: Global, core: &Core) -> Result<bool, NotMade> {
     if !core.done() {
         return Ok(false);
     }
-    let outcome = core.outcome(alloc)?;
-    let mut key = [0; 32];
-    key[31] = 1;
-    Ok(match outcome.store.get(&Key::new(key)) {
-        Some(value) => value.bytes() == b"\x01".as_slice(),
-        None => false,
-    })
+    Ok(has_put(&core.outcome(alloc)?.store))
 }
 
-/// A core of two calls of PUT, of which two workers have one each.
-fn core_of_two(rt: &impl Abort, alloc: Global) -> Result<Core, NotMade> {
+/// A core of two calls of PUT, for two workers.
+fn core_of_two(alloc: Global) -> Result<Core, NotMade> {
     let job = job_of(alloc, &[(PUT, K_1); 2])?;
-    let mut core = Core::new(alloc, job, 2)?;
-    follow(rt, alloc, &mut core, &[0, 1, 1])?;
-    Ok(core)
-}
-
-/// Whether room for a read is made, and a run is taken.
-fn is_recorded(alloc: Global, way: Way, recording: &mut Recording) -> Result<bool, NotMade> {
-    let has_room = comes_right(alloc, recording, way)?;
-    let is_taken = comes_right(alloc, recording, way)?;
-    Ok(has_room && is_taken)
+    Ok(Core::new(alloc, job, 2)?)
 }
 
 /// Whether the workers make the rest of the steps, and reach the value of PUT.
@@ -358,16 +348,35 @@ fn ends_as_put(rt: &impl Abort, alloc: Global, core: &mut Core) -> Result<bool, 
     is_put(alloc, core)
 }
 
-/// Whether room for a read is made, and a run is taken; and whether the workers then make the rest of the steps.
+/// Whether room for a read is made, and a run is taken, once each worker has a call; and whether the workers then make the rest of
+/// the steps.
+fn is_recorded(
+    rt: &impl Abort,
+    alloc: Global,
+    way: Way,
+    recording: &mut Recording,
+) -> Result<bool, NotMade> {
+    follow(rt, alloc, &mut recording.core, &[0, 1, 1])?;
+    let has_room = comes_right(alloc, recording, way);
+    let is_taken = comes_right(alloc, recording, way);
+    Ok(has_room && is_taken && ends_as_put(rt, alloc, &mut recording.core)?)
+}
+
+/// The same for a core of its own.
 pub fn cores(rt: &impl Abort, alloc: Global, way: Way) -> Result<bool, NotMade> {
-    let run = ended_put(alloc)?;
-    let mut recording = Recording {
-        core: core_of_two(rt, alloc)?,
-        has_room: false,
-        run: Some(run),
-    };
-    let is_right = is_recorded(alloc, way, &mut recording)?;
-    Ok(is_right && ends_as_put(rt, alloc, &mut recording.core)?)
+    let run = Some(ended_put(alloc)?);
+    let core = core_of_two(alloc)?;
+    let has_room = false;
+    is_recorded(
+        rt,
+        alloc,
+        way,
+        &mut Recording {
+            core,
+            has_room,
+            run,
+        },
+    )
 }
 
 /// A block that is driven by its list of worker numbers.
@@ -390,19 +399,23 @@ impl Attempt for Driving<'_> {
     }
 }
 
+/// Whether a block is driven to the right outcome in the end.
+fn is_outcome_right(alloc: Global, way: Way, driving: &mut Driving) -> Result<bool, NotMade> {
+    let is_made = comes_right(alloc, driving, way);
+    Ok(match &driving.outcome {
+        Some(outcome) => is_made && has_text(alloc, outcome, driving.row.text)?,
+        None => false,
+    })
+}
+
 /// Whether a row has its right outcome in the end.
 fn is_driven(alloc: Global, way: Way, row: &Row) -> Result<bool, NotMade> {
-    let job = job_of(alloc, row.calls)?;
     let mut driving = Driving {
-        job,
+        job: job_of(alloc, row.calls)?,
         row,
         outcome: None,
     };
-    let is_made = comes_right(alloc, &mut driving, way)?;
-    Ok(match &driving.outcome {
-        Some(outcome) => is_made && has_text(alloc, outcome, row.text)?,
-        None => false,
-    })
+    is_outcome_right(alloc, way, &mut driving)
 }
 
 /// Whether blocks have their right outcomes in the end.
