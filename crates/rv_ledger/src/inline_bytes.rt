@@ -2,7 +2,6 @@
 //! one takes no memory.
 
 ghost use Rattle.std.specs.Prelude.{◌≡◌, ◌≤◌, ◌↔◌, ◌++◌, ◌==◌, [], drop, IsSome, IfSome, IsTrue, length, take};
-ghost use Rattle.std.specs.Option.{option_copied};
 ghost use Rattle.std.proofs.Common.{rules};
 ghost use Rattle.std.specs.Cmp.Rules.{comparing};
 ghost use Rattle.std.specs.Cmp.Lexicographic.{pointwise};
@@ -92,16 +91,6 @@ impl<const LIMIT: usize> InlineBytes<LIMIT> {
         InlineBytes {
             len: self.len,
             room: self.room,
-        }
-    }
-
-    /// An equal byte string, or None for None.
-    pub fn copied(bytes: Option<&InlineBytes<LIMIT>>) -> Option<InlineBytes<LIMIT>>
-        ensures { result ≡ option_copied bytes.entry }
-    {
-        match bytes {
-            Some(bytes) => Some(bytes.copy()),
-            None => None,
         }
     }
 }

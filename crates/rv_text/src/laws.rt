@@ -5,7 +5,7 @@ ghost use Rattle.rv_text.specs.Back.{IsReadBack};
 use rv_isa::decode;
 
 /// A law: the text of a word is a line of source, without a label, that stands for just that word.
-pub fn text_is_read_back(word: u32)
+pub(crate) fn text_is_read_back(word: u32)
     ensures { IsReadBack word }
 {
     let _instr = decode(word);

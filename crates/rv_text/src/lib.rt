@@ -14,5 +14,4 @@ pub use again::{assembled_again, program_assembled_again, words_assembled_again}
 pub use assembler::assemble;
 pub use disassembler::disassemble;
 pub use fault::{AsmCause, AsmError};
-pub use laws::text_is_read_back;
 pub use rv_program::Program;

@@ -23,7 +23,7 @@ pub struct EmptyBuffer {
 
 impl EmptyBuffer {
     /// A buffer in which nothing waits. Refused if memory ran out.
-    pub fn new(alloc: Global) -> Result<EmptyBuffer, AllocError> {
+    pub(crate) fn new(alloc: Global) -> Result<EmptyBuffer, AllocError> {
         let buffer = TextBuffer::new(alloc)?;
         Ok(EmptyBuffer { buffer })
     }

@@ -25,14 +25,14 @@ impl KeptBytes {
     ghost use Rattle.std.specs.Prelude.{◌≡◌, []};
 
     /// Bytes, which are moved in.
-    pub fn of(bytes: Vec<u8>) -> KeptBytes
+    pub(crate) fn of(bytes: Vec<u8>) -> KeptBytes
         ensures { result ≡ bytes.items }
     {
         KeptBytes { bytes }
     }
 
     /// No bytes.
-    pub fn none(alloc: Global) -> KeptBytes
+    pub(crate) fn none(alloc: Global) -> KeptBytes
         ensures { result ≡ [] }
     {
         KeptBytes {

@@ -77,7 +77,7 @@ impl ProgramTable {
     }
 
     /// Frees the program under a name. Nothing changes if there is none.
-    pub fn remove(&mut self, name: &Key)
+    pub(crate) fn remove(&mut self, name: &Key)
         ensures { self.new ≡ map.remove self.old name.now }
     {
         let _ = self.entries.remove(name);

@@ -52,7 +52,7 @@ impl<H: JobSource> Core<H> {
     }
 
     /// Like `read`, but the caller lends what the storage before the block has at the key.
-    pub fn read_over(&mut self, worker: usize, key: &Key, base: Option<LentValue>) -> ReadResult
+    fn read_over(&mut self, worker: usize, key: &Key, base: Option<LentValue>) -> ReadResult
         requires due { IsDue worker (steps.ReadKey key.now) self.old }
         requires room { HasReadRoom worker self.old }
         requires base { lent_content base ≡ finite.get self.old.job.store key.now }
@@ -68,9 +68,10 @@ impl<H: JobSource> Core<H> {
             .read_from_map(base, &self.map, &mut self.scheduler, worker, call, key)
     }
 
-    /// Like `read_over`. Then the answer that is kept and the one that is handed out share a list of the versions that
-    /// the read passed. They share it with the worker's last read of the key if that passed the same versions, otherwise
-    /// with its next one. So it may take memory, but it does not refuse: if memory ran out, they keep lists of their own.
+    /// Like `read`, but the caller lends what the storage before the block has at the key. Then the answer that is kept and
+    /// the one that is handed out share a list of the versions that the read passed. They share it with the worker's last
+    /// read of the key if that passed the same versions, otherwise with its next one. So it may take memory, but it does not
+    /// refuse: if memory ran out, they keep lists of their own.
     pub fn read_sharing(&mut self, worker: usize, key: &Key, base: Option<LentValue>) -> ReadResult
         requires due { IsDue worker (steps.ReadKey key.now) self.old }
         requires room { HasReadRoom worker self.old }

@@ -21,7 +21,7 @@ const RUNNING: u64 = 0;
 const DONE: u64 = 1;
 
 /// The rule of the cell: running or done, and no way back from done. A pass knows what it saw last.
-pub struct OneWay;
+pub(crate) struct OneWay;
 
 impl Protocol<[u64; 1], u64> for OneWay {
     ghost holds = { IsOneWay };
@@ -67,7 +67,7 @@ impl DoneCell {
 
     /// Whether the cell shows done. A pass that has seen done sees it at every later look.
     #[tactic(auto, using(crate::proofs::Ways::looks))]
-    pub fn shows_done<R: Wait>(&self, rt: &R, pass: &mut DonePass) -> bool
+    pub(crate) fn shows_done<R: Wait>(&self, rt: &R, pass: &mut DonePass) -> bool
         requires cell { IsPassOf self.now pass.old }
         ensures cell { IsSamePass pass.old pass.new }
         ensures stays { cell_view pass.old ≡ 1 → result ≡ true }

@@ -63,7 +63,7 @@ impl fmt::Display for RunFault {
 }
 
 /// A fault that shows outside the lock, and is then written under it.
-#[derive(Clone, Copy, Debug)]
+#[derive(Clone, Copy)]
 pub(crate) enum OutsideFault {
     /// Memory ran out.
     Memory,

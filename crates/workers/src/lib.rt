@@ -16,7 +16,7 @@ mod worker;
 pub use answer::settle;
 pub use book::{AllDone, Asked, Book, JobName, Share, WrittenFault};
 pub use chain::{Chain, ChainFault};
-pub use done_cell::{DoneCell, DonePass, LOOK_LIMIT, OneWay};
+pub use done_cell::{DoneCell, DonePass, LOOK_LIMIT};
 pub use executor::Executor;
 pub use fault::RunFault;
 pub use gate::{Gate, Open, Spin};

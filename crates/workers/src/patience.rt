@@ -45,7 +45,7 @@ const CROWDED: u32 = 448;
 ///
 /// If it often waits for the lock, the calls are short, and each additional worker makes the others slower. So it then backs off
 /// after each task: it stays away before it asks for the next one. Worker 0 never backs off, so that one worker keeps working.
-#[derive(Clone, Copy, Debug)]
+#[derive(Clone, Copy)]
 pub(crate) struct Patience {
     looks: usize,
     spins: u32,

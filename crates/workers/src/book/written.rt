@@ -44,7 +44,7 @@ impl WrittenFault {
 
 /// A fault that was met outside the lock, and the one that the book has since: this one, or an earlier one. Only a book makes
 /// one, when it gets the fault.
-#[derive(Clone, Copy, Debug)]
+#[derive(Clone, Copy)]
 pub(crate) struct MetFault {
     met: OutsideFault,
     written: WrittenFault,

@@ -5,7 +5,7 @@ ghost use Rattle.std.specs.Prelude.{◌≡◌};
 use crate::book::{MetFault, WrittenFault};
 
 /// Why a worker makes no further step. The fault is written.
-#[derive(Clone, Copy, Debug)]
+#[derive(Clone, Copy)]
 pub(crate) enum WorkFault {
     /// A step call was refused.
     Refused(WrittenFault),
