@@ -1,6 +1,7 @@
 """The library for C: the examples in C, C++ and Python by the archive and by the shared object, its header, the names that it shows,
 and random sessions beside `rvstm chain`."""
 
+import ctypes
 import re
 from collections.abc import Sequence
 from functools import partial
@@ -52,6 +53,13 @@ def header(run: Run) -> None:
         same((done.status, done.errors), (0, ""), words[0])
 
 
+def version(run: Run) -> None:
+    """The library's version is the header's."""
+    declared = re.search(r"^#define RVSTM_VERSION (\d+)$", (INCLUDE / "rvstm.h").read_text(encoding="utf-8"), re.M)
+    assert declared
+    same(ctypes.CDLL(str(folder(run) / "librvstm.so")).rvstm_version(), int(declared[1]))
+
+
 def shown_names(run: Run) -> None:
     """The functions of the header are all that the archive and the shared object show."""
     declared = sorted(re.findall(r"^[a-z].* (rvstm_[a-z_]*)\(", (INCLUDE / "rvstm.h").read_text(encoding="utf-8"), re.M))
@@ -90,6 +98,7 @@ def cases() -> list[Case]:
         *found,
         Case("library: embed.py", in_python, needs_library=True),
         Case("library: its header", header, (Tool.CC, Tool.CPP)),
+        Case("library: its version", version, needs_library=True),
         Case("library: the names that it shows", shown_names, (Tool.NM,), needs_library=True),
         Case("library: two copies in one program", two_copies, (Tool.CC, Tool.NM), needs_library=True),
         Case("library: random sessions beside chain", beside_chain, (Tool.CC, Tool.NM), needs_library=True, cost=8),

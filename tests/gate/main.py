@@ -9,7 +9,10 @@ import time
 from collections.abc import Sequence
 from pathlib import Path
 
-from gate import authors, commands, examples, frames, large, library, many, nodes, outside, pages, products, rows, scheduling, sessions, stumbles, tables
+from gate import (
+    authors, commands, examples, failing, frames, large, library, library_rows, many, nodes, outside, pages, products, replacing, rows,
+    scheduling, sessions, stumbles, tables,
+)
 from gate.calls import tool_words
 from gate.cases import TOP, Case, Setting
 from gate.scheduling import Outcome
@@ -22,7 +25,10 @@ SLOWNESS = 8
 
 def all_cases() -> list[Case]:
     """All cases. No two have one name."""
-    groups = (authors, commands, tables, many, large, examples, rows, products, stumbles, sessions, frames, nodes, outside, library, pages)
+    groups = (
+        authors, commands, tables, many, large, examples, rows, products, failing, replacing, stumbles, sessions, frames, nodes, outside,
+        library, library_rows, pages,
+    )
     return [case for group in groups for case in group.cases()]
 
 

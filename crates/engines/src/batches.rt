@@ -41,7 +41,7 @@ const LEAST_STEPS: u64 = 16_384;
 const STEPS_OF_A_THREAD: u64 = 64;
 
 /// The calls that run next by threads.
-#[derive(Clone, Copy, Debug)]
+#[derive(Clone, Copy)]
 pub(crate) struct Batch {
     /// How many.
     pub(crate) calls: usize,
@@ -50,7 +50,7 @@ pub(crate) struct Batch {
 }
 
 /// What the calls of a frame took so far. It sets how many of the others run by threads next. No result depends on it.
-#[derive(Clone, Copy, Debug)]
+#[derive(Clone, Copy)]
 pub(crate) struct Batches {
     workers: usize,
     /// What the calls of the last batch took.

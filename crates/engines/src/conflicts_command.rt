@@ -18,7 +18,7 @@ use std::alloc::Global;
 /// Reads a block file to its end and parses it. Opens, reads and loads its programs in the order of their numbers. Then runs
 /// the calls in order and writes which of them wait for which. The first refusal ends it, and the refusals are those of
 /// `seq_to`. If the output is refused, a beginning of the text was written; before any other refusal nothing was written.
-pub fn conflicts_to<R: Source, P: Programs, W: Destination>(
+pub(crate) fn conflicts_to<R: Source, P: Programs, W: Destination>(
     alloc: Global,
     block: &mut R,
     programs: &mut P,

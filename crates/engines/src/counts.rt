@@ -22,7 +22,7 @@ pub struct RunCounts {
 }
 
 /// What some workers did together.
-#[derive(Clone, Copy, Debug)]
+#[derive(Clone, Copy)]
 struct Sums {
     steps: u128,
     asks: u128,

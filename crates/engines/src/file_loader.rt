@@ -16,7 +16,7 @@ use std::sync::Arc;
 
 /// What loads programs from their files.
 #[derive(Drop)]
-pub struct FileLoader<'a, P: Programs> {
+pub(crate) struct FileLoader<'a, P: Programs> {
     /// The allocator of what it loads.
     pub alloc: Global,
     /// The programs' files.

@@ -33,21 +33,18 @@ pub use asm::file_of_source;
 pub use by_threads::ByThreads;
 pub use chain::{chain_to, durable_chain_to};
 pub use command_lines::{answer_words, exit_code, status};
-pub use conflicts_command::conflicts_to;
 pub use counts::{RunCounts, write_counts};
 pub use debug::debug_block_to;
 pub use dis::dis_to;
 pub use disk::Disk;
 pub use drive::drive_to;
 pub use fault::{FileFault, InputFault, Refusal, SeqFault};
-pub use file_loader::FileLoader;
 pub use laws::{
     listing_is_assembled_again, migrated_runs_alike, run_prints_what_seq_prints,
     same_files_print_the_same,
 };
-pub use migrate::migrated_file;
 pub use program_source::Programs;
-pub use reporting::{report, write_refusal};
+pub use reporting::report;
 pub use run::run_to;
 pub use seq::seq_to;
 pub use stores::{SessionStores, SystemStores};

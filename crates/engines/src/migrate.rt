@@ -13,7 +13,7 @@ use std::alloc::Global;
 
 /// Reads a block file of format 1 to its end and returns the file of format 2 that says the same. Refused with the file's first
 /// fault, which is BadHeader for a file of another format, as Unreadable if a read failed, and as Memory if memory ran out.
-pub fn migrated_file<R: Source>(alloc: Global, block: &mut R) -> Result<Vec<u8>, Refusal>
+pub(crate) fn migrated_file<R: Source>(alloc: Global, block: &mut R) -> Result<Vec<u8>, Refusal>
     ensures ok { IfOk result (λ file. IfSome (R.remaining block.old) (λ bytes. migrated bytes ≡ Ok file.items)) }
     ensures err { IfErr result (λ e. IfSome (R.remaining block.old) (λ bytes. IsBlockFault (R.may_fail block.old) (migrated bytes) e)) }
 {

@@ -15,7 +15,7 @@ use std::alloc::Global;
 const PART_BYTES: usize = 32_768;
 
 /// Why a file is not read.
-#[derive(Clone, Copy, Debug, PartialEq, Eq)]
+#[derive(Clone, Copy, PartialEq, Eq)]
 enum ReadFault {
     /// A read failed.
     Unreadable,

@@ -23,7 +23,10 @@ pub fn report<W: Destination>(refusal: &Refusal, out: &mut W) -> u8
 /// Writes the line of a refusal, `rvstm: ` and the refusal's text. The line is formed in full before anything is written, and
 /// takes no memory. Refused as Io if a write failed, and as WroteNothing if a write took no bytes; then a beginning of the line
 /// was written, and not all of it. It is never refused as Memory.
-pub fn write_refusal<W: Destination>(refusal: &Refusal, out: &mut W) -> Result<(), WriteFault>
+pub(crate) fn write_refusal<W: Destination>(
+    refusal: &Refusal,
+    out: &mut W,
+) -> Result<(), WriteFault>
     ensures written { OnOk result (Appends (W.contents out.old) (W.contents out.new) (refusal_line refusal.now)) }
     ensures cut { OnErr result (AppendsPart (W.contents out.old) (W.contents out.new) (refusal_line refusal.now)) }
     ensures cause { IfErr result (W.may_refuse out.old) }

@@ -17,7 +17,7 @@ const SUM_COST: u64 = 600;
 pub(crate) const WORKER_COST: u64 = 10_000;
 
 /// What some calls took.
-#[derive(Clone, Copy, Debug)]
+#[derive(Clone, Copy)]
 pub(crate) struct Shown {
     /// How many they were.
     calls: u64,

@@ -44,8 +44,6 @@ mod rv_text_calls;
 #[cfg(test)]
 mod source_lines;
 #[cfg(test)]
-mod system_files_calls;
-#[cfg(test)]
 mod validate_calls;
 #[cfg(test)]
 mod version_arena_calls;

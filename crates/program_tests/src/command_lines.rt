@@ -1,9 +1,10 @@
 //! The program over a disk in memory: the order of what is opened.
 
-use crate::answers::answer_to;
+use crate::answers::answer_over;
 use crate::asserts::assert_right;
 use crate::echo::{ECHO_FILE, ECHO_SOURCE};
 use crate::fake_disk::Stored;
+use crate::fake_stores::FakeStores;
 use std::alloc::Global;
 use std::io;
 use std::process::Abort;
@@ -11,19 +12,8 @@ use std::sync::Wait;
 use std::test::Fail;
 use std::thread::Threads;
 
-/// No request fails.
-const NONE: usize = usize::MAX;
-
 /// A block of one call.
-pub const BLOCK: &str = "rvblock 1\nprogram 0 echo.elf\ncall 0 100 0102\n";
-
-/// What it prints.
-pub const RESULT: &str = "call 0 returned gas 13 pc 00010004 out 0102\n\
-    regs 00000000 00000000 00110000 00000000 00000000 00000000 00000000 00000000 \
-    00000000 00000000 00100000 00000002 00000000 00000000 00000000 00000000 \
-    00000000 00000003 00000000 00000000 00000000 00000000 00000000 00000000 \
-    00000000 00000000 00000000 00000000 00000000 00000000 00000000 00000000\n\
-    end\n";
+const BLOCK: &str = "rvblock 1\nprogram 0 echo.elf\ncall 0 100 0102\n";
 
 /// The other files of the disk: the source of the echo, blocks and schedules.
 const FILES: &[(&str, &str)] = &[
@@ -44,8 +34,8 @@ const FILES: &[(&str, &str)] = &[
 ];
 
 /// A disk with the echo program at two paths, and the other files.
-pub fn disk_of_echo(alloc: Global) -> io::Result<Stored> {
-    let stored = Stored::new(alloc, NONE);
+fn disk_of_echo(alloc: Global) -> io::Result<Stored> {
+    let stored = Stored::new(alloc);
     stored.put(alloc, "echo.elf", ECHO_FILE)?;
     stored.put(alloc, "other.elf", ECHO_FILE)?;
     for (path, text) in FILES {
@@ -115,7 +105,8 @@ fn is_asked<R: Threads + Wait + Sync>(
     requests: &str,
 ) -> io::Result<bool> {
     let stored = disk_of_echo(alloc)?;
-    let _ = answer_to(rt, alloc, line.as_bytes(), &stored);
+    let mut stores = FakeStores::new(alloc);
+    let _ = answer_over(rt, alloc, line.as_bytes(), &stored, &mut stores, b"");
     Ok(stored.was_asked(requests))
 }
 

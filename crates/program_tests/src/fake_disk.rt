@@ -1,17 +1,14 @@
-//! A disk in memory, which keeps a record of what it was asked, and of which one request can fail.
+//! A disk in memory, which keeps a record of what it was asked.
 
 ghost use Rattle.std.specs.Prelude.{⊤, None};
 
 use byte_streams::Source;
 use engines::Disk;
 use std::alloc::{AllocError, Global};
-use std::cell::{Cell, Ref, RefCell, RefMut};
+use std::cell::{Ref, RefCell, RefMut};
 use std::io;
 use std::io::{Read, Write};
 use system_files::OutputDisk;
-
-/// The most bytes that a write takes.
-const WRITE_SIZE: usize = 40;
 
 /// A file of the disk.
 #[derive(Drop)]
@@ -64,29 +61,14 @@ pub struct Stored {
     pub files: RefCell<Vec<StoredFile>>,
     /// What it was asked, a line each.
     pub requests: RefCell<String>,
-    /// How many requests to change something it was asked.
-    pub changes: Cell<usize>,
-    /// The number of the request to change something that fails.
-    pub failing: usize,
-    /// Whether a write that fails takes nothing instead.
-    pub takes_nothing: bool,
-    /// Whether the new files on it were left over by other processes.
-    pub left_over: bool,
-    /// The error of asking what a path leads to, if that fails.
-    pub lost_path: Option<io::ErrorKind>,
 }
 
 impl Stored {
-    /// A disk with no files, of which one change fails.
-    pub fn new(alloc: Global, failing: usize) -> Stored {
+    /// A disk with no files.
+    pub fn new(alloc: Global) -> Stored {
         Stored {
             files: RefCell::new(Vec::new(alloc)),
             requests: RefCell::new(String::new(alloc)),
-            changes: Cell::new(0),
-            failing,
-            takes_nothing: false,
-            left_over: false,
-            lost_path: None,
         }
     }
 
@@ -134,29 +116,10 @@ impl Stored {
         Ok(())
     }
 
-    /// How many files there are.
-    pub fn count(&self) -> usize {
-        match self.files() {
-            Ok(files) => files.len(),
-            Err(_) => 0,
-        }
-    }
-
     /// Whether this was asked, a line each.
     pub fn was_asked(&self, requests: &str) -> bool {
         match self.requests.try_borrow() {
             Ok(asked) => asked.as_str() == requests,
-            Err(_) => false,
-        }
-    }
-
-    /// Whether a file has these bytes.
-    pub fn has_file(&self, path: &str, bytes: &[u8]) -> bool {
-        match self.files() {
-            Ok(files) => match file_at(files.as_slice(), path) {
-                Some(file) => file.bytes.as_slice() == bytes,
-                None => false,
-            },
             Err(_) => false,
         }
     }
@@ -167,16 +130,6 @@ impl Stored {
             Ok(mut requests) => Ok(push_request(&mut requests, kind, path)?),
             Err(_) => Err(busy()),
         }
-    }
-
-    /// Counts a request to change something. Refused if it is the one that fails.
-    fn change(&self) -> io::Result<()> {
-        let number = self.changes.get();
-        self.changes.set(number.wrapping_add(1));
-        if number == self.failing {
-            return Err(io::Error::from(io::ErrorKind::Other));
-        }
-        Ok(())
     }
 
     /// Whether a file has a path.
@@ -272,16 +225,8 @@ pub struct FakeWriter<'a> {
 
 impl<'a> Write for FakeWriter<'a> {
     fn write(&mut self, buf: &[u8]) -> io::Result<usize> {
-        if let Err(error) = self.stored.change() {
-            return if self.stored.takes_nothing {
-                Ok(0)
-            } else {
-                Err(error)
-            };
-        }
-        let count = buf.len().min(WRITE_SIZE);
-        self.stored.append(self.path.as_str(), &buf[..count])?;
-        Ok(count)
+        self.stored.append(self.path.as_str(), buf)?;
+        Ok(buf.len())
     }
 
     fn flush(&mut self) -> io::Result<()> {
@@ -309,19 +254,12 @@ impl<'a> FakeDisk<'a> {
     /// Opens an empty file at a path, in place of the files that have it.
     fn create(&self, path: &str) -> io::Result<FakeWriter<'a>> {
         self.stored.note("create", path)?;
-        self.stored.change()?;
         self.stored.drop_file(self.alloc, path)?;
         self.stored.put(self.alloc, path, b"")?;
         Ok(FakeWriter {
             stored: self.stored,
             path: String::from_str(self.alloc, path)?,
         })
-    }
-
-    /// Removes the files with a path.
-    fn remove_at(&self, path: &str) -> io::Result<()> {
-        self.stored.note("remove", path)?;
-        self.stored.drop_file(self.alloc, path)
     }
 }
 
@@ -341,15 +279,12 @@ impl<'a> OutputDisk for FakeDisk<'a> {
         self.create(path)
     }
 
-    fn remove_left_over(&mut self, path: &str) -> io::Result<()> {
-        if !self.stored.left_over {
-            return Err(io::Error::from(io::ErrorKind::AlreadyExists));
-        }
-        self.remove_at(path)
+    fn remove_left_over(&mut self, _path: &str) -> io::Result<()> {
+        Err(io::Error::from(io::ErrorKind::AlreadyExists))
     }
 
     fn is_one_file(&self, left: &str, right: &str) -> io::Result<bool> {
-        Ok(behind_link(left) == behind_link(right))
+        Ok(link_target(left) == link_target(right))
     }
 
     fn write_into(&mut self, path: &str, bytes: &[u8]) -> io::Result<()> {
@@ -358,34 +293,24 @@ impl<'a> OutputDisk for FakeDisk<'a> {
     }
 
     fn file_path(&self, alloc: Global, path: &str) -> io::Result<Option<String>> {
-        if let Some(kind) = self.stored.lost_path {
-            return Err(io::Error::from(kind));
-        }
-        if path.starts_with("/dev/") {
-            return Ok(None);
-        }
-        Ok(Some(String::from_str(alloc, behind_link(path))?))
+        Ok(Some(String::from_str(alloc, link_target(path))?))
     }
 
     fn sync(&mut self, _file: &FakeWriter<'a>) -> io::Result<()> {
-        self.stored.change()
+        Ok(())
     }
 
     fn rename(&mut self, _file: &FakeWriter<'a>, from: &str, to: &str) -> io::Result<()> {
         self.stored.note("rename", to)?;
-        self.stored.change()?;
         self.stored.move_file(self.alloc, from, to)
     }
 
-    fn remove(&mut self, file: &FakeWriter<'a>, path: &str) -> io::Result<()> {
-        if file.path.as_str() != path {
-            return Err(io::Error::from(io::ErrorKind::NotFound));
-        }
-        self.remove_at(path)
+    fn remove(&mut self, _file: &FakeWriter<'a>, path: &str) -> io::Result<()> {
+        self.stored.drop_file(self.alloc, path)
     }
 }
 
 /// The path that a link leads to: without `link/` at its beginning.
-fn behind_link(path: &str) -> &str {
+fn link_target(path: &str) -> &str {
     path.strip_prefix("link/").unwrap_or(path)
 }

@@ -31,25 +31,8 @@ pub fn answer_in<R: Threads + Wait + Sync>(
     input: &[u8],
 ) -> Result<Answer, AllocError> {
     let line = format!(in alloc; "rvstm chain{options} --store f")?;
-    let stored = Stored::new(alloc, usize::MAX);
-    let mut input = input;
-    let mut out = Vec::new(alloc);
-    let mut errors = Vec::new(alloc);
-    let status = answer_over(
-        rt,
-        alloc,
-        line.as_str().as_bytes(),
-        &stored,
-        stores,
-        &mut input,
-        &mut out,
-        &mut errors,
-    );
-    Ok(Answer {
-        status,
-        out,
-        errors,
-    })
+    let line = line.as_str().as_bytes();
+    Ok(answer_over(rt, alloc, line, &Stored::new(alloc), stores, input))
 }
 
 /// The requests of the next session over the file: the last answer, and the storage.
@@ -78,7 +61,7 @@ fn goes_on<R: Threads + Wait + Sync>(rt: &R, alloc: Global) -> Result<bool, Allo
 }
 
 #[test]
-fn a_session_goes_on_behind_a_power_cut(rt: HostRuntime) -> Result<(), Fail> {
+fn a_session_continues_after_a_power_cut(rt: HostRuntime) -> Result<(), Fail> {
     assert!(rt; goes_on(&rt, rt.alloc())?);
     Ok(())
 }

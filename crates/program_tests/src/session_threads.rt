@@ -113,7 +113,7 @@ fn reading_session(alloc: Global) -> Result<Vec<u8>, Fail> {
 }
 
 #[test]
-fn calls_that_read_behind_calls_that_work(rt: HostRuntime) -> Result<(), Fail> {
+fn calls_that_read_after_calls_that_work(rt: HostRuntime) -> Result<(), Fail> {
     let input = reading_session(rt.alloc())?;
     let input = input.as_slice();
     let wanted = printed_by(rt.alloc(), &mut InOrder, SETTINGS, input)?;

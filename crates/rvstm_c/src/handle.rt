@@ -1,6 +1,5 @@
 //! A handle, which owns a session.
 
-#[cfg(test)]
 pub(crate) mod zeros;
 
 ghost use Rattle.std.specs.Prelude.{◌≡◌, IsSome, None, Option, Some, is_some};

@@ -11,8 +11,6 @@ mod refusal;
 mod session;
 mod settings;
 mod status;
-#[cfg(test)]
-mod tests;
 mod whole;
 
 ghost use Rattle.std.specs.Prelude.{◌≡◌, length, None, Some};
@@ -26,6 +24,7 @@ use copying::copy_text;
 pub use given::Given;
 use given::{bytes_of, status_of};
 pub use handle::Handle;
+pub use handle::zeros::zeros;
 use handle::{put_session, take_session};
 pub use refusal::RefusalParts;
 use refusal::{NO_PARTS, parts_of};
@@ -33,9 +32,7 @@ pub use session::EmbeddedSession;
 use session_turns::Settings;
 pub use settings::SettingsForC;
 use settings::settings_of;
-pub use status::{
-    ALREADY_OPEN, BAD_SETTINGS, CLOSED, DONE, FAILED, NO_MEMORY, REFUSED, SHORT_BUFFER,
-};
+use status::{ALREADY_OPEN, BAD_SETTINGS, CLOSED, DONE, NO_MEMORY};
 use std::alloc::{AllocFailed, Global};
 
 /// The version: major * 1,000,000 + minor * 1,000 + patch.

@@ -270,13 +270,13 @@ rules, programs, height and digest are as before it, which the requests after it
 Of TESTS, only those of the module second_tries are run. Each tries a refused call a second time, and must pass. It needs a C compiler,
 for the library that refuses.
 """,
-    "crates/rvstm/out/rvstm crates/engine_tests/out/engine_tests_tests",
+    "crates/rvstm/out/rvstm crates/program_tests/out/program_tests_tests",
     run,
     (
         options.RVSTM,
         argument(
             "tests", metavar="TESTS", type=finding.absolute, nargs="?",
-            help="the tests of library calls, as `rt test` in crates/engine_tests leaves them in out/engine_tests_tests",
+            help="the tests of library calls, as `rt test` in crates/program_tests leaves them in out/program_tests_tests",
         ),
     ),
 )

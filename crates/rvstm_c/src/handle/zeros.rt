@@ -5,8 +5,8 @@ ghost use Rattle.std.specs.Prelude.{◌≡◌, None};
 use super::Handle;
 use std::ptr::null_mut;
 
-/// A handle whose bytes are all zero.
-pub(crate) fn zeros() -> Handle
+/// A handle whose bytes are all zero. It has no session.
+pub fn zeros() -> Handle
     ensures { result.value ≡ None }
 {
     Handle {

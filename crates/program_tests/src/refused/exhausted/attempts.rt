@@ -32,8 +32,12 @@ pub enum Tried {
 }
 
 /// The result of a try that was refused: whether it was refused as Memory, and what had to stay is as it was.
-pub fn refused(stands: bool) -> Tried {
-    if stands { Tried::Refused } else { Tried::Wrong }
+pub fn refused(is_right: bool) -> Tried {
+    if is_right {
+        Tried::Refused
+    } else {
+        Tried::Wrong
+    }
 }
 
 /// The result of a try that was not refused: whether the answer is right.

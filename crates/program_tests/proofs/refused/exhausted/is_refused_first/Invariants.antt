@@ -1,5 +1,5 @@
 use Rattle.std.specs.Prelude.{None}
-use Rattle.engine_tests.proofs.refused.exhausted.is_refused_first.Given as goal
+use Rattle.program_tests.proofs.refused.exhausted.is_refused_first.Given as goal
 
 abbrev pub ghosts-tried_on_spare : goal.ghosts-tried_on_spare
 ghosts-tried_on_spare g a = record { job = a.job.now; work_limit = None }

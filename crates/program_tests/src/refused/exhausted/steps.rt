@@ -208,8 +208,8 @@ impl Attempt for Replay {
         match self.back() {
             Ok(()) => done(self.moment() == TOUCHED_MOMENT - 1),
             Err(fault) => {
-                let stands = self.moment() == TOUCHED_MOMENT;
-                refused(fault == ReplayFault::Memory && stands)
+                let has_stayed = self.moment() == TOUCHED_MOMENT;
+                refused(fault == ReplayFault::Memory && has_stayed)
             }
         }
     }
