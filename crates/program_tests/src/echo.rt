@@ -1,7 +1,4 @@
-//! A program that returns its input, as its source, its file and its listing.
-
-/// Its source.
-pub const ECHO_SOURCE: &str = "  addi a7,x0,3  # RETURN\necall\n";
+//! A program that returns its input, as its file and its listing.
 
 /// Its ELF file: a header, one segment to read and execute at 0x10000, and two words.
 pub const ECHO_FILE: &[u8] = b"\x7fELF\x01\x01\x01\0\0\0\0\0\0\0\0\0\x02\0\xf3\0\

@@ -7,7 +7,7 @@ use crate::asserts::assert_right;
 use crate::echo::{ECHO_FILE, ECHO_LISTING};
 use crate::fake_stores::FakeStores;
 use engines::{Disk, SessionStores, answer_words};
-use std::alloc::Global;
+use std::alloc::{AllocError, Global};
 use std::io;
 use std::io::Sink;
 use std::process::Abort;
@@ -92,21 +92,39 @@ const BLOCK: &str =
 const RESULT: &str =
     "store 0000000000000000000000000000000000000000000000000000000000000001 07\nend\n";
 
-/// Whether a command line over a disk of one file, stores and an input prints a text and nothing else, and ends with 0.
-pub fn answers<T: Threads + Wait + Sync, K: SessionStores>(
+/// What the program answers.
+#[derive(Drop)]
+pub struct Answer {
+    /// The exit status.
+    pub status: u8,
+    /// What is on standard output.
+    pub out: Vec<u8>,
+    /// What is on standard error.
+    pub errors: Vec<u8>,
+}
+
+impl Answer {
+    /// Whether the answer to a command line is this.
+    pub fn is(&self, status: u8, out: &str, errors: &str) -> bool {
+        self.status == status
+            && self.out.as_slice() == out.as_bytes()
+            && self.errors.as_slice() == errors.as_bytes()
+    }
+}
+
+/// What the program answers to a command line over a disk of one file and stores, with these bytes on its input.
+pub fn answer_over<T: Threads + Wait + Sync, K: SessionStores>(
     threads: &T,
     alloc: Global,
     line: &str,
     mut disk: OneFile<'_>,
     stores: &mut K,
-    input: &str,
-    text: &str,
-) -> Result<bool, Fail> {
+    mut input: &[u8],
+) -> Result<Answer, AllocError> {
     let mut words = Vec::new(alloc);
     for word in line.split(' ') {
         words.push(String::from_str(alloc, word)?)?;
     }
-    let mut input: &[u8] = input.as_bytes();
     let (mut out, mut errors) = (Vec::new(alloc), Vec::new(alloc));
     let status = answer_words(
         threads,
@@ -118,7 +136,11 @@ pub fn answers<T: Threads + Wait + Sync, K: SessionStores>(
         &mut out,
         &mut errors,
     );
-    Ok(status == 0 && out.as_slice() == text.as_bytes() && errors.is_empty())
+    Ok(Answer {
+        status,
+        out,
+        errors,
+    })
 }
 
 /// Whether a command line over a disk of one file prints a text and nothing else, and ends with 0.
@@ -131,15 +153,8 @@ fn prints<T: Threads + Wait + Sync>(
     text: &str,
 ) -> Result<bool, Fail> {
     let disk = OneFile { path, bytes };
-    answers(
-        threads,
-        alloc,
-        line,
-        disk,
-        &mut FakeStores::new(alloc),
-        "",
-        text,
-    )
+    let mut stores = FakeStores::new(alloc);
+    Ok(answer_over(threads, alloc, line, disk, &mut stores, b"")?.is(0, text, ""))
 }
 
 #[test]

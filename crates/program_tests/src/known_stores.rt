@@ -6,7 +6,7 @@ ghost use Rattle.session_file.specs.Opening.{IsFresh};
 ghost use Rattle.sqlite_trees.specs.Memory.{memory_view};
 
 use crate::asserts::assert_right;
-use crate::known_disk::{OneFile, answers};
+use crate::known_disk::{OneFile, answer_over};
 use crate::session_files::{DONE, PUT_ONE};
 use engines::SessionStores;
 use session_disk::OpenFault;
@@ -136,15 +136,8 @@ fn keeps<T: Threads + Wait + Sync>(
         path: "",
         bytes: b"",
     };
-    answers(
-        threads,
-        alloc,
-        "rvstm chain --store f",
-        disk,
-        stores,
-        input,
-        text,
-    )
+    let line = "rvstm chain --store f";
+    Ok(answer_over(threads, alloc, line, disk, stores, input.as_bytes())?.is(0, text, ""))
 }
 
 #[test]

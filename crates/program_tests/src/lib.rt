@@ -4,8 +4,6 @@
 #![tactic(auto)]
 
 #[cfg(test)]
-mod answers;
-#[cfg(test)]
 mod areas;
 #[cfg(test)]
 mod asserts;
@@ -16,8 +14,6 @@ mod calls;
 #[cfg(test)]
 mod chains;
 #[cfg(test)]
-mod command_lines;
-#[cfg(test)]
 mod cores;
 #[cfg(test)]
 mod counts;
@@ -25,8 +21,6 @@ mod counts;
 mod debugging;
 #[cfg(test)]
 mod echo;
-#[cfg(test)]
-mod fake_disk;
 #[cfg(test)]
 mod fake_stores;
 #[cfg(test)]

@@ -1,8 +1,7 @@
 //! Sessions one after another over one file: the second continues after a power cut ended the first.
 
-use crate::answers::{Answer, answer_over};
-use crate::fake_disk::Stored;
 use crate::fake_stores::FakeStores;
+use crate::known_disk::{Answer, OneFile, answer_over};
 use std::alloc::{AllocError, Global};
 use std::sync::Wait;
 use std::test::Fail;
@@ -31,8 +30,11 @@ pub fn answer_in<R: Threads + Wait + Sync>(
     input: &[u8],
 ) -> Result<Answer, AllocError> {
     let line = format!(in alloc; "rvstm chain{options} --store f")?;
-    let line = line.as_str().as_bytes();
-    Ok(answer_over(rt, alloc, line, &Stored::new(alloc), stores, input))
+    let disk = OneFile {
+        path: "",
+        bytes: b"",
+    };
+    answer_over(rt, alloc, line.as_str(), disk, stores, input)
 }
 
 /// The requests of the next session over the file: the last answer, and the storage.
