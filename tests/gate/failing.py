@@ -1,14 +1,13 @@
 """Input, output and standard error that fail at any byte: what is refused, and what was printed before."""
 
 from collections.abc import Iterable
-from pathlib import Path
 
-from gate.calls import Ended, Word, command
+from gate.calls import Ended, command
 from gate.cases import Case, Run, same
 from gate.machine import Tool
+from gate.shims import loaded
 from gate.texts import written
 
-SHIM = Path(__file__).with_name("failing_streams.c")
 UNREADABLE = "rvstm: file Unreadable 1\n"
 SOURCE = "  addi a7,x0,3  # RETURN\necall\n"
 """Of a program that returns its input."""
@@ -37,17 +36,15 @@ WRITES = {"fail": "rvstm: output Io 1\n", "none": "rvstm: output WroteNothing 2\
 
 
 def begun(run: Run) -> None:
-    """The files, and the library that lets reads and writes fail."""
+    """The files."""
     for name, text in FILES.items():
         written(run.place / name, text)
     (run.place / "echo.elf").write_bytes(ELF)
-    words: list[Word] = ["cc", "-Wall", "-Wextra", "-Werror", "-O1", "-shared", "-fPIC", SHIM, "-o", run.place / "failing.so"]
-    same(command(words).done(), "")
 
 
 def with_failing(run: Run, words: Iterable[str], **failing: str) -> Ended:
     """Runs a command of which reads or writes fail."""
-    return command([run.program, *words], run.place, TYPED, {"LD_PRELOAD": str(run.place / "failing.so"), **failing})
+    return command([run.program, *words], run.place, TYPED, {**loaded(run, "failing_streams.c"), **failing})
 
 
 def ends(done: Ended, status: int, out: str, errors: str, what: str) -> None:

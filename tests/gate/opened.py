@@ -1,13 +1,11 @@
 """The order in which commands open files, and what is read to its end: a file that is refused is the last."""
 
-from pathlib import Path
-
-from gate.calls import Word, command
+from gate.calls import command
 from gate.cases import Case, Run, same
 from gate.machine import Tool
+from gate.shims import loaded
 from gate.texts import written
 
-SHIM = Path(__file__).with_name("opened_files.c")
 ECHO = "  addi a7,x0,3\necall\n"
 """The source of a program that returns its input."""
 FILES = {
@@ -47,12 +45,10 @@ def opened(run: Run) -> None:
         written(run.place / name, text)
     for name in ("echo.elf", "other.elf"):
         command([run.program, "asm", "echo.s", "--out", name], run.place).done()
-    shim, log = run.place / "opened.so", run.place / "opened"
-    words: list[Word] = ["cc", "-Wall", "-Wextra", "-Werror", "-O1", "-shared", "-fPIC", SHIM, "-o", shim]
-    same(command(words).done(), "")
+    log = run.place / "opened"
     for line, (files, last) in {**{line: (files, "") for line, files in READ.items()}, **LAST}.items():
         log.unlink(missing_ok=True)
-        command([run.program, *line], run.place, more={"LD_PRELOAD": str(shim), "OPENED": str(log)})
+        command([run.program, *line], run.place, more={**loaded(run, "opened_files.c"), "OPENED": str(log)})
         wanted = "".join(f"open {file}\nend {file}\n" for file in files) + (f"open {last}\n" if last else "")
         same(log.read_text(encoding="utf-8"), wanted, " ".join(line))
 

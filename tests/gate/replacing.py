@@ -10,6 +10,7 @@ from pathlib import Path
 from gate.calls import Ended, Word, command, rvstm
 from gate.cases import Case, Run, holds, same
 from gate.machine import Tool
+from gate.shims import loaded
 from gate.texts import written
 
 GIVEN, OLD, NEW = "rvblock 1\n", "a good file, and longer than the new one", "rvblock 2\ngas 1\n"
@@ -18,7 +19,6 @@ SOURCE = "ecall\n"
 UNWRITABLE = "rvstm: file Unwritable 2"
 NEW_NAMES = [f".rvstm.new{number}" for number in range(100)]
 """The names of a new file while it is written, of which the first free one is taken."""
-SHIM = Path(__file__).with_name("failing_files.c")
 
 
 def migrated(run: Run, path: str | Path) -> Ended:
@@ -176,13 +176,10 @@ def one_file(run: Run) -> None:
 
 def with_failing(run: Run, kind: str, number: int, error: int, name: str = "migrate", file: str = "block") -> Ended:
     """A command puts its file at `failing/out`, and one call on a file fails."""
-    made = run.place / "failing.so"
-    if not made.is_file():
-        same(command(["cc", "-Wall", "-Wextra", "-Werror", "-O1", "-shared", "-fPIC", SHIM, "-o", made]).done(), "")
-        written(run.place / "block", GIVEN)
-        written(run.place / "source", SOURCE)
+    written(run.place / "block", GIVEN)
+    written(run.place / "source", SOURCE)
     words: list[Word] = [run.program, name, file, "--out", "failing/out"]
-    return command(words, run.place, more={"LD_PRELOAD": str(made), "FAILING": f"{kind} {number} {error}"})
+    return command(words, run.place, more={**loaded(run, "failing_files.c"), "FAILING": f"{kind} {number} {error}"})
 
 
 COMMANDS = (("migrate", "block", "rvstm: block Memory 8"), ("asm", "source", "rvstm: asm Memory 8"))
@@ -225,9 +222,8 @@ def cases() -> list[Case]:
     """All of them."""
     plain: dict[str, Callable[[Run], None]] = {
         "a file is made and replaced": made_and_replaced, "a left-over file is removed": left_over, "other names stay": other_names,
-        "all names are taken": all_names,
-        "links are followed": links, "devices and pipes are written": devices_and_pipes, "what can't be written stays": unwritable,
-        "the block is not written over": one_file,
+        "all names are taken": all_names, "links are followed": links, "devices and pipes are written": devices_and_pipes,
+        "what can't be written stays": unwritable, "the block is not written over": one_file,
     }
     shimmed: dict[str, Callable[[Run], None]] = {"a failing call leaves the file": failing, "another file is not removed": stolen}
     return [

@@ -127,7 +127,7 @@ fn stands_for(word: u32, instr: &Instr) -> bool {
     decode(word) == Some(*instr) && encode(instr) == word
 }
 
-/// Checks that each word stands for the instruction beside it.
+/// Checks each word against the instruction of its row.
 fn stand_for(rt: &impl Abort, rows: &[(u32, Instr)]) {
     for (word, instr) in rows {
         assert!(rt; stands_for(*word, instr), "{word:#010x}");
