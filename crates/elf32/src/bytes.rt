@@ -3,7 +3,8 @@
 ghost use Rattle.std.specs.Prelude.{◌≡◌, ◌+◌, ◌≤◌, length};
 ghost use Rattle.elf32.specs.Pages.{overwritten_at};
 
-/// Writes `new` over the bytes from the place `at` on.
+/// Writes `new` over the bytes from the place `at` on. The caller has checked that they reach that far: `at` and the length of
+/// `new` together are at most the length of `bytes`.
 #[inline(always)]
 #[tactic(auto, unfolding(crate::specs::Pages::overwritten_at))]
 pub fn put(bytes: &mut [u8], at: usize, new: &[u8])

@@ -34,7 +34,7 @@ impl SharedVersions {
         })
     }
 
-    /// The same list for one more owner. Takes no memory.
+    /// The same list for one more owner. Takes no memory; refused as AllocError if the count of owners can't grow.
     pub fn copy(&self) -> Result<SharedVersions, AllocError>
         ensures { IfOk result (λ s. s ≡ self.now) }
     {

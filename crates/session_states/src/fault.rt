@@ -17,8 +17,8 @@ pub enum StoreFault {
     HotJournal,
     /// A call of the system failed. At the start: FILE is a folder or a device, has a second name (a hard link), may
     /// not be read and written, or is in no folder or on a file system without locks; a page can't be read or is not
-    /// what was written; or a new FILE has no room. After a commit: FILE or FILE-wal no longer leads to the session's
-    /// file.
+    /// what was written; or a new FILE has no room. In a commit, after each of its two syncs: FILE or FILE-wal no longer
+    /// leads to the session's file. After the first sync the request is not kept.
     Unreadable,
     /// FILE is no database, has a page that is not well formed, lacks one of the four tables, or has another table or
     /// index; FILE is missing or empty, and FILE-wal has a commit; or FILE has one byte, and FILE-wal has a commit, but
