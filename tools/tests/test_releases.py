@@ -1,6 +1,6 @@
 """Releases: archives as Debian's tools read them, damaged packages, comparisons, man pages and completions."""
 
-import io
+import lzma
 import os
 import re
 import shutil
@@ -42,6 +42,24 @@ def ar(*members: Member) -> bytes:
     return b"!<arch>\n" + b"".join(head + body for head, body in zip(heads, bodies))
 
 
+def header(path: str, kind: bytes = tarfile.REGTYPE, prefix: str = "") -> bytes:
+    """The header of an empty file in a tar, as GNU's tar writes it; with something in the place of the prefix of ustar."""
+    info = tarfile.TarInfo(path)
+    info.type = kind
+    made = info.tobuf(tarfile.GNU_FORMAT)
+    made = made[:148] + b" " * 8 + made[156:345] + prefix.encode().ljust(167, b"\0")
+    return made[:148] + b"%06o\0 " % sum(made) + made[156:]
+
+
+def tar(*headers: bytes) -> bytes:
+    return b"".join(headers) + bytes(1024)
+
+
+def package(files: bytes, control: bytes = lzma.compress(tar())) -> bytes:
+    """A package of Debian, with its compressed files."""
+    return ar(Member("debian-binary", b"2.0\n"), Member("control.tar.xz", control), Member("data.tar.xz", files))
+
+
 class OfArchives(InFolder):
     def test_what_is_read_is_what_was_written(self) -> None:
         packed = archives.gzip_of(archives.tar_of(ENTRIES, 5))
@@ -60,29 +78,53 @@ class OfArchives(InFolder):
             except UserError:
                 pass
 
+    def refused(self, data: bytes, message: str) -> None:
+        with self.subTest(message), self.assertRaises(UserError) as caught:
+            archives.files_in(data)
+        self.assertEqual(str(caught.exception), message)
+
     def test_messages(self) -> None:
-        twice = io.BytesIO()
-        with tarfile.open(fileobj=twice, mode="w") as tar:
-            for name in ("a", "./a"):
-                tar.addfile(tarfile.TarInfo(name))
-        device = io.BytesIO()
-        with tarfile.open(fileobj=device, mode="w") as tar:
-            info = tarfile.TarInfo("d")
-            info.type = tarfile.CHRTYPE
-            tar.addfile(info)
         for data, message in {
-            archives.gzip_of(twice.getvalue()): "a is there twice, or is neither a file nor a link",
-            archives.gzip_of(device.getvalue()): "d is there twice, or is neither a file nor a link",
+            archives.gzip_of(tar(header("a"), header("./a"))): "a is there twice, or is neither a file nor a link",
+            archives.gzip_of(tar(header("d", tarfile.CHRTYPE))): "d is there twice, or is neither a file nor a link",
+            archives.gzip_of(tar(header("a"), header("a/b"))): "it has a path that is a folder and a file",
+            archives.gzip_of(tar(header("a/../b"))): "'a/../b' is a path that no release has",
             b"!<arch>\nnonsense": "it is a damaged archive of ar",
             b"!<arch>\n" + b"x" * 60: "it is a damaged archive of ar",
-            ar(Member("x", b"")): "it is an archive of ar, and not a package of Debian",
+            ar(Member("x", b"")): "it is an archive of ar, and not a package of Debian as a release has it",
         }.items():
-            with self.subTest(message), self.assertRaises(UserError) as caught:
-                archives.files_in(data)
-            self.assertEqual(str(caught.exception), message)
+            self.refused(data, message)
         with self.assertRaises(UserError) as caught:
             archives.files_in(archives.gzip_of(b"nonsense"))
         self.assertTrue(str(caught.exception).startswith("its files cannot be read: "))
+
+    def test_tars_that_others_read_otherwise(self) -> None:
+        """GNU's tar and dpkg-deb find other files in each than Python's tarfile does."""
+        right, damaged = archives.tar_of(ENTRIES, 5), b"y" + header("x")[1:]
+        for packed, message in {
+            tar(header("bin/rvstm", prefix="usr")): "the entry 'usr/bin/rvstm' of its tar is not as GNU's tar writes it",
+            tar(header("a"), damaged, header("usr/bin/rvstm")): "its files cannot be read: bad checksum",
+            right + tar(header("usr/bin/rvstm")): "its tar does not end with zeros",
+        }.items():
+            self.refused(archives.gzip_of(packed), message)
+            self.refused(package(lzma.compress(packed)), message)
+        self.assertEqual(archives.files_in(package(lzma.compress(right))), ENTRIES)
+        for packed in (right + bytes(512), tar(header("usr/bin/rvstm"))):
+            self.refused(archives.gzip_of(packed), "its tar is not the one that a release makes of its files")
+
+    def test_packages_that_others_read_otherwise(self) -> None:
+        tar_gz, most = archives.gzip_of(archives.tar_of(ENTRIES, 5)), bytes(archives.LONGEST_UNPACKED + 1)
+        right, damage = package(lzma.compress(archives.tar_of(ENTRIES, 5))), "it is a damaged archive of ar"
+        ended = "its files are cut, are followed by something, or have more than 67,108,864 bytes"
+        other = "it is an archive of ar, and not a package of Debian as a release has it"
+        for data, message in {
+            tar_gz[:-1]: ended, tar_gz * 2: ended, tar_gz + bytes(1): ended,
+            archives.gzip_of(most): ended, package(lzma.compress(most, preset=0)): ended,
+            package(tar_gz): "its files cannot be read: Input format not supported by decoder",
+            right + b"\n": damage, right.replace(b"0     0     1", b"0     1     1"): damage,
+            right.replace(b"2.0\n", b"3.0\n"): other, right + ar(Member("data.tar.xz", b""))[8:]: other,
+        }.items():
+            self.refused(data, message)
 
 
 @unittest.skipUnless(HAS_PACKER, "there is no dpkg-deb")

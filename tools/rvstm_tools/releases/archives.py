@@ -14,10 +14,12 @@ from typing import NamedTuple
 from rvstm_tools.errors import UserError
 
 AR_HEAD, AR_MEMBER_HEAD = b"!<arch>\n", 60
+AR_MEMBER_FORM = b"%-16s%-12s0     0     100644  %-10s`\n"  # of a name, seconds and a length
 GZIP_HEAD = b"\x1f\x8b"
 EXECUTABLE, PLAIN = 0o755, 0o644
-DEBIAN_MEMBERS = ["debian-binary", "control", "data"]
-LONGEST_CONTENT = 1 << 30  # bytes of all files of a package that are read
+DEBIAN_MEMBERS = ["debian-binary", "control.tar.xz", "data.tar.xz"]
+KINDS = (tarfile.REGTYPE, tarfile.SYMTYPE, tarfile.DIRTYPE)
+LONGEST_UNPACKED = 1 << 26  # bytes, many times those of a release; also of the memory that unpacks them
 
 
 @dataclass(frozen=True)
@@ -70,48 +72,87 @@ def tar_of(entries: Mapping[str, File | Link], seconds: int) -> bytes:
 
 
 def ar_members(data: bytes) -> Iterator[Member]:
+    """The members of an archive of ar, whose headers are as dpkg-deb writes them."""
     at = len(AR_HEAD)
     while at < len(data):
-        head = data[at : at + AR_MEMBER_HEAD]
-        if len(head) < AR_MEMBER_HEAD or not head[48:58].strip().isdigit():
+        head, body = data[at : at + AR_MEMBER_HEAD], at + AR_MEMBER_HEAD
+        name, seconds, length = (field.rstrip(b" ") for field in (head[:16], head[16:28], head[48:58]))
+        if head != AR_MEMBER_FORM % (name, seconds, length) or not (seconds + length).isdigit():
             raise UserError("it is a damaged archive of ar")
-        length = int(head[48:58])
-        name = head[:16].decode("ascii", "replace").rstrip(" /")
-        yield Member(name, data[at + AR_MEMBER_HEAD : at + AR_MEMBER_HEAD + length])
-        at += AR_MEMBER_HEAD + length + length % 2
+        end = body + int(length)
+        if data[end : end + int(length) % 2].strip(b"\n") or len(data) < end:
+            raise UserError("it is a damaged archive of ar")
+        yield Member(name.decode("ascii", "replace"), data[body:end])
+        at = end + int(length) % 2
 
 
 def is_package(data: bytes) -> bool:
     return data.startswith((AR_HEAD, GZIP_HEAD))
 
 
-def files_of_tar(tar: tarfile.TarFile) -> Entries:
-    """The files and links of a tar by their paths. No path is there twice, and everything else is a folder."""
+def unpacked(data: bytes, unpacker: "zlib._Decompress | lzma.LZMADecompressor") -> bytes:
+    """What was compressed, in one piece: some programs also read what follows it."""
+    found = unpacker.decompress(data, LONGEST_UNPACKED)
+    if not unpacker.eof or unpacker.unused_data:
+        raise UserError(f"its files are cut, are followed by something, or have more than {LONGEST_UNPACKED:,} bytes")
+    return found
+
+
+def entries_of_tar(tar: bytes) -> Iterator[tuple[tarfile.TarInfo, bytes]]:
+    """The entries of a tar, each with its content. All programs read them in the same way: a header has exactly the bytes that GNU's
+    tar writes for it, and only zeros follow a content and the last entry."""
+    at = 0
+    while (head := tar[at : at + tarfile.BLOCKSIZE]).strip(b"\0"):
+        info, start = tarfile.TarInfo.frombuf(head, "utf-8", "surrogateescape"), at + tarfile.BLOCKSIZE
+        end = start + info.size
+        at = end + -info.size % tarfile.BLOCKSIZE
+        if info.tobuf(tarfile.GNU_FORMAT, "utf-8") != head or info.size < 0 or tar[end:at].strip(b"\0"):
+            raise UserError(f"the entry {info.name!a} of its tar is not as GNU's tar writes it")
+        yield info, tar[start:end]
+    if len(tar) < at + 2 * tarfile.BLOCKSIZE or tar[at:].strip(b"\0"):
+        raise UserError("its tar does not end with zeros")
+
+
+def files_of_tar(tar: bytes) -> Entries:
+    """The files and links of a tar by their paths. Everything else is a folder."""
     found: Entries = {}
-    left = LONGEST_CONTENT
-    for info in tar:
-        path = posixpath.normpath(info.name).lstrip("/")
-        if info.isdir():
-            continue
-        if path in found or not (info.isfile() or info.issym()):
+    folders: set[str] = set()
+    for info, content in entries_of_tar(tar):
+        path = info.name.removeprefix("./")
+        if path != posixpath.normpath(path) or path.split("/")[0] in ("", ".."):
+            raise UserError(f"{info.name!a} is a path that no release has")
+        if path in found or info.type not in KINDS or len(content) and not info.isreg():
             raise UserError(f"{path} is there twice, or is neither a file nor a link")
-        left -= info.size
-        if left < 0:
-            raise UserError(f"its files have more than {LONGEST_CONTENT:,} bytes")
-        content = tar.extractfile(info) if info.isfile() else None
-        found[path] = Link(info.linkname) if content is None else File(content.read(), info.mode)
+        if info.isdir():
+            folders.add(path)
+        else:
+            found[path] = File(content, info.mode) if info.isreg() else Link(info.linkname)
+    if (folders | folders_of(found)) & found.keys():
+        raise UserError("it has a path that is a folder and a file")
+    return found
+
+
+def files_of_release(data: bytes) -> Entries:
+    tar = unpacked(data, zlib.decompressobj(zlib.MAX_WBITS | 16))
+    found = files_of_tar(tar)
+    if tar != tar_of(found, next((info.mtime for info, _ in entries_of_tar(tar)), 0)):
+        raise UserError("its tar is not the one that a release makes of its files")
+    return found
+
+
+def files_of_debian(data: bytes) -> Entries:
+    members = list(ar_members(data))
+    if [member.name for member in members] != DEBIAN_MEMBERS or members[0].data != b"2.0\n":
+        raise UserError("it is an archive of ar, and not a package of Debian as a release has it")
+    _, found = [
+        files_of_tar(unpacked(member.data, lzma.LZMADecompressor(lzma.FORMAT_XZ, LONGEST_UNPACKED))) for member in members[1:]
+    ]
     return found
 
 
 def files_in(data: bytes) -> Entries:
     """The files and links of a package of Debian or of a tar.gz, by their paths."""
-    if data.startswith(AR_HEAD):
-        members = list(ar_members(data))
-        if [member.name.rpartition(".tar")[0] or member.name for member in members] != DEBIAN_MEMBERS:
-            raise UserError("it is an archive of ar, and not a package of Debian")
-        data = members[-1].data
     try:
-        with tarfile.open(fileobj=io.BytesIO(data)) as tar:
-            return files_of_tar(tar)
-    except (tarfile.TarError, lzma.LZMAError, zlib.error, EOFError, OSError, ValueError, OverflowError) as error:
+        return files_of_debian(data) if data.startswith(AR_HEAD) else files_of_release(data)
+    except (tarfile.TarError, lzma.LZMAError, zlib.error, ValueError) as error:
         raise UserError(f"its files cannot be read: {error}") from error
