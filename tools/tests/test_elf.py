@@ -1,6 +1,7 @@
 """ELF files: one that is made by hand, cut at each byte, and names of functions."""
 
 import struct
+import time
 import unittest
 from unittest import mock
 
@@ -15,7 +16,7 @@ CODE = bytes.fromhex("13000000" "63040000" "73000000")  # addi x0,x0,0; beq x0,x
 NAMES = b"\0start\0_ZN5tally4vote17h0123456789abcdefE\0"
 
 
-def elf_file() -> bytes:
+def elf_file(names: bytes = NAMES) -> bytes:
     """A file with one segment of code at 0x10000, and a symbol of each kind."""
     symbols = b"".join(
         struct.pack("<IIIBBH", *row)
@@ -31,7 +32,7 @@ def elf_file() -> bytes:
     code_at = 52 + 32
     symbols_at = code_at + len(CODE)
     names_at = symbols_at + len(symbols)
-    sections_at = names_at + len(NAMES)
+    sections_at = names_at + len(names)
     head = b"\x7fELF\1\1\1" + bytes(9)
     head += struct.pack("<HHIIIIIHHHHHH", 2, 243, 1, 0x10000, 52, sections_at, 0, 52, 32, 1, 40, 4, 0)
     segment = struct.pack("<8I", 1, code_at, 0x10000, 0x10000, len(CODE), 16, 5, 4)
@@ -41,10 +42,10 @@ def elf_file() -> bytes:
             (0,) * 10,
             (0, 1, 6, 0x10000, code_at, len(CODE), 0, 0, 4, 0),
             (0, 2, 0, 0, symbols_at, len(symbols), 3, 0, 4, 16),
-            (0, 3, 0, 0, names_at, len(NAMES), 0, 0, 1, 0),
+            (0, 3, 0, 0, names_at, len(names), 0, 0, 1, 0),
         )
     )
-    return head + segment + CODE + symbols + NAMES + sections
+    return head + segment + CODE + symbols + names + sections
 
 
 class Files(InFolder):
@@ -79,6 +80,20 @@ class Files(InFolder):
             with self.subTest(end), self.assertRaises(UserError) as caught:
                 ElfFile(path)
             self.assertEqual(str(caught.exception), f"{path}: not an ELF file of 32 bits, or only a part of one")
+
+    def test_tables_of_headers_that_are_refused(self) -> None:
+        """Each would take minutes or gigabytes: headers in one place, symbols or names that are read again and again."""
+        data, most = elf_file(), (0xFFFF).to_bytes(2, "little")
+        table = int.from_bytes(data[32:36], "little")
+        symbols = data[table + 2 * 40 : table + 3 * 40]
+        for wrong in (
+            data[:46] + bytes(2) + most + data[50:], data[:42] + bytes(2) + most + data[46:], data[:44] + b"\x09" + data[45:] + bytes(999),
+            data[:table + 40] + symbols + data[table + 80 :], elf_file(NAMES[:-1] + b"x" * elf.LONGEST_NAME + b"\0"),
+        ):
+            path, began = self.write("wrong.elf", wrong), time.monotonic()
+            with self.assertRaises(UserError):
+                ElfFile(path)
+            self.assertLess(time.monotonic() - began, 1)
 
     def test_any_byte_may_be_wrong(self) -> None:
         """A file with a wrong byte is read or refused, and nothing else."""

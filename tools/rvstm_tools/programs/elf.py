@@ -11,6 +11,7 @@ from rvstm_tools.errors import UserError
 
 PT_LOAD, PF_X, SHT_SYMTAB, SHF_EXECINSTR, STT_NOTYPE, STT_FUNC, STB_GLOBAL = 1, 1, 2, 4, 0, 2, 1
 SYMBOL_SIZE = 16
+MOST_SEGMENTS, LONGEST_NAME = 8, 4096  # program headers, as rvstm takes them; bytes of a symbol's name
 NO_CODE = "no code"
 # Names in Rust: how a symbol begins, how each ends that no tool made plain, and the signs in it.
 RUST_SYMBOL, RUST_NAME, RUST_SIGN = re.compile("_ZN([0-9].*)E"), re.compile("(.+)::h[0-9a-f]{16}"), re.compile(r"\$(\w+)\$")
@@ -55,19 +56,29 @@ class ElfFile:
         except (struct.error, IndexError) as error:
             raise UserError(f"{path}: not an ELF file of 32 bits, or only a part of one") from error
 
+    def _headers(self, form: str, place: int, sizes: int) -> Iterator[tuple[int, ...]]:
+        """The rows of one of the two tables of headers. All of it is in the file, so that their number is bounded."""
+        (start,) = struct.unpack_from("<I", self.data, place)
+        size, count = struct.unpack_from("<HH", self.data, sizes)
+        table = self.data[start : start + size * count]
+        if start and count and (size != struct.calcsize(form) or len(table) < size * count):
+            raise IndexError("a table of headers is wrong, or not whole")
+        return struct.iter_unpack(form, table if start else b"")
+
     def _loaded(self) -> Iterator[Segment]:
-        (start,) = struct.unpack_from("<I", self.data, 28)
-        size, count = struct.unpack_from("<HH", self.data, 42)
-        for number in range(count):
-            kind, offset, address, _, in_file, in_memory, rights, _ = struct.unpack_from("<8I", self.data, start + number * size)
+        for number, header in enumerate(self._headers("<8I", 28, 42)):
+            kind, offset, address, _, in_file, in_memory, rights, _ = header
+            if number == MOST_SEGMENTS:
+                raise IndexError("too many program headers")
             if kind == PT_LOAD:
                 yield Segment(address, rights, in_memory, self.data[offset : offset + in_file])
 
     def _sections(self) -> list[Section]:
-        (start,) = struct.unpack_from("<I", self.data, 32)
-        size, count = struct.unpack_from("<HH", self.data, 46)
-        rows = [struct.unpack_from("<10I", self.data, start + number * size) for number in range(count if start else 0)]
-        return [Section(kind, flags, offset, length, link) for _, kind, flags, _, offset, length, link, *_ in rows]
+        rows = self._headers("<10I", 32, 46)
+        found = [Section(kind, flags, offset, length, link) for _, kind, flags, _, offset, length, link, *_ in rows]
+        if [section.kind for section in found].count(SHT_SYMTAB) > 1:
+            raise IndexError("two tables of symbols")
+        return found
 
     def _named(self) -> Iterator[Function]:
         """The functions: symbols of this type, and global labels in code."""
@@ -84,7 +95,7 @@ class ElfFile:
                     yield Function(address, size, self._text_at(names + name))
 
     def _text_at(self, place: int) -> str:
-        end = self.data.find(b"\0", place)
+        end = self.data.find(b"\0", place, place + LONGEST_NAME)
         if end < 0:
             raise IndexError("a name has no end")
         return self.data[place:end].decode(errors="backslashreplace")
