@@ -7,11 +7,16 @@ A mistake of the user is reported in one line: a wrong word in a list, a file th
 import enum
 import io
 import os
+import re
 import signal
 import sys
 from collections.abc import Callable, Iterator
 from contextlib import contextmanager
 from types import FrameType
+
+
+CONTROLS = re.compile("[\0-\x08\x0b-\x1f\x7f-\x9f\u200e\u200f\u2028-\u202e\u2066-\u2069]")
+"""Letters that change what a terminal shows of others, such as the beginning of an escape sequence; not the ends of lines and tabs."""
 
 
 class Status(enum.IntEnum):
@@ -29,10 +34,24 @@ class MisuseError(UserError):
     """What is wrong with the command line."""
 
 
+def printable(text: str) -> str:
+    """A text with its control characters by their numbers."""
+    return CONTROLS.sub(lambda found: found[0].encode("unicode_escape").decode(), text)
+
+
+class PrintableOutput(io.TextIOWrapper):
+    """Prints texts of strangers, such as names of functions: no control character reaches a terminal."""
+
+    def write(self, text: str, /) -> int:
+        return super().write(printable(text))
+
+
 def print_all_letters() -> None:
-    """Lets standard output take each text. A letter that its encoding does not have is printed by its number."""
+    """Lets standard output take each text. A letter that its encoding does not have, and a control character, is printed by its number."""
     if isinstance(sys.stdout, io.TextIOWrapper):
-        sys.stdout.reconfigure(errors="backslashreplace")
+        encoding, lines, at_once = sys.stdout.encoding, sys.stdout.line_buffering, sys.stdout.write_through
+        buffer = sys.stdout.detach()
+        sys.stdout = PrintableOutput(buffer, encoding, "backslashreplace", line_buffering=lines, write_through=at_once)
 
 
 def reason(error: Exception) -> str:
@@ -40,8 +59,8 @@ def reason(error: Exception) -> str:
         return "the output is closed"
     if isinstance(error, OSError):
         name = "" if error.filename is None else f"{error.filename}: "
-        return f"{name}{error.strerror}"
-    return str(error).split("\n")[0]
+        return printable(f"{name}{error.strerror}")
+    return printable(str(error).split("\n")[0])
 
 
 def ended(name: str, run: Callable[[], int], others: tuple[type[Exception], ...] = ()) -> int:

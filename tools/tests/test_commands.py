@@ -12,7 +12,7 @@ from pathlib import Path
 from unittest import mock
 
 from rvstm_tools import commandline, errors
-from rvstm_tools.errors import Status
+from rvstm_tools.errors import Status, UserError
 from rvstm_tools.options import Command
 from tests.helpers import InFolder, called
 
@@ -217,12 +217,14 @@ class CommandLine(unittest.TestCase):
             signal.raise_signal(signal.SIGTERM)
         self.assertIs(signal.getsignal(signal.SIGTERM), before)
 
-    def test_a_letter_that_the_encoding_does_not_have(self) -> None:
+    def test_letters_that_are_printed_by_their_numbers(self) -> None:
+        """Those that the encoding does not have, and those that a terminal obeys."""
         written = io.BytesIO()
         with mock.patch("sys.stdout", io.TextIOWrapper(written, encoding="ascii", write_through=True)):
             errors.print_all_letters()
-            print("\u2261")
-            self.assertEqual(written.getvalue(), b"\\u2261\n")
+            print("\u2261\t\x1b[2J\x9b1m\r\u202e")
+            self.assertEqual(written.getvalue(), b"\\u2261\t\\x1b[2J\\x9b1m\\r\\u202e\n")
+        self.assertEqual(self.ended(UserError("\x1b]0;x\x07")), (Status.FAILED, "name: \\x1b]0;x\\x07\n"))
 
     def test_a_mistake_of_the_tools_is_no_message(self) -> None:
         for mistake in (KeyError("b"), ValueError("x"), IndexError("y")):

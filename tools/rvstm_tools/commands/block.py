@@ -2,6 +2,7 @@ import argparse
 import sys
 from pathlib import Path
 
+from rvstm_tools import errors
 from rvstm_tools.errors import Status, UserError
 from rvstm_tools.options import Command, argument
 from rvstm_tools.texts import lists, results
@@ -91,7 +92,8 @@ def report_programs(block: Block, path: str) -> None:
     for program in block.programs.values():
         found = found_file(program.path, path)
         if found and not is_elf(found):
-            print(f"block: {path}, line {program.line}: {found} is not an ELF file; rvstm refuses the block", file=sys.stderr)
+            text = f"block: {path}, line {program.line}: {found} is not an ELF file; rvstm refuses the block"
+            print(errors.printable(text), file=sys.stderr)
 
 
 def found_file(program: str, path: str) -> Path | None:

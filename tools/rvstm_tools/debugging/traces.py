@@ -4,6 +4,7 @@ import os
 import sys
 from collections.abc import Iterator, Sequence
 
+from rvstm_tools import errors
 from rvstm_tools.debugging import sources
 from rvstm_tools.debugging.replays import ECALL, Frame, Replay
 from rvstm_tools.debugging.sources import Inlined
@@ -46,7 +47,7 @@ class Places:
 
 def report(text: str) -> None:
     """Says on standard error where lines come from."""
-    print(f"trace: {text}", file=sys.stderr)
+    print(f"trace: {errors.printable(text)}", file=sys.stderr)
 
 
 def bars_of(replay: Replay, places: Places, title: str) -> Bar:
