@@ -17,6 +17,7 @@ import audits
 import engines
 import etcd
 import ledger
+from rvstm_tools.errors import UserError
 from rvstm_tools.sessions.processes import Session, Settings
 from clusters import HERE, MEMBERS, WITH_FILES, Cluster, changed_program, say
 from etcd import Object
@@ -62,7 +63,7 @@ class Trial:
             self.cluster.append(transfers.transfers(self.random, CALLS))
             seconds = self.cluster.settle(self.names)
             self.expect(True, f"{fault.__name__.replace('_', ' ')}: {happened}; all nodes at height {self.cluster.heights()} {seconds:.1f} s later")
-        except (OSError, ValueError) as error:
+        except (OSError, UserError) as error:
             self.expect(False, f"{fault.__name__.replace('_', ' ')}: {error}")
         for name in [*self.names, *self.proposers]:
             if self.cluster.all[name].poll() is not None:
@@ -81,7 +82,7 @@ class Trial:
         """The process of a node's engine, which must be one."""
         pid = self.engine(name)
         if pid is None:
-            raise ValueError(f"the engine of {name} is not a process")
+            raise UserError(f"the engine of {name} is not a process")
         return pid
 
     def again(self, name: str) -> None:
@@ -166,7 +167,7 @@ def node_with_a_file_killed(trial: Trial) -> str:
     trial.again(name)
     came = trial.count_of(name, FROM_A_FILE) - before
     if not came or "takes the dump" in cluster.log(name):
-        raise ValueError(f"{name} did not go by its file")
+        raise UserError(f"{name} did not go by its file")
     return f"{name} {KILLS + 1} times by kill -9, and started again without its folder; it continued from its file {came} times"
 
 
@@ -178,7 +179,7 @@ def engine_with_a_file_killed(trial: Trial) -> str:
     trial.cluster.append(transfers.transfers(trial.random, CALLS))
     trial.cluster.settle([name])
     if trial.count_of(name, FROM_A_FILE) == before:
-        raise ValueError(f"{name} did not go by its file")
+        raise UserError(f"{name} did not go by its file")
     return f"the one of {name} by kill -9, and the node {trial.last_line(name, FROM_A_FILE)}"
 
 
@@ -287,7 +288,7 @@ def pruning(trial: Trial) -> str:
     trial.digests_pruned += sum(len(values) for at, values in published.items() if at < height)
     printed = trial.stranger("alone", "--agreeing", "9")
     if gone and "STOPS" not in printed:
-        raise ValueError("a new node did not stop")
+        raise UserError("a new node did not stop")
     return f"{gone} blocks are gone, the log begins after height {height}; a new node printed: {printed.splitlines()[-1].split(' ', 1)[1]}"
 
 
@@ -335,7 +336,7 @@ def full_disk_of_a_file(trial: Trial) -> str:
     place.mkdir(exist_ok=True)
     last = trial.stranger("full", "--store", place / "file", under=["unshare", "-m", "sh", "-c", SMALL_DISK, place]).splitlines()[-1]
     if "failed store Full 8" not in last:
-        raise ValueError(f"the node printed: {last}")
+        raise UserError(f"the node printed: {last}")
     return f"64 KiB; a new node printed: {last.split(' ', 1)[1]}"
 
 
@@ -343,7 +344,7 @@ def two_nodes_on_one_file(trial: Trial) -> str:
     """The second one must stop and say why."""
     last = trial.stranger("twin", "--store", trial.cluster.folder / f"{trial.random.choice(WITH_FILES)}.store").splitlines()[-1]
     if "store Busy 1" not in last:
-        raise ValueError(f"the node printed: {last}")
+        raise UserError(f"the node printed: {last}")
     return last.split(" ", 1)[1]
 
 
@@ -354,10 +355,10 @@ def damaged_file(trial: Trial) -> str:
     flip_in_a_program(file)
     last = trial.stranger("refused", "--store", file).splitlines()[-1]  # a name that has published nothing yet
     if "is refused: rvstm: store Damaged 7; with --reset" not in last:
-        raise ValueError(f"the node printed: {last}")
+        raise UserError(f"the node printed: {last}")
     lines = trial.stranger("reset", "--store", file, "--reset").splitlines()
     if not any("keeps the refused file" in line for line in lines) or any("STOPS" in line for line in lines):
-        raise ValueError(f"the node printed: {lines[-1]}")
+        raise UserError(f"the node printed: {lines[-1]}")
     begun = [line for line in lines if "begins at" in line][-1]
     return f"a node stopped and said why; with --reset it {begun.split(' ', 2)[2]}"
 

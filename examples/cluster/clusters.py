@@ -22,6 +22,7 @@ import ledger
 import networks
 from engines import BUILT, C_LIBRARY, PR_SET_PDEATHSIG
 from etcd import Object
+from rvstm_tools.errors import UserError
 
 HERE = Path(__file__).resolve().parent
 MEMBERS = 3
@@ -54,7 +55,7 @@ def changed_program(path: Path) -> Path:
     """Makes a program whose answers differ from those of rvstm in one letter."""
     data = Path(engines.rvstm()).read_bytes()
     if b"returned" not in data:
-        raise ValueError("the program has no word to change")
+        raise UserError("the program has no word to change")
     path.write_bytes(data.replace(b"returned", b"Returned"))
     path.chmod(0o755)
     return path
@@ -71,7 +72,7 @@ def engines_known(folder: Path = Path()) -> dict[str, list[Word]]:
 class Cluster:
     def __init__(self, folder: str | Path, network: AnyNetwork | None = None) -> None:
         if not shutil.which("etcd"):
-            raise ValueError("etcd is missing: install Debian's package etcd-server")
+            raise UserError("etcd is missing: install Debian's package etcd-server")
         self.folder, self.random = Path(folder), random.Random(1)
         self.network: AnyNetwork = network or networks.Loopback()
         self.folder.mkdir(parents=True)
@@ -142,12 +143,12 @@ class Cluster:
             for number in range(MEMBERS):
                 try:
                     status = self.status(number)
-                except (OSError, ValueError):
+                except (OSError, UserError):
                     continue
                 if status.get("leader") == status["header"]["member_id"]:
                     return number
             time.sleep(0.1)
-        raise ValueError("etcd has no leader")
+        raise UserError("etcd has no leader")
 
     # ---- nodes and proposers
 
@@ -194,7 +195,7 @@ class Cluster:
         began, wanted = time.monotonic(), height or self.heights()
         while away := [name for name in names if not self.is_at(name, wanted)]:
             if time.monotonic() - began > seconds:
-                raise ValueError(f"{', '.join(away)} did not reach height {wanted}")
+                raise UserError(f"{', '.join(away)} did not reach height {wanted}")
             time.sleep(0.1)
         return time.monotonic() - began
 
@@ -210,7 +211,7 @@ class Cluster:
             if lines:
                 return lines[-1]
             time.sleep(0.1)
-        raise ValueError(f"{name} did not print '{text}'")
+        raise UserError(f"{name} did not print '{text}'")
 
     def audit(self, names: Sequence[str] = ()) -> int:
         """Prints what an audit finds, and returns how many things are wrong."""

@@ -14,6 +14,8 @@ import urllib.parse
 from collections.abc import Callable, Iterable, Iterator
 from typing import Any, NamedTuple
 
+from rvstm_tools.errors import UserError
+
 SECONDS_A_REQUEST = 5
 SECONDS_BETWEEN_TRIES = 0.05
 SECONDS_UNTIL_SAID = 30
@@ -29,7 +31,7 @@ Line = http.client.HTTPConnection
 """A connection with a member."""
 
 
-class Refused(ValueError):
+class Refused(UserError):
     """A request that etcd refuses, with gRPC's code."""
 
     def __init__(self, code: int, text: str) -> None:
@@ -37,7 +39,7 @@ class Refused(ValueError):
         self.code = code
 
 
-class NoAnswer(ValueError):
+class NoAnswer(UserError):
     """No member answered within the time that a client waits."""
 
 
@@ -206,7 +208,7 @@ class Etcd:
         """The pair of a key that is there."""
         pair = self.get(key)
         if pair is None:
-            raise ValueError(f"{key} is not in etcd")
+            raise UserError(f"{key} is not in etcd")
         return pair
 
     def count(self, prefix: str) -> int:

@@ -25,6 +25,7 @@ from typing import NamedTuple
 import etcd
 from etcd import Etcd, Object, Pair
 from etcd import below, delete, is_absent, is_there, keep, keys, put, read
+from rvstm_tools.errors import UserError
 
 LOG, PARTS, DIGESTS, DUMPS, NODES = "/log/", "/parts/", "/digests/", "/dumps/", "/nodes/"
 PRUNED, SETTINGS = "/pruned", "/settings"
@@ -41,7 +42,7 @@ PLACE = re.compile(r"/(?:digests|dumps)/(.+)/([0-9]{10})")
 HEAD = re.compile(rb"parts((?: [0-9a-f]{64}){0,%d})\n" % MOST_PARTS)
 
 
-class Gone(ValueError):
+class Gone(UserError):
     """A block that was pruned from the log."""
 
 
@@ -181,7 +182,7 @@ class Proposer:
             if pair:  # an answer was lost
                 return pair.made
             if not self.client.get(GENESIS):
-                raise ValueError("the log has no genesis: put one with propose --genesis")
+                raise UserError("the log has no genesis: put one with propose --genesis")
             # otherwise the time of the parts ran out: they are put again
 
     def put_block(
@@ -191,7 +192,7 @@ class Proposer:
         parts = [data[start : start + LONGEST_PART] for start in range(0, len(data), LONGEST_PART)]
         parts = parts if len(data) > LONGEST_INLINE else []
         if len(parts) > MOST_PARTS:
-            raise ValueError("the block is too long")
+            raise UserError("the block is too long")
         names = [f"{parts_of_key(key)}{number:03d}" for number in range(len(parts))]
         lease = int(self.client.ask("lease/grant", {"TTL": SECONDS_OF_PARTS})["ID"]) if parts else 0
         for name, part in zip(names, parts):
@@ -246,9 +247,9 @@ class Log:
         """The entries. Refuses one that was changed since it was made, or made at the revision of another."""
         for pair in pairs:
             if pair.made != pair.changed:
-                raise ValueError(f"{pair.key} was changed at revision {pair.changed}, and made at {pair.made}")
+                raise UserError(f"{pair.key} was changed at revision {pair.changed}, and made at {pair.made}")
             if pair.made <= self.revision:
-                raise ValueError(f"{pair.key} was made at revision {pair.made}, as another entry")
+                raise UserError(f"{pair.key} was made at revision {pair.made}, as another entry")
             self.revision = pair.made
         return pairs
 
@@ -271,7 +272,7 @@ def revision_at(client: Etcd, height: int, name: str) -> int | None:
     later: Object = {"min_create_revision": revision + 1, "sort_target": "CREATE", "sort_order": "ASCEND", "limit": height - known}
     _, blocks = client.range(below(BLOCKS, keys_only=True, **later))
     if len(blocks) < height - known:
-        raise ValueError(f"the session is at height {height}, and the log ends at {known + len(blocks)}: it is another log, or an older one")
+        raise UserError(f"the session is at height {height}, and the log ends at {known + len(blocks)}: it is another log, or an older one")
     return blocks[-1].made
 
 

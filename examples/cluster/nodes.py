@@ -22,6 +22,7 @@ from engines import Engine
 from etcd import Object, Pair, is_absent, keys, put, read
 from ledger import DIGESTS, DUMPS, GENESIS, NODES, NO_DIGEST, PROGRAMS, Mark
 from rvstm_tools import endings
+from rvstm_tools.errors import UserError
 from rvstm_tools.sessions import answers
 from rvstm_tools.sessions.answers import Answer, Refusal, State
 from rvstm_tools.sessions.processes import Settings
@@ -39,7 +40,7 @@ SECONDS_FOR_A_DUMP = 60
 QUOTA_WARNED = 0.8  # the share of etcd's quota from which on the node warns
 
 
-class Stop(ValueError):
+class Stop(UserError):
     """Why a node must stop."""
 
 
@@ -445,7 +446,7 @@ def start(kind: type[Node], given: argparse.Namespace) -> int:
             node.client.ask("kv/put", put(NODES + given.name, f"{host}:{port}")["request_put"])
             node.say(f"answers readers at http://{host}:{port}/")
             node.run()
-    except ValueError as error:
+    except UserError as error:
         node.say(f"STOPS: {error}")
         return 1
     finally:

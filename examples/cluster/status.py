@@ -20,6 +20,7 @@ import engines
 import etcd
 import ledger
 from ledger import BLOCKS, Values
+from rvstm_tools.errors import UserError
 from rvstm_tools.sessions.requests import Request
 
 if TYPE_CHECKING:
@@ -127,7 +128,7 @@ class Status:
             with self.lock:
                 gone = ledger.pruned(self.client)[0]
                 blocks = self.client.count(BLOCKS) + (gone or self.node.log_settings.get("as") == "frame")
-        except (OSError, ValueError):
+        except (OSError, ValueError, UserError):
             return None
         return max(0, blocks - self.node.mark.height)
 
@@ -146,7 +147,7 @@ class Status:
         try:
             with self.lock:
                 published, note = ledger.digests(self.client, max(0, node.mark.height - HEIGHTS_SHOWN + 1), node.mark.height), ""
-        except (OSError, ValueError):
+        except (OSError, ValueError, UserError):
             note = "etcd does not answer now."
         names, rows, wrong = rows_of(published)
         lag = self.lag()

@@ -17,6 +17,7 @@ import engines
 import etcd
 import ledger
 import nodes
+from rvstm_tools.errors import UserError
 from rvstm_tools.sessions import answers
 from rvstm_tools.sessions.answers import Done, Kind
 from rvstm_tools.sessions.processes import Settings
@@ -119,7 +120,7 @@ class Entries(unittest.TestCase):
         self.assertEqual(log.checked(pairs), pairs)
         self.assertEqual(log.revision, 8)
         for pair in (Pair("/log/c", b"", 8, 8, 0), Pair("/log/c", b"", 9, 10, 0)):
-            self.assertRaises(ValueError, log.checked, [pair])
+            self.assertRaises(UserError, log.checked, [pair])
 
 
 class Agreement(unittest.TestCase):
@@ -182,7 +183,7 @@ class Revisions(unittest.TestCase):
         self.assertEqual(self.at(shelf, 2, 3, 4), [None, 30, 45])
 
     def test_a_file_above_the_log_is_refused(self) -> None:
-        self.assertRaisesRegex(ValueError, "at height 5, and the log ends at 4", self.at, self.shelf(), 5)
+        self.assertRaisesRegex(UserError, "at height 5, and the log ends at 4", self.at, self.shelf(), 5)
 
 
 def answer_of(line: bytes) -> Answer:

@@ -2,16 +2,12 @@
 
 import argparse
 import os
-import subprocess
 import sys
 from collections.abc import Callable
 from typing import NoReturn
 
 from rvstm_tools import errors
 from rvstm_tools.errors import Status
-
-MISTAKES = (ValueError, LookupError, subprocess.SubprocessError)
-"""What such scripts raise for a mistake of their user, beside `UserError` and `OSError`."""
 
 
 def parser_of(text: str) -> argparse.ArgumentParser:
@@ -32,4 +28,4 @@ def run(main: Callable[[], int | None], text: str) -> NoReturn:
             return Status.MISUSED
         return main() or Status.DONE
 
-    sys.exit(errors.ended(os.path.basename(sys.argv[0]), status, MISTAKES))
+    sys.exit(errors.ended(os.path.basename(sys.argv[0]), status))

@@ -63,12 +63,8 @@ def reason(error: Exception) -> str:
     return printable(str(error).split("\n")[0])
 
 
-def ended(name: str, run: Callable[[], int], others: tuple[type[Exception], ...] = ()) -> int:
-    """Runs a command and returns its status. A mistake of the user is one line on standard error that begins with the name.
-
-    `others` are exceptions that count as such a mistake too. Only scripts that still raise `ValueError` for one name some.
-    """
-    mistakes: tuple[type[Exception], ...] = (UserError, OSError, *others)
+def ended(name: str, run: Callable[[], int]) -> int:
+    """Runs a command and returns its status. A mistake of the user is one line on standard error that begins with the name."""
     try:
         try:
             return run()
@@ -76,7 +72,7 @@ def ended(name: str, run: Callable[[], int], others: tuple[type[Exception], ...]
             sys.stdout.flush()
     except KeyboardInterrupt:
         fault, status = "interrupted", Status.INTERRUPTED
-    except mistakes as error:
+    except (UserError, OSError) as error:
         fault, status = reason(error), Status.MISUSED if isinstance(error, MisuseError) else Status.FAILED
     drop_output()
     print(f"{name}: {fault}", file=sys.stderr)

@@ -11,7 +11,7 @@ import xml.etree.ElementTree as ElementTree
 from pathlib import Path
 from unittest import mock
 
-from rvstm_tools import commandline, errors
+from rvstm_tools import commandline, endings, errors
 from rvstm_tools.errors import Status, UserError
 from rvstm_tools.options import Command
 from tests.helpers import InFolder, called
@@ -230,6 +230,8 @@ class CommandLine(unittest.TestCase):
         for mistake in (KeyError("b"), ValueError("x"), IndexError("y")):
             with self.subTest(mistake), self.assertRaises(type(mistake)):
                 self.ended(mistake)
+            with self.subTest("a script", mistake=mistake), mock.patch("sys.argv", ["script", "a word"]), self.assertRaises(type(mistake)):
+                endings.run(mock.Mock(side_effect=mistake), "")
 
 
 class Launcher(InFolder):
