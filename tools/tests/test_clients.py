@@ -1,6 +1,7 @@
 """The session command: lists that are run as frames, requests by options and as they are typed, and frames that are sent again."""
 
 import hashlib
+import io
 import os
 import sys
 import unittest
@@ -103,8 +104,8 @@ class OfOptions(WithChain):
             (f"{folder}/died.block",): f"{folder}/died.block: rvstm: store Busy 1",
             (f"{folder}/none.list",): f"{folder}/none.list: No such file or directory",
             (missing,): f"{folder}/b.elf: No such file or directory",
-            (self.write("d.list", "call\n"),): f"{folder}/d.list: {folder}/d.list, line 1: call: a program's name, the gas and the "
-                                               "input follow it",
+            (self.write("d.list", "call\n"),): f"{folder}/d.list, line 1: call: a program's name, the gas and the input follow it",
+            (self.write("e.list", "storage \0\n"),): f"{folder}/e.list, line 1: \\x00: a name has no zero byte",
             (refused, "--dump", f"{folder}/no/out"): f"{folder}/no/out: No such file or directory",
         }.items():
             with self.subTest(message):
@@ -167,10 +168,16 @@ class OfTypedLines(WithChain):
             "forget nothing": "nothing: No such file or directory",
             'get "a': '"a: a text has a quote at each end, and a blank before and after it',
             "programs": "refused block 3 BadLine 2",
+            "get \udcff": "not UTF-8",
+            "frame a\0.list": "a\\x00.list: a path has no zero byte",
         }.items():
             with self.subTest(line):
                 status, output, faults = called_with(f"{line}\nget key:bob\n", "session")
                 self.assertEqual((status, output, faults), (1, '      "bob": 0500000000000000  5\n', f"session: {message}\n"))
+
+    def test_bytes_that_are_no_text(self) -> None:
+        with mock.patch("sys.stdin", io.TextIOWrapper(io.BytesIO(b"get \xff\nget key:bob\n"), encoding="utf-8")):
+            self.assertEqual(called("session"), (1, '      "bob": 0500000000000000  5\n', "session: not UTF-8\n"))
 
     def test_a_session_that_does_not_begin(self) -> None:
         self.program.write_text("#!/bin/sh\necho rvstm: store Busy 1 >&2\nexit 1\n", encoding="utf-8")

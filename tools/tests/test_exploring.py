@@ -588,9 +588,14 @@ class OfSearches(OverBank):
         other = self.write("b.explore", Path(right).read_text(encoding="utf-8") + self.rule())
         self.assertEqual(self.explored(other, *words)[::2], (
             2, "explore: kept/explored.json: the run there has another description, seed or length: name another folder\n"))
-        (self.folder / "kept/explored.json").write_text("{}", encoding="utf-8")
-        self.assertEqual(self.explored(right, *words)[::2], (
-            2, "explore: kept/explored.json: this is not what a run leaves: remove it, or name another folder\n"))
+        for wrong in (
+            {}, state | {"next": "7"}, state | {"next": -1}, state | {"next": 10**30}, state | {"found": [{"line": 1e999, "values": {}}]},
+            state | {"found": [{"line": 1, "values": {"n": 7}}]}, "[" * 100_000,
+        ):
+            text = wrong if isinstance(wrong, str) else json.dumps(wrong)
+            (self.folder / "kept/explored.json").write_text(text, encoding="utf-8")
+            self.assertEqual(self.explored(right, *words)[::2], (
+                2, "explore: kept/explored.json: this is not what a run leaves: remove it, or name another folder\n"))
 
     def test_what_was_found_is_tried_first(self) -> None:
         path, words = self.described(most=self.rule()), ("--folder", str(self.folder / "kept"))

@@ -1,4 +1,5 @@
 import argparse
+import io
 import sys
 from collections.abc import Callable, Iterator
 from dataclasses import dataclass
@@ -99,6 +100,8 @@ def answer_all(client: Client, given: argparse.Namespace) -> int:
         try:
             show(client, frame_of(path))
         except UserError as error:
+            if f"{error}".startswith(f"{path}, line "):
+                raise
             raise UserError(f"{path}: {error}") from error
     for asked in given.asked:
         show(client, asked)
@@ -116,6 +119,8 @@ def show(client: Client, asked: Asked) -> None:
 def answer_typed(client: Client) -> int:
     """Answers what is typed, or comes from a file. On a terminal a wrong line changes no status."""
     is_terminal = sys.stdin.isatty()
+    if isinstance(sys.stdin, io.TextIOWrapper):
+        sys.stdin.reconfigure(errors="surrogateescape")  # so that a line that is no text is refused alone
     if is_terminal:
         typed.set_readline(client)
         print(f"`{typed.HELP}` lists the requests; the tab key completes")

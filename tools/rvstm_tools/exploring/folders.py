@@ -11,6 +11,7 @@ from rvstm_tools.exploring.saved import SavedCall
 from rvstm_tools.exploring.searches import Limits
 
 STATE, LIST = "explored.json", "found.list"
+MOST_SEQUENCES = 1 << 63
 
 
 @dataclass(frozen=True)
@@ -61,11 +62,19 @@ class Folder:
         new.replace(self.path / STATE)
 
 
+def saved_call_of(line: object, values: dict[str, object]) -> SavedCall:
+    if type(line) is not int or not all(isinstance(word, str) for word in values.values()):
+        raise TypeError("not a line and words")
+    return SavedCall(line, {name: f"{word}" for name, word in values.items()})
+
+
 def state_of(path: Path) -> State:
     try:
         fields = json.loads(path.read_bytes())
         found = fields.pop("found")
-        calls = None if found is None else [SavedCall(int(call["line"]), dict(call["values"])) for call in found]
-        return State(**fields, found=calls)
-    except (ValueError, TypeError, KeyError, AttributeError) as error:
+        state = State(**fields, found=None if found is None else [saved_call_of(**call) for call in found])
+        if type(state.next) is not int or not 0 <= state.next <= MOST_SEQUENCES:
+            raise ValueError("not the number of a sequence")
+        return state
+    except (ValueError, TypeError, KeyError, AttributeError, RecursionError) as error:
         raise UserError(f"{path}: this is not what a run leaves: remove it, or name another folder") from error

@@ -84,6 +84,9 @@ class Numbers:
 class AnyBytes:
     lengths: Span
 
+    def has(self, length: int) -> bool:
+        return self.lengths.first <= length <= self.lengths.last
+
     def drawn(self, random: Random, _: Sequence[int]) -> Value:
         length = self.lengths.first + random.randrange(self.lengths.last - self.lengths.first + 1)
         return DrawnBytes(random.randrange(256) for _ in range(length))

@@ -33,10 +33,12 @@ def restored(description: Description, calls: Sequence[SavedCall]) -> list[Call]
 
 
 def value_of(place: Place, word: str) -> Value:
-    if isinstance(place, AnyBytes) and (not word or words.is_hex(word)):
+    if isinstance(place, AnyBytes) and (not word or words.is_hex(word)) and place.has(len(word) // 2):
         return DrawnBytes.fromhex(word)
-    if isinstance(place, Numbers) and numbers.is_decimal(word) and place.has(int(word)):
-        return int(word)
+    if isinstance(place, Numbers) and numbers.is_decimal(word):
+        number = numbers.at_most(word, max(span.last for span in place.spans))
+        if number is not None and place.has(number):
+            return number
     if not isinstance(place, AnyBytes | Numbers) and word in place.words:
         return word
     raise UserError(f"{word}: the description has no such value in this place: another folder is needed")

@@ -12,7 +12,7 @@ from rvstm_tools.errors import UserError
 from rvstm_tools.sessions import frames
 from rvstm_tools.sessions.clients import FIRST_KEY, MOST_KEYS, Client
 from rvstm_tools.sessions.requests import Word
-from rvstm_tools.texts import numbers, views, words
+from rvstm_tools.texts import lists, numbers, views, words
 from rvstm_tools.texts.keys import Key
 
 PROMPT = "rvstm> "
@@ -44,6 +44,8 @@ class Form:
 
 
 def path_of(word: str) -> Path:
+    if "\0" in word:
+        raise UserError(f"{word}: a path has no zero byte")
     return Path(word[1:-1] if words.is_text(word) else word)
 
 
@@ -96,6 +98,7 @@ def help_lines() -> Iterator[str]:
 
 
 def answer_lines(client: Client, line: str) -> Iterator[str]:
+    lists.check_encoding(line)
     word, *given = words.words_of(line) or ["#"]
     if word == "#":
         return iter(())

@@ -151,4 +151,6 @@ def key_of(word: str) -> keys.Key:
 def name_of(word: str) -> str:
     if is_text(word):
         raise UserError(f"{word}: a name has no quotes")
+    if "\0" in word:
+        raise UserError(f"{word}: a name has no zero byte")
     return word
