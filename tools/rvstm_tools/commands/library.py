@@ -59,7 +59,7 @@ class Linker:
         self.run("ld.lld", *words, "--whole-archive", archive, "--no-whole-archive", *below, executable=llvm)
         asked_for = shared.with_name(name)
         asked_for.unlink(missing_ok=True)
-        asked_for.symlink_to(shared.name)
+        asked_for.hardlink_to(shared)  # `rt ci` refuses symbolic links below crates/
 
 
 def build(checkout: Checkout) -> None:
