@@ -4,6 +4,7 @@ import ctypes
 import enum
 import os
 import re
+import resource
 import shutil
 import subprocess
 import tempfile
@@ -16,6 +17,7 @@ from rvstm_tools.programs.checkouts import Checkout
 VERSION_FILE = "crates/cmdline/src/commands.rt"
 VERSION = re.compile(r'\.version\("([0-9]+\.[0-9]+\.[0-9]+)"\)')
 STRIPPER = "llvm-objcopy"
+LONGEST_STRIPPED, MOST_MEMORY = 64_000_000, 1_000_000_000  # bytes
 
 
 class Product(enum.Enum):
@@ -111,6 +113,12 @@ class Products:
             raise UserError(f"{shared} says version {number}, not {self.version_number()}, which is that of {self.version()}")
 
 
+def limit_stripper() -> None:
+    """A program of a stranger may name places so far from one another that gigabytes would be between them."""
+    resource.setrlimit(resource.RLIMIT_FSIZE, (LONGEST_STRIPPED, LONGEST_STRIPPED))
+    resource.setrlimit(resource.RLIMIT_AS, (MOST_MEMORY, MOST_MEMORY))
+
+
 def stripped(data: bytes) -> bytes:
     """The bytes of a program or of a shared object without symbols and build id. GNU's objcopy would drop GNU_RELRO, too."""
     if not shutil.which(STRIPPER):
@@ -119,7 +127,7 @@ def stripped(data: bytes) -> bytes:
         given, made = Path(place, "given"), Path(place, "made")
         given.write_bytes(data)
         words = [STRIPPER, "--strip-all", "-R", ".note.gnu.build-id", str(given), str(made)]
-        done = subprocess.run(words, capture_output=True, encoding="utf-8", check=False)
+        done = subprocess.run(words, capture_output=True, encoding="utf-8", errors="replace", check=False, preexec_fn=limit_stripper)
         if done.returncode:
-            raise UserError(f"{STRIPPER} cannot read it: {done.stderr.strip()}")
+            raise UserError(f"{STRIPPER} cannot read it: {done.stderr.strip() or f'it ended with status {done.returncode}'}")
         return made.read_bytes()

@@ -1,0 +1,172 @@
+"""Readers of strangers' files take changed ones: each is read or refused in a line, within a second and in little memory.
+
+CHANGED_INPUTS=2000 python3 -m unittest tests.test_changed, in tools, tries so many of each; SEED repeats what was drawn.
+"""
+
+import io
+import lzma
+import os
+import random
+import resource
+import shutil
+import subprocess
+import time
+import unittest
+from collections.abc import Callable
+from pathlib import Path
+from random import Random
+from typing import cast
+
+from rvstm_tools.errors import UserError
+from rvstm_tools.exploring import saved
+from rvstm_tools.exploring.descriptions import Description
+from rvstm_tools.exploring.folders import Folder
+from rvstm_tools.exploring.saved import SavedCall
+from rvstm_tools.exploring.searches import Limits
+from rvstm_tools.programs.elf import ElfFile
+from rvstm_tools.releases import archives, verifying
+from rvstm_tools.releases.archives import File
+from rvstm_tools.sessions import typed
+from rvstm_tools.sessions.answers import Done
+from rvstm_tools.sessions.clients import Client
+from rvstm_tools.sessions.processes import Session
+from rvstm_tools.sessions.requests import Request, Word
+from rvstm_tools.texts import dumps, lists, results
+from rvstm_tools.texts.views import View
+from tests.helpers import InFolder
+from tests.test_elf import elf_file
+from tests.test_releases import package
+
+COUNT = int(os.environ.get("CHANGED_INPUTS", "60"))
+SEED = int(os.environ.get("SEED", str(random.randrange(1 << 32))))
+MOST_SECONDS, MOST_MEMORY = 1.0, 1 << 32
+KEY = "0" * 64
+LIST = 'rules 3\nprogram a a.elf\nshape row:ab n:u64\nstore row:ab:key:bob u64:7\nstore key:x "text"\ncall a 900 u8:1 account:bob i64:-1\n'
+RESULT = f"call 0 returned gas 9 pc 00010000 out 07\nregs{' 00000000' * 32}\nwrite 0 {KEY} 05\nstore {KEY} 05\nend\n"
+DUMP = f"rvblock 2\ngas 3\nstore {KEY} 05\n"
+TYPED = f'frame a.list\ntry "a.block"\nget key:bob\nlist {KEY} 5\nprogram a.elf\nforget {KEY}\nbegin a.dump 7 {KEY}\nlast\nstate\nhelp\n'
+EXPLORED = "program a a.elf\ndraw n 0..9\ndraw who alice bob\ndraw data bytes:0..4\ncall a 900 u64:{n} key:{who} hex:00{data}\nreturned n\n"
+FOUND = [SavedCall(5, {"n": "7", "who": "bob", "data": "0102"})]
+
+
+def changed(choice: Random, data: bytes) -> bytes:
+    """A copy with bytes changed, cut or doubled, one to three times."""
+    for _ in range(choice.randint(1, 3)):
+        start = choice.randrange(len(data) + 1)
+        end = min(len(data), start + choice.choice((1, 1, 2, 4, 64, len(data))))
+        new = choice.choice((choice.randbytes(end - start), bytes([choice.choice(b"\0\xff\n -09")]) * (end - start), b"", data[start:end] * 2))
+        data = data[:start] + new + data[end:]
+    return data
+
+
+class FakeSession:
+    """Answers each request as if it was done."""
+
+    ANSWERS: dict[bytes, str] = {Word.GET: "absent\n", Word.FRAME: RESULT, Word.TRY: RESULT, Word.LAST: RESULT}
+
+    def ask(self, request: Request) -> Done:
+        return Done(self.ANSWERS.get(request.word, "").encode())
+
+
+class ChangedFiles(InFolder):
+    def setUp(self) -> None:
+        super().setUp()
+        before = resource.getrlimit(resource.RLIMIT_AS)
+        resource.setrlimit(resource.RLIMIT_AS, (MOST_MEMORY, before[1]))
+        self.addCleanup(resource.setrlimit, resource.RLIMIT_AS, before)
+        self.write("a.elf", elf_file())
+        for name, text in {"a.list": LIST, "a.block": f"rvblock 1\nprogram 0 a.elf\ncall 0 9 {KEY}\n", "a.dump": DUMP}.items():
+            self.write(name, text)
+        self.addCleanup(os.chdir, os.getcwd())
+        os.chdir(self.folder)
+
+    def tries(self, read: Callable[[str], object], valid: bytes, pack: Callable[[bytes], bytes] = bytes) -> None:
+        """Reads a valid file and changed ones, which are packed after the change."""
+        choice = Random(SEED)
+        read(self.write("changed", pack(valid)))
+        for number in range(COUNT):
+            data = changed(choice, valid)
+            path, began = self.write("changed", pack(data)), time.monotonic()
+            try:
+                read(path)
+            except (UserError, OSError):
+                pass
+            except Exception as error:
+                raise AssertionError(f"SEED={SEED}, input {number}: {error!r} for {data!r}") from error
+            seconds = time.monotonic() - began
+            self.assertLess(seconds, MOST_SECONDS, f"SEED={SEED}, input {number}: {data!r}")
+
+    def test_programs(self) -> None:
+        def read(path: str) -> None:
+            file = ElfFile(path)
+            for address in file.words():
+                file.function_at(address)
+
+        self.tries(read, elf_file())
+
+    def test_lists_results_and_dumps(self) -> None:
+        self.tries(lambda path: (lists.read_view(path), lists.read_block(path, {}).text()), LIST.encode())
+        self.tries(results.read_storage, RESULT.encode())
+        self.tries(dumps.read_dump, DUMP.encode())
+
+    def test_lines_of_a_session(self) -> None:
+        def read(path: str) -> None:
+            client = Client(cast(Session, FakeSession()), View())
+            source = io.TextIOWrapper(io.BytesIO(Path(path).read_bytes()), encoding="utf-8", errors="surrogateescape")
+            for line in typed.typed_lines(source, is_terminal=False):
+                try:
+                    list(typed.answer_lines(client, line))
+                except (UserError, OSError):
+                    pass
+
+        self.tries(read, TYPED.encode())
+        for name in ("changed.block", "changed.list"):
+            self.tries(lambda path: list(Client(cast(Session, FakeSession()), View()).run(Word.FRAME, Path(shutil.move(path, name)))),
+                       (self.folder / f"a.{name[8:]}").read_bytes())
+
+    def test_folders_of_explorations(self) -> None:
+        description = Description(self.write("a.explore", EXPLORED))
+        folder, limits = Folder(self.folder / "kept", description), Limits(900, 9, None, 1)
+        folder.keep(limits, 3, FOUND)
+
+        def read(path: str) -> None:
+            shutil.copy(path, self.folder / "kept/explored.json")
+            state = folder.earlier(limits)
+            folder.first(state)
+            for call in saved.restored(description, state.found or []) if state else []:
+                call.kind.data(call.values)
+
+        self.tries(read, (self.folder / "kept/explored.json").read_bytes())
+
+    def test_packages(self) -> None:
+        """The files of a package that is read are those that GNU's tar finds."""
+        def read(path: str) -> None:
+            data = Path(path).read_bytes()
+            verifying.parts_of(path, data)
+            is_debian = data.startswith(archives.AR_HEAD)
+            packed, how = (list(archives.ar_members(data))[-1].data, "--xz") if is_debian else (data, "--gzip")
+            done = subprocess.run(["tar", "--list", how, "--quoting-style=literal"], input=packed, capture_output=True, check=False)
+            names = {os.fsdecode(line.removeprefix(b"./")) for line in done.stdout.splitlines() if not line.endswith(b"/")}
+            self.assertEqual((done.returncode, names), (0, archives.files_in(data).keys()))
+
+        tar = archives.tar_of({"usr/bin/rvstm": File(b"\x7fELF and more", 0o755), "usr/share/a": File(b"")}, 5)
+        packs: tuple[Callable[[bytes], bytes], ...] = (archives.gzip_of, lambda data: package(lzma.compress(data, preset=0)))
+        for pack in packs:
+            self.tries(read, tar, pack)
+            self.tries(read, pack(tar))
+        self.tries(verifying.sums_of, f"{KEY}  rvstm\n{KEY}  a.deb\n".encode())
+
+    @unittest.skipUnless(shutil.which("llvm-objcopy"), "there is no llvm-objcopy")
+    def test_programs_of_64_bits(self) -> None:
+        valid = Path(shutil.which("true") or "").read_bytes()
+        self.tries(lambda path: verifying.bare(path, Path(path).read_bytes()), valid)
+        table, count = int.from_bytes(valid[40:48], "little"), int.from_bytes(valid[60:62], "little")
+        last = table + 64 * (count - 1) + 48  # where a file of 64 bits says how its last section is aligned
+        began = time.monotonic()
+        with self.assertRaises(UserError):
+            verifying.bare("far", valid[:last] + (1 << 31).to_bytes(8, "little") + valid[last + 8 :])
+        self.assertLess(time.monotonic() - began, MOST_SECONDS)
+
+
+if __name__ == "__main__":
+    unittest.main()
