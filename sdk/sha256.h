@@ -28,9 +28,10 @@ void sha256_finish(struct sha256 *hash, u8 *digest);
 /* Writes the digest of these bytes. */
 void sha256(const void *bytes, u32 length, u8 *digest);
 
-/* Writes a key that no other table has: the digest of the tag and then of the key. A tag is the name of a
+/* Writes a key that no other tag has: the digest of the tag and then of the key. A tag is the name of a
    table; one that is not used by another program begins with the program's own name. With a tag of at most 23
-   bytes that is one block. Every table needs a tag: a key that comes from an input as it is may be that of any. */
+   bytes that is one block. Every table needs a tag: a key that comes from an input as it is may be that of any, and a row
+   of sdk/rows.h whose bytes a stranger chose, too (docs/contracts.md). */
 void table_key(const char *tag, const void *key, u8 *derived);
 
 /* A part of a row that is too long for sdk/rows.h. */

@@ -32,11 +32,11 @@ const INITIAL_STATE: [u32; 8] = [
     0x6a09e667, 0xbb67ae85, 0x3c6ef372, 0xa54ff53a, 0x510e527f, 0x9b05688c, 0x1f83d9ab, 0x5be0cd19,
 ];
 
-/// A key that no other table has: the digest of the tag and then of the key, as `table_key` of `sdk/sha256.h`.
+/// A key that no other tag has: the digest of the tag and then of the key, as `table_key` of `sdk/sha256.h`.
 ///
 /// A tag is the name of a table; one that no other program uses begins with the program's own name. With a tag of
 /// at most 23 bytes that is one block. Every table needs a tag: a key that comes from an input as it is may be
-/// that of any.
+/// that of any, and a row of `tables!` whose bytes a stranger chose, too.
 pub const fn table_key(tag: &str, key: &Key) -> Key {
     Key(digest_of(Message::Two(tag.as_bytes(), &key.0)))
 }
