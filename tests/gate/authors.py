@@ -1,12 +1,17 @@
-"""What an author does first: a new folder, whose test, random calls and coverage pass at once, and a bug that random calls find."""
+"""What an author does first: a new folder, whose test, random calls and coverage pass at once, and a bug that random calls find; and
+programs of others that tools read."""
 
 import re
+import struct
+import time
 from functools import partial
 
 from gate.calls import command, tool
-from gate.cases import Case, Lacks, Run, holds, same
+from gate.cases import TOP, Case, Lacks, Run, holds, same
 from gate.machine import CONTRACTS, Tool
 
+SECTION_SIZE, SYMBOL_SIZE = 40, 16  # bytes, of a header and of a row in an ELF file of 32 bits
+SECONDS_TO_REFUSE = 20
 NO_LIBRARIES = "Rust has no libraries for "
 BUGS = {
     "votes.c": ("__builtin_add_overflow(amount_at(account), amount, &sum)", "(sum = amount_at(account) + amount, 0)"),
@@ -38,10 +43,38 @@ def new_contract(run: Run, source: str, options: tuple[str, ...] = ()) -> None:
     holds("line 10: returned number(output)" in broken.out, broken.out, "the line that is broken")
 
 
+def with_symbol(program: bytes, name: bytes, header_size: int = SECTION_SIZE, sections: int = 4) -> bytes:
+    """A program whose symbol table has one function, and whose header says how many sections it has, and how large their headers are."""
+    names_at, symbols_at = len(program), len(program) + len(name) + 2
+    table = symbols_at + SYMBOL_SIZE
+    rows = ((0,) * 10, (0, 1, 6) + (0,) * 7, (0, 2, 0, 0, symbols_at, SYMBOL_SIZE, 3, 0, 4, SYMBOL_SIZE), (0, 3, 0, 0, names_at, len(name) + 2, 0, 0, 1, 0))
+    head = program[:32] + struct.pack("<I", table) + program[36:46] + struct.pack("<HHH", header_size, sections, 0) + program[52:]
+    return head + b"\0" + name + b"\0" + struct.pack("<IIIBBH", 1, 0x10000, 0, 0x12, 0, 1) + b"".join(struct.pack("<10I", *row) for row in rows)
+
+
+def programs_of_strangers(run: Run) -> None:
+    """A name of a function and a line of a list reach the terminal without their escape sequences. Wrong sections are refused at once."""
+    counter, path = (TOP / "examples/counter/counter.elf").read_bytes(), run.place / "a.elf"
+    (run.place / "a.list").write_text('program a a.elf\ncall a 900 key:1\nexpect returned "\x1b[31m"\n', encoding="utf-8")
+    (run.place / "a.block").write_text(f"rvblock 1\nprogram 0 a.elf\ncall 0 900 {1:064x}\n", encoding="utf-8")
+    path.write_bytes(with_symbol(counter, b"\x1b[31mred"))
+    for came, wanted in (
+        (tool(run, "trace", "a.block", "--call", "0", folder=run.place).done(), "\\x1b[31mred"),
+        (tool(run, "test", "a.list", folder=run.place).out, 'expect returned "\\x1b[31m"'),
+    ):
+        holds(wanted in came and "\x1b" not in came, came, wanted)
+    path.write_bytes(with_symbol(counter, b"a", 0, 0xFFFF))
+    began = time.monotonic()
+    refused = "trace: a.elf: not an ELF file of 32 bits, or only a part of one"
+    same(tool(run, "trace", "a.block", "--call", "0", folder=run.place).errors.splitlines()[-1], refused)
+    holds(time.monotonic() - began < SECONDS_TO_REFUSE, time.monotonic() - began, f"at most {SECONDS_TO_REFUSE} seconds")
+
+
 def cases() -> list[Case]:
     """All of them."""
     needs = (*CONTRACTS, Tool.LLVM)
     return [
+        Case("programs of strangers", programs_of_strangers),
         Case("a new contract in C", partial(new_contract, source="votes.c"), needs, cost=5),
         Case("a new contract in Rust", partial(new_contract, source="src/main.rs", options=("--rust",)), (Tool.LLVM, Tool.MAKE), seconds=300, cost=20),
     ]
