@@ -28,4 +28,5 @@ def run(main: Callable[[], int | None], text: str) -> NoReturn:
             return Status.MISUSED
         return main() or Status.DONE
 
+    errors.print_all_letters()
     sys.exit(errors.ended(os.path.basename(sys.argv[0]), status))

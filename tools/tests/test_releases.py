@@ -222,6 +222,8 @@ class OfComparisons(InFolder):
         for data, message in {
             b"nonsense": "neither a program nor a package",
             b"": "neither a program nor a package",
+            self.packed({"usr/bin/rvstm": File(b""), "bin/rvstm": File(b"")}): "it has a file, bin/rvstm, which no release has",
+            self.packed({"usr/local/bin/rvstm": File(b"")}): "it has a file, usr/local/bin/rvstm, which no release has",
             self.packed({"usr/bin/rvstm": Link("/bin/sh")}): "it has a link, usr/bin/rvstm, which no release has",
             self.packed({"usr/lib/librvstm.so": Link("/tmp/x")}): "it has a link, usr/lib/librvstm.so, which no release has",
             self.packed({"usr/bin/rvstm-tools": Link("/tmp/x")}): "it has a link, usr/bin/rvstm-tools, which no release has",

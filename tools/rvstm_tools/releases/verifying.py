@@ -20,6 +20,7 @@ PLACES = {
     re.compile(rf"{PREFIX}/lib/(.*/)?librvstm\.so[0-9.]*"): Product.SHARED,
 }
 TOOLS = re.compile(rf"{PREFIX}/bin/rvstm-tools")
+OF_RELEASE = re.compile(rf"{PREFIX}/(bin/rvstm(-tools)?|(include|lib|share)/.*)", re.DOTALL)  # /bin may lead to /usr/bin
 LINKED = re.compile(r"librvstm\.so[0-9.]*")
 CHECKSUM = re.compile("[0-9a-f]{64}")
 AS_IT_IS, BARE = "bytes as they are", "without symbols and build id"
@@ -100,6 +101,8 @@ def parts_of(path: str, data: bytes) -> list[Part]:
         raise UserError(f"{path}: {error}") from error
     found = []
     for name, file in files.items():
+        if not OF_RELEASE.fullmatch(name):
+            raise UserError(f"{path}: it has a file, {name}, which no release has")
         product = next((product for place, product in PLACES.items() if place.fullmatch(name)), None)
         if isinstance(file, Link):
             is_library = product is Product.SHARED and LINKED.fullmatch(file.target)
