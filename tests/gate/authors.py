@@ -1,5 +1,5 @@
-"""What an author does first: a new folder, whose test, random calls and coverage pass at once, and a bug that random calls find; and
-programs of others that tools read."""
+"""What an author does first: a new folder, whose test, random calls and coverage pass at once, and a bug that random
+calls find; and programs of others that tools read."""
 
 import re
 import struct
@@ -44,16 +44,20 @@ def new_contract(run: Run, source: str, options: tuple[str, ...] = ()) -> None:
 
 
 def with_symbol(program: bytes, name: bytes, header_size: int = SECTION_SIZE, sections: int = 4) -> bytes:
-    """A program whose symbol table has one function, and whose header says how many sections it has, and how large their headers are."""
+    """A program with one function in its symbols. Its header says how many sections it has, and how large their headers are."""
     names_at, symbols_at = len(program), len(program) + len(name) + 2
     table = symbols_at + SYMBOL_SIZE
-    rows = ((0,) * 10, (0, 1, 6) + (0,) * 7, (0, 2, 0, 0, symbols_at, SYMBOL_SIZE, 3, 0, 4, SYMBOL_SIZE), (0, 3, 0, 0, names_at, len(name) + 2, 0, 0, 1, 0))
+    rows = [
+        (0,) * 10, (0, 1, 6, *(0,) * 7), (0, 2, 0, 0, symbols_at, SYMBOL_SIZE, 3, 0, 4, SYMBOL_SIZE),
+        (0, 3, 0, 0, names_at, symbols_at - names_at, 0, 0, 1, 0),
+    ]
     head = program[:32] + struct.pack("<I", table) + program[36:46] + struct.pack("<HHH", header_size, sections, 0) + program[52:]
-    return head + b"\0" + name + b"\0" + struct.pack("<IIIBBH", 1, 0x10000, 0, 0x12, 0, 1) + b"".join(struct.pack("<10I", *row) for row in rows)
+    symbol = struct.pack("<IIIBBH", 1, 0x10000, 0, 0x12, 0, 1)
+    return head + b"\0" + name + b"\0" + symbol + b"".join(struct.pack("<10I", *row) for row in rows)
 
 
 def programs_of_strangers(run: Run) -> None:
-    """A name of a function and a line of a list reach the terminal without their escape sequences. Wrong sections are refused at once."""
+    """Names of functions and lines of lists are printed without escape sequences. Wrong sections are refused at once."""
     counter, path = (TOP / "examples/counter/counter.elf").read_bytes(), run.place / "a.elf"
     (run.place / "a.list").write_text('program a a.elf\ncall a 900 key:1\nexpect returned "\x1b[31m"\n', encoding="utf-8")
     (run.place / "a.block").write_text(f"rvblock 1\nprogram 0 a.elf\ncall 0 900 {1:064x}\n", encoding="utf-8")

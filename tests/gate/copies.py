@@ -1,4 +1,4 @@
-"""Copies of the file of a session, as docs/operators.md has them: of a stopped session, of FILE alone, and put back in its place."""
+"""Copies of the file of a session, as docs/operators.md has them: of a stopped session, of FILE alone, and put back."""
 
 import random
 import re
@@ -46,14 +46,15 @@ def height_of(run: Run, path: Path) -> int:
         found, dump = STATE.search(session.ask(asks("state"))), session.ask(asks("dump"))
         assert found
         height = int(found[1])
-        same(dump.partition(b"\n")[2], f"rvblock 2\ngas 1\n{entries(height) if height else ''}".encode(), f"the dump at height {height}")
+        wanted = f"rvblock 2\ngas 1\n{entries(height) if height else ''}"
+        same(dump.partition(b"\n")[2].decode(), wanted, f"the dump at height {height}")
         same(session.end(), (b"", "", 0))
     holds(bool(height) or found[2] == NO_DIGEST, found[2], "no digest at height 0")
     return height
 
 
 def stopped(run: Run) -> None:
-    """A copy of FILE and FILE-wal that is made while all threads are stopped opens at the height before or after the frame that runs."""
+    """A copy of both files, made while all threads are stopped, opens at the height before or after the frame that runs."""
     choice, path, found = random.Random(run.setting.seed), run.place / "file", list[int]()
     run.note(f"seed {run.setting.seed}")
     with Session(run.program, "--workers", "2", "--store", path) as session:

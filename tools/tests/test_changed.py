@@ -1,6 +1,6 @@
-"""Readers of strangers' files take changed ones: each is read or refused in a line, within a second and in little memory.
+"""Readers of strangers' files take changed ones: each is read or refused, within a second and in little memory.
 
-CHANGED_INPUTS=2000 python3 -m unittest tests.test_changed, in tools, tries so many of each; SEED repeats what was drawn.
+CHANGED_INPUTS=2000 python3 -m unittest tests.test_changed tries so many of each; SEED repeats what was drawn.
 """
 
 import io
@@ -10,7 +10,6 @@ import random
 import resource
 import shutil
 import subprocess
-import time
 import unittest
 from collections.abc import Callable
 from pathlib import Path
@@ -26,7 +25,7 @@ from rvstm_tools.exploring.searches import Limits
 from rvstm_tools.programs.elf import ElfFile
 from rvstm_tools.releases import archives, verifying
 from rvstm_tools.releases.archives import File
-from rvstm_tools.sessions import typed
+from rvstm_tools.sessions import replays, typed
 from rvstm_tools.sessions.answers import Done
 from rvstm_tools.sessions.clients import Client
 from rvstm_tools.sessions.processes import Session
@@ -41,11 +40,24 @@ COUNT = int(os.environ.get("CHANGED_INPUTS", "60"))
 SEED = int(os.environ.get("SEED", str(random.randrange(1 << 32))))
 MOST_SECONDS, MOST_MEMORY = 1.0, 1 << 32
 KEY = "0" * 64
-LIST = 'rules 3\nprogram a a.elf\nshape row:ab n:u64\nstore row:ab:key:bob u64:7\nstore key:x "text"\ncall a 900 u8:1 account:bob i64:-1\n'
+LIST = """\
+rules 3
+program a a.elf
+shape row:ab n:u64
+store row:ab:key:bob u64:7
+store key:x "text"
+call a 900 u8:1 account:bob i64:-1
+"""
 RESULT = f"call 0 returned gas 9 pc 00010000 out 07\nregs{' 00000000' * 32}\nwrite 0 {KEY} 05\nstore {KEY} 05\nend\n"
 DUMP = f"rvblock 2\ngas 3\nstore {KEY} 05\n"
-TYPED = f'frame a.list\ntry "a.block"\nget key:bob\nlist {KEY} 5\nprogram a.elf\nforget {KEY}\nbegin a.dump 7 {KEY}\nlast\nstate\nhelp\n'
-EXPLORED = "program a a.elf\ndraw n 0..9\ndraw who alice bob\ndraw data bytes:0..4\ncall a 900 u64:{n} key:{who} hex:00{data}\nreturned n\n"
+TYPED = f'frame a.list\ntry "a.block"\nget key:bob\nlist {KEY} 5\nforget {KEY}\nbegin a.dump 7 {KEY}\nlast\nstate\n'
+EXPLORED = """\
+program a a.elf
+draw n 0..9
+draw who alice bob
+draw data bytes:0..4
+call a 900 u64:{n} key:{who} hex:00{data}
+"""
 FOUND = [SavedCall(5, {"n": "7", "who": "bob", "data": "0102"})]
 
 
@@ -54,9 +66,14 @@ def changed(choice: Random, data: bytes) -> bytes:
     for _ in range(choice.randint(1, 3)):
         start = choice.randrange(len(data) + 1)
         end = min(len(data), start + choice.choice((1, 1, 2, 4, 64, len(data))))
-        new = choice.choice((choice.randbytes(end - start), bytes([choice.choice(b"\0\xff\n -09")]) * (end - start), b"", data[start:end] * 2))
-        data = data[:start] + new + data[end:]
+        same = bytes([choice.choice(b"\0\xff\n -09")]) * (end - start)
+        data = data[:start] + choice.choice((choice.randbytes(end - start), same, b"", data[start:end] * 2)) + data[end:]
     return data
+
+
+def processor_seconds() -> float:
+    """Of this process and of those that it waited for: it does not depend on what else the machine does."""
+    return sum(os.times()[:4])
 
 
 class FakeSession:
@@ -86,14 +103,14 @@ class ChangedFiles(InFolder):
         read(self.write("changed", pack(valid)))
         for number in range(COUNT):
             data = changed(choice, valid)
-            path, began = self.write("changed", pack(data)), time.monotonic()
+            path, began = self.write("changed", pack(data)), processor_seconds()
             try:
                 read(path)
             except (UserError, OSError):
                 pass
             except Exception as error:
                 raise AssertionError(f"SEED={SEED}, input {number}: {error!r} for {data!r}") from error
-            seconds = time.monotonic() - began
+            seconds = processor_seconds() - began
             self.assertLess(seconds, MOST_SECONDS, f"SEED={SEED}, input {number}: {data!r}")
 
     def test_programs(self) -> None:
@@ -120,9 +137,10 @@ class ChangedFiles(InFolder):
                     pass
 
         self.tries(read, TYPED.encode())
-        for name in ("changed.block", "changed.list"):
-            self.tries(lambda path: list(Client(cast(Session, FakeSession()), View()).run(Word.FRAME, Path(shutil.move(path, name)))),
-                       (self.folder / f"a.{name[8:]}").read_bytes())
+        for valid in (Path("a.block"), Path("a.list")):
+            client = Client(cast(Session, FakeSession()), View())
+            self.tries(lambda path: list(client.run(Word.FRAME, Path(shutil.move(path, f"b{valid.suffix}")))), valid.read_bytes())
+        self.tries(lambda path: replays.digest_in(Path(path)), f"{KEY}\n".encode())
 
     def test_folders_of_explorations(self) -> None:
         description = Description(self.write("a.explore", EXPLORED))
@@ -144,13 +162,14 @@ class ChangedFiles(InFolder):
             data = Path(path).read_bytes()
             verifying.parts_of(path, data)
             is_debian = data.startswith(archives.AR_HEAD)
-            packed, how = (list(archives.ar_members(data))[-1].data, "--xz") if is_debian else (data, "--gzip")
-            done = subprocess.run(["tar", "--list", how, "--quoting-style=literal"], input=packed, capture_output=True, check=False)
-            names = {os.fsdecode(line.removeprefix(b"./")) for line in done.stdout.splitlines() if not line.endswith(b"/")}
-            self.assertEqual((done.returncode, names), (0, archives.files_in(data).keys()))
+            packed, how = (list(archives.ar_members(data))[-1].data, "-J") if is_debian else (data, "-z")
+            done = subprocess.run(["tar", "-t", how, "--quoting-style=literal"], input=packed, capture_output=True, check=False)
+            paths = [os.fsdecode(line.removeprefix(b"./")) for line in done.stdout.splitlines()]
+            found = {path for path in paths if not path.endswith("/")}
+            self.assertEqual((done.returncode, found), (0, archives.files_in(data).keys()))
 
         tar = archives.tar_of({"usr/bin/rvstm": File(b"\x7fELF and more", 0o755), "usr/share/a": File(b"")}, 5)
-        packs: tuple[Callable[[bytes], bytes], ...] = (archives.gzip_of, lambda data: package(lzma.compress(data, preset=0)))
+        packs: list[Callable[[bytes], bytes]] = [archives.gzip_of, lambda data: package(lzma.compress(data, preset=0))]
         for pack in packs:
             self.tries(read, tar, pack)
             self.tries(read, pack(tar))
@@ -161,11 +180,11 @@ class ChangedFiles(InFolder):
         valid = Path(shutil.which("true") or "").read_bytes()
         self.tries(lambda path: verifying.bare(path, Path(path).read_bytes()), valid)
         table, count = int.from_bytes(valid[40:48], "little"), int.from_bytes(valid[60:62], "little")
-        last = table + 64 * (count - 1) + 48  # where a file of 64 bits says how its last section is aligned
-        began = time.monotonic()
+        last = table + 64 * (count - 1) + 48  # says how the last section is aligned
+        began = processor_seconds()
         with self.assertRaises(UserError):
             verifying.bare("far", valid[:last] + (1 << 31).to_bytes(8, "little") + valid[last + 8 :])
-        self.assertLess(time.monotonic() - began, MOST_SECONDS)
+        self.assertLess(processor_seconds() - began, MOST_SECONDS)
 
 
 if __name__ == "__main__":

@@ -69,15 +69,6 @@ class OfArchives(InFolder):
         members = [Member("one", b"odd"), Member("two", b"even")]
         self.assertEqual(list(archives.ar_members(ar(*members))), members)
 
-    def test_any_byte_may_be_wrong(self) -> None:
-        data = archives.gzip_of(archives.tar_of(ENTRIES, 5))
-        for at in range(0, len(data), 3):
-            wrong = data[:at] + bytes([data[at] ^ 0x55]) + data[at + 1 :]
-            try:
-                archives.files_in(wrong)
-            except UserError:
-                pass
-
     def refused(self, data: bytes, message: str) -> None:
         with self.subTest(message), self.assertRaises(UserError) as caught:
             archives.files_in(data)
@@ -154,15 +145,6 @@ class OfPackages(InFolder):
         self.assertEqual({row[1] for row in rows}, {"root/root"})
         self.assertEqual({row[3] for row in rows}, {"2023-11-14"})  # of SECONDS
         self.assertIn("prerm", self.run_packer("--info", path))
-
-    def test_a_cut_at_places(self) -> None:
-        """A cut package is refused, or has all of its files."""
-        data = deb()
-        for end in range(0, len(data), 7):
-            try:
-                self.assertEqual(archives.files_in(data[:end]), ENTRIES)
-            except UserError:
-                pass
 
     def test_messages(self) -> None:
         with self.assertRaises(UserError) as caught:

@@ -99,8 +99,8 @@ def unpacked(data: bytes, unpacker: "zlib._Decompress | lzma.LZMADecompressor") 
 
 
 def entries_of_tar(tar: bytes) -> Iterator[tuple[tarfile.TarInfo, bytes]]:
-    """The entries of a tar, each with its content. All programs read them in the same way: a header has exactly the bytes that GNU's
-    tar writes for it, and only zeros follow a content and the last entry."""
+    """The entries of a tar, each with its content. All programs find the same: a header has exactly the bytes that GNU's tar
+    writes for it, and only zeros follow a content and the last entry."""
     at = 0
     while (head := tar[at : at + tarfile.BLOCKSIZE]).strip(b"\0"):
         info, start = tarfile.TarInfo.frombuf(head, "utf-8", "surrogateescape"), at + tarfile.BLOCKSIZE
@@ -144,9 +144,7 @@ def files_of_debian(data: bytes) -> Entries:
     members = list(ar_members(data))
     if [member.name for member in members] != DEBIAN_MEMBERS or members[0].data != b"2.0\n":
         raise UserError("it is an archive of ar, and not a package of Debian as a release has it")
-    _, found = [
-        files_of_tar(unpacked(member.data, lzma.LZMADecompressor(lzma.FORMAT_XZ, LONGEST_UNPACKED))) for member in members[1:]
-    ]
+    _, found = [files_of_tar(unpacked(member.data, lzma.LZMADecompressor(lzma.FORMAT_XZ, LONGEST_UNPACKED))) for member in members[1:]]
     return found
 
 
