@@ -11,7 +11,7 @@ from rvstm_tools.errors import UserError
 
 PT_LOAD, PF_X, SHT_SYMTAB, SHF_EXECINSTR, STT_NOTYPE, STT_FUNC, STB_GLOBAL = 1, 1, 2, 4, 0, 2, 1
 SYMBOL_SIZE = 16
-MOST_SEGMENTS, LONGEST_NAME = 8, 4096  # program headers, as rvstm takes them; bytes of a symbol's name
+MOST_SEGMENTS, LONGEST_NAME = 8, 4096  # program headers, as rvstm takes them; bytes of a name
 NO_CODE = "no code"
 # Names in Rust: how a symbol begins, how each ends that no tool made plain, and the signs in it.
 RUST_SYMBOL, RUST_NAME, RUST_SIGN = re.compile("_ZN([0-9].*)E"), re.compile("(.+)::h[0-9a-f]{16}"), re.compile(r"\$(\w+)\$")
@@ -95,10 +95,10 @@ class ElfFile:
                     yield Function(address, size, self._text_at(names + name))
 
     def _text_at(self, place: int) -> str:
-        end = self.data.find(b"\0", place, place + LONGEST_NAME)
-        if end < 0:
+        name, end, _ = self.data[place : place + LONGEST_NAME].partition(b"\0")
+        if not end and len(name) < LONGEST_NAME:
             raise IndexError("a name has no end")
-        return self.data[place:end].decode(errors="backslashreplace")
+        return name.decode(errors="backslashreplace")
 
     def is_code(self, address: int) -> bool:
         return any(part.is_code and part.address <= address < part.address + part.in_memory for part in self.segments)
