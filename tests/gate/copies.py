@@ -26,12 +26,20 @@ def frame(height: int) -> bytes:
     return asks("frame", f"rvblock 1\n{entries(height)}".encode())
 
 
+def is_stopped(stat: Path) -> bool:
+    """Whether a thread is stopped, or has ended."""
+    try:
+        return stat.read_text(encoding="utf-8").rpartition(")")[2].split()[0] == "T"
+    except (FileNotFoundError, ProcessLookupError):
+        return True
+
+
 def stop(session: Session) -> None:
     """Stops a session. Each of its threads stops by itself."""
     session.process.send_signal(signal.SIGSTOP)
     until = time.monotonic() + SECONDS_TO_STOP
     tasks = Path(f"/proc/{session.process.pid}/task")
-    while any(path.read_text(encoding="utf-8").rpartition(")")[2].split()[0] != "T" for path in tasks.glob("*/stat")):
+    while not all(map(is_stopped, tasks.glob("*/stat"))):
         holds(time.monotonic() < until, "a thread that runs", "state T of all threads")
 
 
