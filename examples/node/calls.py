@@ -15,6 +15,17 @@ from rvstm_tools.texts.keys import ACCOUNT_LENGTH
 
 MOST_GAS = 1_000_000  # of a call
 LONGEST = LONGEST_INPUT - ACCOUNT_LENGTH  # bytes of an input; the node puts the account before it
+SIGN_OF_X = 0x80  # in the last byte of a public key; all other bits are y, the lowest byte first
+SMALL_ORDER = frozenset(map(bytes.fromhex, (
+    "0100000000000000000000000000000000000000000000000000000000000000",  # y = 1, order 1
+    "ecffffffffffffffffffffffffffffffffffffffffffffffffffffffffffff7f",  # y = p - 1, order 2; p is 2^255 - 19
+    "0000000000000000000000000000000000000000000000000000000000000000",  # y = 0, order 4
+    "c7176a703d4dd84fba3c0b760d10670f2a2053fa2c39ccc64ec7fd7792ac037a",  # order 8
+    "26e8958fc2b227b045c3f489f2ef98f0d5dfac05d3c63339b13802886d53fc05",  # order 8: p less the y above
+    "edffffffffffffffffffffffffffffffffffffffffffffffffffffffffffff7f",  # p in place of y = 0
+    "eeffffffffffffffffffffffffffffffffffffffffffffffffffffffffffff7f",  # p + 1 in place of y = 1
+)))
+"""Each y of a point of small order, as keys may have it: for such a key one signature is valid for all calls, or for one in eight."""
 FIELDS = {"key": str, "number": int, "gas": int, "input": str, "signature": str}
 
 
@@ -26,9 +37,19 @@ class RefusedError(Exception):
         self.status = status
 
 
+def printable(text: str) -> str:
+    """A text for a terminal: all but printable ASCII is escaped."""
+    return ascii(text)[1:-1]
+
+
 def account_of(key: bytes) -> bytes:
     """The account of a public key: the first 20 bytes of its SHA-256."""
     return hashlib.sha256(key).digest()[:ACCOUNT_LENGTH]
+
+
+def has_small_order(key: bytes) -> bool:
+    """Whether everybody can sign for a public key."""
+    return key[:-1] + bytes(byte & ~SIGN_OF_X for byte in key[-1:]) in SMALL_ORDER
 
 
 @dataclass(frozen=True)
@@ -46,17 +67,20 @@ class SignedCall:
         """Who signed."""
         return account_of(self.key)
 
-    def check(self, program: str) -> None:
-        """Refuses a call that its key did not sign."""
+    def check(self, ledger: bytes, program: str) -> None:
+        """Refuses a call that its key did not sign for this ledger."""
+        if has_small_order(self.key):
+            raise RefusedError(403, "the point of the key has small order, so everybody can sign")
+        signed = message(ledger, program, self.number, self.gas, self.input)
         try:
-            Ed25519PublicKey.from_public_bytes(self.key).verify(self.signature, message(program, self.number, self.gas, self.input))
+            Ed25519PublicKey.from_public_bytes(self.key).verify(self.signature, signed)
         except (InvalidSignature, ValueError):  # ValueError: the key has not 32 bytes
             raise RefusedError(403, "the signature is not that of the key") from None
 
 
-def message(program: str, number: int, gas: int, data: bytes) -> bytes:
-    """What is signed. It names the program, so that a ledger of another program does not take the call."""
-    return f"rvstm call\n{program}\n{number}\n{gas}\n{data.hex()}\n".encode()
+def message(ledger: bytes, program: str, number: int, gas: int, data: bytes) -> bytes:
+    """What is signed. It names the ledger and the program, so that no other takes the call."""
+    return f"rvstm call\n{ledger.hex()}\n{program}\n{number}\n{gas}\n{data.hex()}\n".encode()
 
 
 def call_of(body: bytes) -> SignedCall:

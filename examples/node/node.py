@@ -3,125 +3,84 @@
 chain` that is kept in a file, and answers each sender with the receipt. README.md has the rest.
 
 POST /calls            a call: {"key", "number", "gas", "input", "signature"}; answered when its block has run
-GET /accounts/ACCOUNT  the number of the account's next call, and its coins
+GET /accounts/ACCOUNT  the name of the ledger, the number of the account's next call, and its coins
 GET /                  a page that shows the last blocks
 """
 
 import argparse
 import contextlib
+import io
 import json
+import socket
 import sys
 import threading
 import time
-from collections import deque
-from concurrent.futures import Future
-from dataclasses import dataclass
+from collections.abc import Callable
 from http.server import BaseHTTPRequestHandler, ThreadingHTTPServer
-from pathlib import Path
+from typing import TYPE_CHECKING
 
 import calls  # first: it finds tools/
-import pages
-from calls import RefusedError, SignedCall
+from calls import RefusedError
+from ledger import Ledger
 from rvstm_tools import errors, options
-from rvstm_tools.errors import UserError
 from rvstm_tools.programs import finding
-from rvstm_tools.programs.running import Program
-from rvstm_tools.sessions import frames
-from rvstm_tools.sessions.answers import Done
-from rvstm_tools.sessions.kept import KeptSession
-from rvstm_tools.sessions.processes import Session, Settings
-from rvstm_tools.sessions.requests import Request, Word
-from rvstm_tools.texts import blocks, objects, results
-from rvstm_tools.texts.blocks import CallLine, Rules
 from rvstm_tools.texts.keys import ACCOUNT_LENGTH
 from rvstm_tools.texts.objects import Object
-from rvstm_tools.texts.rows import Row
 
-CONTRACT = Path(__file__).resolve().parent / "coins.elf"
-COINS, NUMBERS = "coin", "next"  # tables: the first is the contract's, the second the node's own
-LONGEST_BODY = 10_000  # bytes of a request; an input of a call has at most 4,096
-GAS_OF_A_BLOCK = 100_000_000
-CALLS_OF_A_BLOCK = min(blocks.MOST_CALLS, GAS_OF_A_BLOCK // calls.MOST_GAS)
-MOST_WAITING = 10_000  # calls
-SECONDS_OF_A_BLOCK, SECONDS_OF_A_REQUEST = 1.0, 30
-SHOWN_BLOCKS = 8
+if TYPE_CHECKING:
+    from _typeshed import WriteableBuffer
 
-
-@dataclass(frozen=True)
-class Waiting:
-    """A call that waits for its block, and the place of its receipt."""
-
-    call: SignedCall
-    receipt: Future[Object]
+LONGEST_BODY, LONGEST_REQUEST = 10_000, 30_000  # bytes; an input of a call has at most 4,096
+MOST_CONNECTIONS, BACKLOG = 500, 128  # a process often has at most 1,024 open files
+SECONDS_OF_A_BLOCK, SECONDS_OF_A_REQUEST = 1.0, 5.0
+HOSTS = ("127.0.0.1", "localhost")
+BUSY = b'HTTP/1.0 503 Service Unavailable\r\nContent-Type: application/json\r\n\r\n{"error": "too many connections"}\n'
 
 
-class Node:
-    """Calls that wait, and the session in which their blocks run."""
+class Arriving(io.RawIOBase):
+    """What arrives by a connection. A request has `SECONDS_OF_A_REQUEST` in all; what is longer than any is cut."""
 
-    def __init__(self, program: Program, store: str) -> None:
-        contract = CONTRACT.read_bytes()
-        settings = Settings(frame_gas=GAS_OF_A_BLOCK, digest=True, brief=True, store=store)
-        self.program, self.name = program, frames.name_of(contract)
-        self.session = KeptSession(lambda: Session(program.path, settings), [Request(Word.PROGRAM, (), contract)])
-        self.lock = threading.Lock()  # of all below, and of the session
-        self.waiting: deque[Waiting] = deque()
-        self.numbers: dict[bytes, int] = {}  # of the next call of each account that was asked for
-        self.shown: deque[pages.Shown] = deque(maxlen=SHOWN_BLOCKS)
+    def __init__(self, connection: socket.socket) -> None:
+        self.connection, self.left = connection, LONGEST_REQUEST
+        self.end = time.monotonic() + SECONDS_OF_A_REQUEST
 
-    def number_at(self, table: str, account: bytes) -> int | None:
-        answer = self.session.ask(Request(Word.GET, (Row(table, account).key.hex().encode(),)))
-        text = answer.body.decode().removeprefix("value ").strip()
-        return None if text == "absent" else int.from_bytes(bytes.fromhex(text), "little")
+    def readable(self) -> bool:
+        return True
 
-    def next_number(self, account: bytes) -> int:
-        """The number of the next call of an account: it is kept in the same step as the block of the last one."""
-        if account not in self.numbers:
-            self.numbers[account] = self.number_at(NUMBERS, account) or 0
-        return self.numbers[account]
+    def readinto(self, buffer: "WriteableBuffer") -> int:
+        seconds = self.end - time.monotonic()
+        if seconds <= 0:
+            raise TimeoutError
+        self.connection.settimeout(seconds)
+        count = self.connection.recv_into(memoryview(buffer)[: self.left])
+        self.left -= count
+        return count
 
-    def take(self, call: SignedCall) -> Future[Object]:
-        """Takes a call for the next block. Its receipt comes later."""
-        call.check(self.name)
-        with self.lock:
-            wanted = self.next_number(call.account)
-            if call.number != wanted:
-                raise RefusedError(409, f"the next call of this account has the number {wanted}")
-            if len(self.waiting) >= MOST_WAITING:
-                raise RefusedError(503, "too many calls wait")
-            self.numbers[call.account] = wanted + 1
-            self.waiting.append(Waiting(call, Future()))
-            return self.waiting[-1].receipt
 
-    def run_block(self) -> None:
-        """Runs a block of calls that wait, and sends the receipts."""
-        with self.lock:
-            taken = [self.waiting.popleft() for _ in range(min(len(self.waiting), CALLS_OF_A_BLOCK))]
-            if not taken:
-                return
-            before = frames.stored_in(self.session.ask(Request(Word.DUMP)).body)
-            block = self.block_of([one.call for one in taken])
-            answer = self.session.run(block)
-            if not isinstance(answer, Done):
-                raise UserError(f"the block is not run: {answer.said}")
-            receipts = results.result_of(answer.body.decode()).receipts
-            height = self.session.height
-        for one, receipt in zip(taken, receipts):
-            one.receipt.set_result({"block": height} | objects.object_of_call(receipt, has_registers=False))
-        picture = pages.picture_of(self.program, height, frames.put_over(block, before), {self.name: CONTRACT.read_bytes()})
-        self.shown.appendleft(pages.Shown([one.call.account for one in taken], receipts, picture))
+class Server(ThreadingHTTPServer):
+    """A server whose connections are bounded: each has a thread."""
 
-    def block_of(self, signed: list[SignedCall]) -> bytes:
-        """The block of some calls, with the numbers of the calls after them."""
-        numbers = {Row(NUMBERS, call.account).key: (call.number + 1).to_bytes(8, "little") for call in signed}
-        lines = [CallLine(0, call.gas, call.account + call.input) for call in signed]
-        return blocks.text([self.name], numbers, lines, Rules.THREE).encode()
+    request_queue_size = BACKLOG
+
+    def process_request(self, request: socket.socket | tuple[bytes, socket.socket], client_address: object) -> None:
+        """Refuses a connection that is one too many."""
+        assert isinstance(request, socket.socket)
+        if threading.active_count() <= MOST_CONNECTIONS:
+            super().process_request(request, client_address)
+            return
+        with contextlib.suppress(OSError):
+            request.sendall(BUSY)
+        self.shutdown_request(request)
 
 
 class Handler(BaseHTTPRequestHandler):
     """A request of HTTP."""
 
-    node: Node
-    timeout = SECONDS_OF_A_REQUEST
+    ledger: Ledger
+
+    def setup(self) -> None:
+        super().setup()
+        self.rfile = io.BufferedReader(Arriving(self.connection))
 
     def handle(self) -> None:
         """A sender that hangs up is no mistake of this node."""
@@ -132,27 +91,32 @@ class Handler(BaseHTTPRequestHandler):
         """Answers the page, or what an account has."""
         account = self.path.removeprefix("/accounts/")
         if self.path == "/":
-            with self.node.lock:
-                state = self.node.session.ask(Request(Word.STATE)).body.decode()
-            self.send(200, "text/html; charset=utf-8", pages.page_of(list(self.node.shown), state, self.node.name).encode())
+            self.send(200, "text/html; charset=utf-8", self.ledger.page().encode())
         elif len(account) == 2 * ACCOUNT_LENGTH and not set(account) - set("0123456789abcdef"):
-            with self.node.lock:
-                number = self.node.next_number(bytes.fromhex(account))
-                coins = self.node.number_at(COINS, bytes.fromhex(account))
-            self.send_object(200, {"next": number, "coins": coins})
+            self.answer(lambda: self.ledger.account(bytes.fromhex(account)))
         else:
             self.send_object(404, {"error": "there is nothing here"})
 
     def do_POST(self) -> None:
-        """Answers a call with its receipt. A body that is too long is not read."""
-        self.close_connection = True
+        """Answers a call with its receipt."""
+        self.answer(lambda: self.ledger.take(self.call()).result())
+
+    def call(self) -> calls.SignedCall:
+        """The call of the body. One that is too long is not read, nor one that a page of another origin sends by a browser."""
+        hosts: list[str] = self.headers.get_all("Host", [])
+        origins: list[str] = self.headers.get_all("Origin", [])
+        if len(hosts) != 1 or hosts[0].partition(":")[0] not in HOSTS or origins not in ([], [f"http://{hosts[0]}"]):
+            raise RefusedError(403, f"a call names {' or '.join(HOSTS)} as its Host, and no other Origin")
+        length = self.headers.get("Content-Length", "")
+        if self.path != "/calls" or not (length.isascii() and length.isdigit()):
+            raise RefusedError(400, "calls are posted to /calls, with a Content-Length")
+        if len(length) > 9 or int(length) > LONGEST_BODY:
+            raise RefusedError(413, f"a call has at most {LONGEST_BODY} bytes")
+        return calls.call_of(self.rfile.read(int(length)))
+
+    def answer(self, found: Callable[[], Object]) -> None:
         try:
-            length = self.headers.get("Content-Length", "")
-            if self.path != "/calls" or not (length.isascii() and length.isdigit()):
-                raise RefusedError(400, "calls are posted to /calls, with a Content-Length")
-            if len(length) > 9 or int(length) > LONGEST_BODY:
-                raise RefusedError(413, f"a call has at most {LONGEST_BODY} bytes")
-            self.send_object(200, self.node.take(calls.call_of(self.rfile.read(int(length)))).result())
+            self.send_object(200, found())
         except RefusedError as error:
             self.send_object(error.status, {"error": str(error)})
 
@@ -160,6 +124,7 @@ class Handler(BaseHTTPRequestHandler):
         self.send(status, "application/json", json.dumps(given).encode() + b"\n")
 
     def send(self, status: int, kind: str, body: bytes) -> None:
+        self.connection.settimeout(SECONDS_OF_A_REQUEST)
         self.send_response(status)
         self.send_header("Content-Type", kind)
         self.send_header("Content-Length", str(len(body)))
@@ -175,16 +140,19 @@ def main() -> int:
     parser = argparse.ArgumentParser(description="A node that takes signed calls.")
     options.add_program(parser)
     parser.add_argument("--store", required=True, metavar="FILE", help="the file that the ledger is kept in")
-    parser.add_argument("--port", type=int, default=8545, metavar="N", help="the port of 127.0.0.1 on which it listens (8545); 0 is a free port")
+    parser.add_argument(
+        "--port", type=options.number(0, 65535), default=8545, metavar="N", help="the port of 127.0.0.1 on which it listens (8545); 0 is a free port",
+    )
     given = parser.parse_args()
-    node = Node(finding.chosen(options.program_choice(given), "node"), given.store)
-    Handler.node = node
-    server = ThreadingHTTPServer(("127.0.0.1", given.port), Handler)
+    ledger = Ledger(finding.chosen(options.program_choice(given), "node"), given.store)
+    Handler.ledger = ledger
+    server = Server(("127.0.0.1", given.port), Handler)
     threading.Thread(target=server.serve_forever, daemon=True).start()
-    print(f"http://127.0.0.1:{server.server_port}/ at height {node.session.height}", flush=True)
+    print(f"http://127.0.0.1:{server.server_port}/ at height {ledger.session.height}", flush=True)
     while True:
         time.sleep(SECONDS_OF_A_BLOCK)
-        node.run_block()
+        with contextlib.suppress(RefusedError):
+            ledger.turn()
 
 
 if __name__ == "__main__":

@@ -1,12 +1,15 @@
 """The page of the node: the last blocks, how their calls ended, and which of them waited for which."""
 
 import tempfile
+import threading
 import time
 from collections.abc import Iterator, Mapping, Sequence
-from dataclasses import dataclass
+from dataclasses import dataclass, field
 from html import escape
 from pathlib import Path
 
+from rvstm_tools import errors
+from rvstm_tools.errors import UserError
 from rvstm_tools.pictures.waits import Picture
 from rvstm_tools.programs.running import Program
 from rvstm_tools.texts import conflicts, shown
@@ -26,36 +29,52 @@ td.number, th.number { text-align: right } .other { color: #b3261e }
 """
 
 
-@dataclass(frozen=True)
-class Shown:
-    """A block of the page: who sent its calls, their receipts, and the picture."""
+DRAWING = threading.Lock()  # of the pictures: one is drawn at a time
 
+
+@dataclass
+class Shown:
+    """A block of the page: its file over what its calls read before it, who sent them, their receipts, and the picture if it is drawn."""
+
+    height: int
+    file: bytes
     senders: Sequence[bytes]
     receipts: Sequence[Receipt]
-    picture: str
+    time: float = field(default_factory=time.time)
+    drawn: str = ""
+
+    def picture(self, program: Program, programs: Mapping[str, bytes]) -> str:
+        """Which calls wait for which, or why there is no picture. `programs` are files by the paths that the block names."""
+        title = f"Block {self.height}, {time.strftime('%H:%M:%S', time.gmtime(self.time))} UTC"
+        with DRAWING:
+            try:
+                self.drawn = self.drawn or Picture(title, conflicts.conflicts_of(waits_in(self.file, program, programs)), View()).svg()
+            except (UserError, OSError) as error:
+                return f"<p>{title}: no picture: {escape(errors.reason(error))}</p>"
+            return self.drawn
 
 
-def picture_of(program: Program, height: int, block: bytes, files: Mapping[str, bytes]) -> str:
-    """The picture of which calls of a block file wait for which, or why there is none. `files` are its programs, by the paths that
-    it names."""
+def waits_in(block: bytes, program: Program, programs: Mapping[str, bytes]) -> str:
+    """What `rvstm conflicts` prints for a block file."""
     with tempfile.TemporaryDirectory() as place:
-        for name, file in {"block": block, **files}.items():
+        for name, file in {"block": block, **programs}.items():
             (Path(place) / name).write_bytes(file)
         printed = program.run(["conflicts", "block"], Path(place))
-    title = f"Block {height}, {time.strftime('%H:%M:%S', time.gmtime())} UTC"
     if printed.refusal:
-        return f"<p>{title}: no picture: {escape(printed.refusal)}</p>"
-    return Picture(title, conflicts.conflicts_of(printed.text), View()).svg()
+        raise UserError(printed.refusal)
+    return printed.text
 
 
-def page_of(blocks: Sequence[Shown], state: str, program: str) -> str:
+def page_of(sections: Sequence[str], state: str, ledger: str, program: str, fault: str) -> str:
     """The page. The browser asks for it again every two seconds."""
     said = dict(line.split(" ") for line in state.splitlines())
-    body = "\n".join(map(section_of, blocks)) or "<section>No block has run since the node started.</section>"
+    body = "\n".join(sections) or "<section>No block has run since the node started.</section>"
     return f"""<!doctype html>
 <html lang="en"><head><meta charset="utf-8"><meta http-equiv="refresh" content="2"><title>rvstm node, height {said["height"]}</title>
 <style>{STYLE}</style></head><body>
 <h1>Height {said["height"]}, {int(said["keys"]):,} keys</h1>
+<p class="other">{escape(fault)}</p>
+<p>ledger <code>{escape(ledger)}</code></p>
 <p>program <code>{escape(program)}</code></p>
 <p>digest <code>{escape(said["digest"])}</code></p>
 <p>A bar is a call, as wide as its gas. Calls one below the other can run side by side; a line leads from a call to one that waits for it.</p>
@@ -64,11 +83,11 @@ def page_of(blocks: Sequence[Shown], state: str, program: str) -> str:
 """
 
 
-def section_of(block: Shown) -> str:
+def section_of(block: Shown, picture: str) -> str:
     """What the page says of a block."""
     rows, left = "\n".join(row_lines(block)), len(block.receipts) - SHOWN_CALLS
     more = f"<p>and {left} more</p>" if left > 0 else ""
-    return f"""<section>{block.picture}
+    return f"""<section>{picture}
 <table><tr><th class="number">call</th><th>sender</th><th>end</th><th class="number">gas</th><th>output</th></tr>
 {rows}</table>{more}</section>"""
 

@@ -1,27 +1,35 @@
 #!/usr/bin/python3
 """Signs a payment, sends it to a node, and prints its receipt. KEY is the file of a private key; a new one is made if none is there.
 
+The signed call is in KEY.call until its receipt comes. If the answer was lost, start again: the same call is sent, and no second one.
 With --account it prints the account of KEY, and sends nothing.
 """
 
 import argparse
+import fcntl
 import http.client
 import json
 import os
+import re
 import sys
+from http import HTTPStatus
 from pathlib import Path
 
 from cryptography.hazmat.primitives.asymmetric.ed25519 import Ed25519PrivateKey
 from cryptography.hazmat.primitives.serialization import Encoding, NoEncryption, PrivateFormat, PublicFormat
 
 import calls  # first: it finds tools/
-from rvstm_tools import errors
+from rvstm_tools import errors, options
 from rvstm_tools.errors import UserError
 from rvstm_tools.sessions import frames
+from rvstm_tools.texts import numbers
 from rvstm_tools.texts.objects import Object
 
-CONTRACT = Path(__file__).resolve().parent / "coins.elf"
+PROGRAM = frames.name_of((Path(__file__).resolve().parent / "coins.elf").read_bytes())
 GAS = 5_000
+MOST_COINS = (1 << 64) - 1
+ACCOUNT, LEDGER = re.compile("[0-9a-f]{40}"), re.compile("[0-9a-f]{64}")
+NO_NODE = "the answer is not one of a node"
 
 
 def public_of(private: Ed25519PrivateKey) -> bytes:
@@ -41,43 +49,124 @@ def key_in(path: Path) -> Ed25519PrivateKey:
     return Ed25519PrivateKey.from_private_bytes(data)
 
 
-def signed(private: Ed25519PrivateKey, program: str, number: int, data: bytes) -> Object:
-    signature = private.sign(calls.message(program, number, GAS, data))
+def payment(to: str, amount: str) -> bytes:
+    """The input of a call that pays."""
+    if not ACCOUNT.fullmatch(to):
+        raise UserError(f"{calls.printable(to)}: an account has 40 digits, 0 to 9 and a to f")
+    coins = numbers.number_of(calls.printable(amount), 0, MOST_COINS, "an amount")
+    return bytes.fromhex(to) + coins.to_bytes(8, "little")
+
+
+def signed(private: Ed25519PrivateKey, ledger: bytes, program: str, number: int, data: bytes) -> Object:
+    signature = private.sign(calls.message(ledger, program, number, GAS, data))
     return {"key": public_of(private).hex(), "number": number, "gas": GAS, "input": data.hex(), "signature": signature.hex()}
 
 
-def asked(port: int, method: str, path: str, given: Object | None = None) -> Object:
-    """What a node answers. A refusal is an error."""
-    connection = http.client.HTTPConnection("127.0.0.1", port)
-    connection.request(method, path, None if given is None else json.dumps(given))
-    answer = connection.getresponse()
-    found: Object = json.loads(answer.read())
-    if answer.status != http.client.OK:
-        raise UserError(f"{answer.status}: {found['error']}")
-    return found
+def sync_folder(path: Path) -> None:
+    """Puts the names in the folder of a file on the disk."""
+    folder = os.open(path.parent, os.O_RDONLY)
+    os.fsync(folder)
+    os.close(folder)
+
+
+def keep(path: Path, call: Object) -> None:
+    """Puts a call on the disk, in whole or not at all."""
+    begun = path.with_name(f"{path.name}.new")
+    with open(begun, "w", encoding="ascii") as file:
+        json.dump(call, file)
+        file.flush()
+        os.fsync(file.fileno())
+    begun.replace(path)
+    sync_folder(path)
+
+
+class Node:
+    """A node on a port of the loopback address. Its texts are not trusted."""
+
+    def __init__(self, port: int) -> None:
+        self.port = port
+
+    def wrong(self, text: object) -> UserError:
+        return UserError(f"http://127.0.0.1:{self.port}: {calls.printable(str(text))}")
+
+    def ask(self, method: str, path: str, body: bytes | None = None) -> tuple[int, Object]:
+        """The status of an answer, and its object. That of a refusal has an `error`."""
+        connection = http.client.HTTPConnection("127.0.0.1", self.port)
+        try:
+            connection.request(method, path, body)
+            answer = connection.getresponse()
+            found = json.loads(answer.read())
+        except OSError as error:
+            raise self.wrong(error.strerror or error) from error
+        except (http.client.HTTPException, ValueError, RecursionError):
+            found = None
+        if not isinstance(found, dict) or answer.status != HTTPStatus.OK and "error" not in found:
+            raise self.wrong(NO_NODE)
+        return answer.status, found
+
+    def next_call(self, account: bytes) -> tuple[bytes, int]:
+        """The name of the ledger, and the number of the next call of an account."""
+        status, found = self.ask("GET", f"/accounts/{account.hex()}")
+        if status != HTTPStatus.OK:
+            raise self.wrong(f"{status}: {found['error']}")
+        name, number = found.get("ledger"), found.get("next")
+        if not isinstance(name, str) or not LEDGER.fullmatch(name) or not isinstance(number, int):
+            raise self.wrong(NO_NODE)
+        return bytes.fromhex(name), number
+
+    def send(self, kept: Path) -> UserError | None:
+        """Sends the call that is kept, and prints its receipt, or returns the refusal of a number that is used. Then the file goes."""
+        status, found = self.ask("POST", "/calls", kept.read_bytes())
+        refusal = None if status == HTTPStatus.OK else self.wrong(f"{status}: {found['error']}")
+        if refusal and status != HTTPStatus.CONFLICT:
+            raise refusal
+        kept.unlink()
+        sync_folder(kept)
+        if not refusal:
+            print(json.dumps(found))
+        return refusal
+
+
+def pay(key: Path, kept: Path, node: Node, data: bytes) -> None:
+    """Sends the call that an earlier start kept. If there is none, or it is another payment, sends this one."""
+    private = key_in(key)
+    with open(key, "rb") as file:
+        fcntl.flock(file, fcntl.LOCK_EX)  # payments with one key come one after the other
+        if kept.exists():
+            call = calls.call_of(kept.read_bytes())
+            if refusal := node.send(kept):
+                print(f"pay: call {call.number} of {kept} was sent before, and its receipt is lost: {refusal}", file=sys.stderr)
+            if call.input == data:
+                return
+        name, number = node.next_call(calls.account_of(public_of(private)))
+        keep(kept, signed(private, name, PROGRAM, number, data))
+        if refusal := node.send(kept):
+            raise refusal
 
 
 def main() -> int:
     parser = argparse.ArgumentParser(description=__doc__, formatter_class=argparse.RawDescriptionHelpFormatter)
     parser.add_argument("key", type=Path, metavar="KEY", help="the file of the payer's private key")
-    parser.add_argument("to", nargs="?", type=bytes.fromhex, metavar="TO", help="the account that is paid, 20 bytes in hex")
-    parser.add_argument("amount", nargs="?", type=int, metavar="AMOUNT", help="how many coins")
+    parser.add_argument("to", nargs="?", metavar="TO", help="the account that is paid, 20 bytes in hex")
+    parser.add_argument("amount", nargs="?", metavar="AMOUNT", help="how many coins")
     parser.add_argument("--account", action="store_true", help="prints the account of KEY")
-    parser.add_argument("--port", type=int, default=8545, metavar="N", help="of the node on 127.0.0.1 (8545)")
+    parser.add_argument("--port", type=options.number(1, 65535), default=8545, metavar="N", help="of the node on 127.0.0.1 (8545)")
     given = parser.parse_args()
-    private = key_in(given.key)
-    account = calls.account_of(public_of(private)).hex()
     if given.account:
-        print(account)
+        print(calls.account_of(public_of(key_in(given.key))).hex())
         return 0
     if given.amount is None:
         parser.error("TO and AMOUNT, or --account")
-    number = asked(given.port, "GET", f"/accounts/{account}")["next"]
-    assert isinstance(number, int)
-    call = signed(private, frames.name_of(CONTRACT.read_bytes()), number, given.to + given.amount.to_bytes(8, "little"))
-    print(json.dumps(asked(given.port, "POST", "/calls", call)))
+    with errors.taken_for_misuse():
+        data = payment(given.to, given.amount)
+    kept = Path(f"{given.key}.call")
+    try:
+        pay(given.key, kept, Node(given.port), data)
+    except UserError as error:
+        again = f"; {kept} has the call: start again to send it" if kept.exists() else ""
+        raise UserError(f"{error}{again}") from error
     return 0
 
 
 if __name__ == "__main__":
-    sys.exit(errors.ended("pay", main))
+    sys.exit(errors.ended("pay", main, (calls.RefusedError,)))

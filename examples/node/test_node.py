@@ -1,8 +1,10 @@
 """Tests of the node over the program that RVSTM names: /usr/bin/python3 -m unittest, in this folder."""
 
+import contextlib
 import http.client
 import json
 import os
+import resource
 import signal
 import socket
 import subprocess
@@ -11,20 +13,54 @@ import tempfile
 import threading
 import time
 import unittest
+from collections.abc import Iterator, Mapping
 from pathlib import Path
 
 from cryptography.hazmat.primitives.asymmetric.ed25519 import Ed25519PrivateKey
 
 import calls  # first: it finds tools/
 import pay
-from rvstm_tools.sessions import frames
+from rvstm_tools.sessions.processes import Session, Settings
+from rvstm_tools.sessions.requests import Request, Word
 from rvstm_tools.texts.objects import Object
 
 HERE = Path(__file__).resolve().parent
-PROGRAM = frames.name_of(pay.CONTRACT.read_bytes())
 ALICE, BOB, CAROL = (Ed25519PrivateKey.from_private_bytes(bytes([number]) * 32) for number in (1, 2, 3))
+PROGRAM = os.environ.get("RVSTM", "")
 SECONDS_TO_START = 60
+SECONDS_OF_SLOW_SENDERS = 20
 TEN_MEGABYTES = 10_000_000
+P, L = 2**255 - 19, 2**252 + 27742317777372353535851937790883648493  # of edwards25519 (RFC 8032, 5.1)
+D = -121665 * pow(121666, -1, P) % P
+
+
+def added(one: tuple[int, int], other: tuple[int, int]) -> tuple[int, int]:
+    """The sum of two points of the curve."""
+    (x, y), (u, v) = one, other
+    product = D * x * y * u * v
+    return (x * v + y * u) * pow(1 + product, -1, P) % P, (y * v + x * u) * pow(1 - product, -1, P) % P
+
+
+def torsion() -> set[tuple[int, int]]:
+    """The points whose order divides 8: L times some points are some of each kind."""
+    found = set()
+    for y in range(2, 40):
+        square = (y * y - 1) * pow(D * y * y + 1, -1, P) % P
+        root = pow(square, (P + 3) // 8, P)
+        for x in (root, root * pow(2, (P - 1) // 4, P) % P):
+            if x * x % P == square:
+                point = (0, 1)
+                for bit in f"{L:b}":
+                    point = added(point, point)
+                    point = added(point, (x, y)) if bit == "1" else point
+                found.add(point)
+    return found
+
+
+def small_order() -> set[bytes]:
+    """The keys whose point has small order, also those with a y of p or more, or with a sign of x = 0."""
+    encodings = ((same, sign) for x, y in torsion() for same in (y, y + P) for sign in {x & 1, 1 if x == 0 else x & 1})
+    return {(y | sign << 255).to_bytes(32, "little") for y, sign in encodings if y < 1 << 255}
 
 
 def account(private: Ed25519PrivateKey) -> bytes:
@@ -32,15 +68,11 @@ def account(private: Ed25519PrivateKey) -> bytes:
     return calls.account_of(pay.public_of(private))
 
 
-def payment(number: int, payer: Ed25519PrivateKey = ALICE, payee: Ed25519PrivateKey = BOB, amount: int = 1) -> Object:
-    """A signed payment."""
-    return pay.signed(payer, PROGRAM, number, account(payee) + amount.to_bytes(8, "little"))
-
-
 class RunningNode:
     """A node as a process, over a file."""
 
-    def __init__(self, store: Path) -> None:
+    def __init__(self, store: Path, program: str = PROGRAM) -> None:
+        self.program = program
         until = time.monotonic() + SECONDS_TO_START
         while not self.started(store):  # the engine of a node that was killed may have the file yet
             if time.monotonic() > until:
@@ -49,7 +81,7 @@ class RunningNode:
 
     def started(self, store: Path) -> bool:
         """Whether the node has started."""
-        words = [sys.executable, str(HERE / "node.py"), "--store", str(store), "--port", "0"]
+        words = [sys.executable, str(HERE / "node.py"), "--program", self.program, "--store", str(store), "--port", "0"]
         self.process = subprocess.Popen(words, stdout=subprocess.PIPE, stderr=subprocess.PIPE, encoding="utf-8")
         assert self.process.stdout
         self.line = self.process.stdout.readline()
@@ -57,6 +89,7 @@ class RunningNode:
             self.end()
             return False
         self.port = int(self.line.split("/")[2].partition(":")[2])
+        self.ledger = bytes.fromhex(str(self.ask("GET", f"/accounts/{account(ALICE).hex()}")[1]["ledger"]))
         return True
 
     def end(self) -> None:
@@ -65,14 +98,26 @@ class RunningNode:
         self.process.communicate()
 
     def engines(self) -> list[int]:
-        """The process of the session; none between one and the next."""
-        children = Path(f"/proc/{self.process.pid}/task/{self.process.pid}/children").read_text(encoding="utf-8").split()
-        return [int(child) for child in children if b"\0chain\0" in Path(f"/proc/{child}/cmdline").read_bytes()]
+        """The process of the session; none between one and the next. Processes may end meanwhile."""
+        found = []
+        for children in Path(f"/proc/{self.process.pid}/task").glob("*/children"):
+            with contextlib.suppress(FileNotFoundError, ProcessLookupError):
+                for child in children.read_text(encoding="utf-8").split():
+                    if b"\0chain\0" in Path(f"/proc/{child}/cmdline").read_bytes():
+                        found.append(int(child))
+        return found
 
-    def ask(self, method: str, path: str, body: bytes | None = None) -> tuple[int, Object]:
-        """The status of an answer, and its object."""
+    def payment(self, number: int, payer: Ed25519PrivateKey = ALICE, payee: Ed25519PrivateKey = BOB, amount: int = 1) -> Object:
+        """A payment that is signed for this ledger."""
+        return pay.signed(payer, self.ledger, pay.PROGRAM, number, account(payee) + amount.to_bytes(8, "little"))
+
+    def ask(self, method: str, path: str, body: bytes | None = None, fields: Mapping[str, str] | None = None) -> tuple[int, Object]:
+        """The status of an answer, and its object. `fields` are in place of the field Host."""
         connection = http.client.HTTPConnection("127.0.0.1", self.port, timeout=SECONDS_TO_START)
-        connection.request(method, path, body)
+        connection.putrequest(method, path, skip_host=fields is not None)
+        for name, value in {"Content-Length": f"{len(body or b'')}", **(fields or {})}.items():
+            connection.putheader(name, value)
+        connection.endheaders(body)
         answer = connection.getresponse()
         return answer.status, json.loads(answer.read())
 
@@ -80,9 +125,25 @@ class RunningNode:
         """The answer to a call."""
         return self.ask("POST", "/calls", json.dumps(given).encode())
 
+    def until_receipt(self, given: Object) -> list[object]:
+        """Posts a call until it has a receipt, and returns the reasons of the refusals before, which all have status 503."""
+        reasons, until = list[object](), time.monotonic() + SECONDS_TO_START
+        while (answer := self.post(given))[0] != 200:
+            assert answer[0] == 503 and time.monotonic() < until, answer
+            reasons.append(answer[1]["error"])
+            time.sleep(0.1)
+        return reasons
+
     def account(self, private: Ed25519PrivateKey) -> Object:
-        """What the node says of an account."""
-        return self.ask("GET", f"/accounts/{account(private).hex()}")[1]
+        """What the node says of an account, beside the name of the ledger."""
+        found = self.ask("GET", f"/accounts/{account(private).hex()}")[1]
+        del found["ledger"]
+        return found
+
+    def page(self) -> str:
+        connection = http.client.HTTPConnection("127.0.0.1", self.port, timeout=SECONDS_TO_START)
+        connection.request("GET", "/")
+        return connection.getresponse().read().decode()
 
 
 class Posting(threading.Thread):
@@ -101,68 +162,113 @@ class Posting(threading.Thread):
             pass
 
 
-@unittest.skipUnless(os.environ.get("RVSTM"), "RVSTM names no program")
+@unittest.skipUnless(PROGRAM, "RVSTM names no program")
 class WithNode(unittest.TestCase):
-    """A node over a file of its own."""
+    """A node over a file of its own, with the program that RVSTM names or with a script in its place."""
+
+    script = ""
 
     def setUp(self) -> None:
         place = tempfile.TemporaryDirectory()
         self.addCleanup(place.cleanup)
-        self.store = Path(place.name) / "ledger"
+        self.place = Path(place.name)
+        self.store, self.program = self.place / "ledger", PROGRAM
+        if self.script:
+            path = self.place / "program"
+            path.write_text(self.script.replace("PLACE", place.name).replace("PROGRAM", PROGRAM), encoding="utf-8")
+            path.chmod(0o755)
+            self.program = str(path)
         self.start()
 
     def start(self) -> None:
-        self.node = RunningNode(self.store)
+        self.node = RunningNode(self.store, self.program)
         self.addCleanup(self.node.end)
 
 
 class SignedCalls(WithNode):
     def test_receipts(self) -> None:
-        status, receipt = self.node.post(payment(0, amount=30))
+        status, receipt = self.node.post(self.node.payment(0, amount=30))
         self.assertEqual((status, receipt["block"], receipt["call"], receipt["end"], receipt["output"]), (200, 1, 0, "returned", "46" + "00" * 7))
         self.assertEqual(self.node.account(ALICE), {"next": 1, "coins": 70})
         self.assertEqual(self.node.account(BOB), {"next": 0, "coins": 130})
-        status, receipt = self.node.post(payment(1, amount=71))
+        status, receipt = self.node.post(self.node.payment(1, amount=71))
         self.assertEqual((status, receipt["end"], bytes.fromhex(str(receipt["output"]))), (200, "reverted", b"too few coins"))
         self.assertEqual(self.node.account(ALICE), {"next": 2, "coins": 70})
         self.assertEqual(self.node.account(CAROL), {"next": 0, "coins": None})
 
     def test_forged_calls(self) -> None:
-        right: Object = payment(0)
+        right: Object = self.node.payment(0)
         forged: list[Object]
-        other = account(CAROL).hex() + str(right["input"])[40:]
+        data = bytes.fromhex(str(right["input"]))
         forged = [
-            {"key": pay.public_of(BOB).hex()}, {"input": other}, {"number": 1}, {"gas": 5001}, {"signature": "00" * 64},
-            {"signature": ""}, {"key": ""}, {"key": "00" * 32}, {"signature": payment(1)["signature"]},
-            pay.signed(ALICE, "00" * 32, 0, bytes.fromhex(str(right["input"]))),
+            {"key": pay.public_of(BOB).hex()}, {"input": (account(CAROL) + data[20:]).hex()}, {"number": 1}, {"gas": 5001},
+            {"signature": "00" * 64}, {"signature": ""}, {"key": ""}, {"key": "00" * 31}, {"signature": self.node.payment(1)["signature"]},
+            pay.signed(ALICE, self.node.ledger, "00" * 32, 0, data), pay.signed(ALICE, bytes(32), pay.PROGRAM, 0, data),
         ]
         for changed in forged:
             with self.subTest(changed):
                 self.assertEqual(self.node.post(right | changed), (403, {"error": "the signature is not that of the key"}))
         self.assertEqual(self.node.account(ALICE), {"next": 0, "coins": None})
 
+    def test_keys_of_small_order(self) -> None:
+        """R = (0, 1) and S = 0 are a signature of all calls for such a key, or of one in 2, 4 or 8. The table has the encodings that
+        the arithmetic of the curve gives."""
+        encodings = small_order()
+        self.assertEqual((len(torsion()), len(encodings), {calls.has_small_order(key) for key in encodings}), (8, 14, {True}))
+        self.assertEqual({key[:31] + bytes([key[31] & 0x7F]) for key in encodings}, calls.SMALL_ORDER)
+        refused = (403, {"error": "the point of the key has small order, so everybody can sign"})
+        right, signature = self.node.payment(0), (b"\1" + bytes(63)).hex()
+        for key in encodings:
+            with self.subTest(key.hex()):
+                self.assertEqual(self.node.post(right | {"key": key.hex(), "signature": signature}), refused)
+
+    def test_another_ledger(self) -> None:
+        """What is signed for one ledger runs in no other. A ledger keeps its name."""
+        other = RunningNode(self.place / "other", self.program)
+        self.addCleanup(other.end)
+        given, forged = self.node.payment(0), (403, {"error": "the signature is not that of the key"})
+        self.assertEqual((other.post(given), self.node.post(given)[0]), (forged, 200))
+        ledger = self.node.ledger
+        self.node.end()
+        self.start()
+        self.assertEqual((self.node.ledger, self.node.post(self.node.payment(1))[0]), (ledger, 200))
+
+    def test_a_ledger_without_a_name(self) -> None:
+        """One that an older node began."""
+        store = self.place / "old"
+        session = Session(PROGRAM, Settings(frame_gas=100_000_000, digest=True, brief=True, store=str(store)))
+        session.ask(Request(Word.FRAME, (), b"rvblock 2\ngas 3\n"))
+        session.end()
+        words = [sys.executable, str(HERE / "node.py"), "--program", PROGRAM, "--store", str(store)]
+        done = subprocess.run(words, capture_output=True, encoding="utf-8", timeout=SECONDS_TO_START, check=False)
+        self.assertEqual((done.returncode, done.stderr), (1, f"node: {store}: the ledger has no name: an older node began it\n"))
+
     def test_a_call_given_twice(self) -> None:
-        twice = [Posting(self.node, payment(0)) for _ in range(2)]
+        """It has one receipt while it waits, and later none."""
+        twice = [Posting(self.node, self.node.payment(0)) for _ in range(2)]
         for posting in twice:
             posting.join()
         refused = (409, {"error": "the next call of this account has the number 1"})
-        answers = sorted((posting.answer for posting in twice if posting.answer), key=lambda answer: answer[0])
-        self.assertEqual([answers[0][0], answers[1]], [200, refused])
-        self.assertEqual(self.node.post(payment(0)), refused)
-        self.assertEqual(self.node.post(payment(2))[0], 409)
+        first, second = sorted((posting.answer for posting in twice if posting.answer), key=lambda answer: answer[0])
+        self.assertEqual(first[0], 200)
+        self.assertIn(second, (first, refused))
+        self.assertEqual(self.node.post(self.node.payment(0)), refused)
+        self.assertEqual(self.node.post(self.node.payment(2))[0], 409)
         self.assertEqual(self.node.account(ALICE), {"next": 1, "coins": 99})
 
+
+class Strangers(WithNode):
     def test_a_long_body_is_refused_unread(self) -> None:
         """The answer comes although no byte of the body was sent."""
         with socket.create_connection(("127.0.0.1", self.node.port), timeout=SECONDS_TO_START) as connection:
-            connection.sendall(f"POST /calls HTTP/1.1\r\nHost: node\r\nContent-Length: {TEN_MEGABYTES}\r\n\r\n".encode())
+            connection.sendall(f"POST /calls HTTP/1.1\r\nHost: localhost\r\nContent-Length: {TEN_MEGABYTES}\r\n\r\n".encode())
             answer = b"".join(iter(lambda: connection.recv(4096), b""))
         self.assertRegex(answer.decode(), r"^HTTP/1\.0 413 .*\r\n(.*\r\n)+\r\n.*a call has at most 10000 bytes")
 
     def test_wrong_requests(self) -> None:
         object_ = "a call is an object with key, number, gas, input, signature: two numbers, and texts in hex"
         bounds = "gas is 1 to 1000000, a number has 64 bits, and an input has at most 4076 bytes"
-        right = payment(0)
+        right = self.node.payment(0)
         for given, message in (
             (b"", object_), (b"\xff\xfe", object_), (b"[]", object_), (b"7", object_), (b"[" * 9000, object_), (b"null", object_),
             (b'{"key": 7}', object_), (json.dumps(right | {"more": 1}).encode(), object_), (b"9" * 9000, object_),
@@ -176,26 +282,137 @@ class SignedCalls(WithNode):
         self.assertEqual(self.node.ask("POST", "/call", b"")[0], 400)
         self.assertEqual(self.node.ask("GET", "/accounts/what")[0], 404)
 
+    def test_web_pages(self) -> None:
+        """A page of another origin, also one whose name leads to the loopback address, posts no call."""
+        body, here = json.dumps(self.node.payment(0)).encode(), f"127.0.0.1:{self.node.port}"
+        refused = (403, {"error": "a call names 127.0.0.1 or localhost as its Host, and no other Origin"})
+        wrong: tuple[dict[str, str], ...] = (
+            {"Host": f"evil.example:{self.node.port}"}, {"Host": "127.0.0.1.evil.example"}, {"Host": ""}, {},
+            {"Host": here, "Origin": "http://evil.example"}, {"Host": here, "Origin": "null"}, {"Host": here, "Origin": f"https://{here}"},
+            {"Host": here, "Origin": "http://127.0.0.1:1"}, {"Host": here, "host": "evil.example"},
+        )
+        for fields in wrong:
+            with self.subTest(fields):
+                self.assertEqual(self.node.ask("POST", "/calls", body, fields), refused)
+        self.assertEqual(self.node.ask("POST", "/calls", body, {"Host": here, "Origin": f"http://{here}"})[0], 200)
+
+    def test_slow_senders(self) -> None:
+        """1,100 connections send a byte now and then: the node lives, and takes a call as soon as their time is over."""
+        resource.setrlimit(resource.RLIMIT_NOFILE, (2048, resource.getrlimit(resource.RLIMIT_NOFILE)[1]))
+        resource.prlimit(self.node.process.pid, resource.RLIMIT_NOFILE, (1024, 1024))
+        first, until = Posting(self.node, self.node.payment(0)), time.monotonic() + SECONDS_OF_SLOW_SENDERS
+        with contextlib.ExitStack() as stack:
+            slow = [stack.enter_context(socket.create_connection(("127.0.0.1", self.node.port))) for _ in range(1100)]
+            second = Posting(self.node, self.node.payment(1))
+            while (second.is_alive() or not second.answer or second.answer[0] != 200) and time.monotonic() < until:
+                for connection in slow:
+                    with contextlib.suppress(OSError):
+                        connection.send(b"P")
+                second.join(0.5)
+                if not second.is_alive() and (not second.answer or second.answer[0] == 503):
+                    second = Posting(self.node, self.node.payment(1))
+            self.assertIsNone(self.node.process.poll(), "the node ended")
+            self.assertEqual([posting.answer and posting.answer[0] for posting in (first, second)], [200, 200])
+
+    def test_backlog(self) -> None:
+        """So many connect while the node does not run."""
+        self.node.process.send_signal(signal.SIGSTOP)
+        self.addCleanup(self.node.process.send_signal, signal.SIGCONT)
+        for _ in range(128):
+            self.addCleanup(socket.create_connection(("127.0.0.1", self.node.port), timeout=5).close)
+
+
+class Pages(WithNode):
+    """What is asked of the program is kept."""
+
+    script = """#!/bin/sh
+echo "$1" >>PLACE/runs
+[ "$1" = chain ] || exec PROGRAM "$@"
+tee -a PLACE/requests | PROGRAM "$@"
+"""
+
     def test_the_page(self) -> None:
-        for payer, payee in ((ALICE, BOB), (BOB, CAROL), (CAROL, ALICE)):
-            Posting(self.node, payment(0, payer, payee)).join()
-        page = ""
-        until = time.monotonic() + SECONDS_TO_START
-        while ">Block 3, " not in page and time.monotonic() < until:  # a picture is drawn after the receipts are sent
-            time.sleep(0.1)
-            connection = http.client.HTTPConnection("127.0.0.1", self.node.port)
-            connection.request("GET", "/")
-            page = connection.getresponse().read().decode()
+        """Bob pays 200 only since he was paid before: so the picture shows the gas of the receipt."""
+        for number, (payer, payee, amount) in enumerate(((ALICE, BOB, 100), (BOB, CAROL, 200), (CAROL, ALICE, 0))):
+            status, receipt = self.node.post(self.node.payment(0, payer, payee, amount))
+            self.assertEqual((status, receipt["end"]), (200, "returned"))
+            self.assertIn(f"{receipt['gas']:,} gas", self.node.page())
+        page = self.node.page()
         self.assertEqual([page.count(text) for text in (">Block ", "<svg ", account(CAROL).hex()[:8])], [3, 3, 1])
+
+    def test_a_picture_that_can_not_be_made(self) -> None:
+        """The node has no files left for it. It is made when there are some."""
+        process = self.node.process.pid
+        limits = resource.prlimit(process, resource.RLIMIT_NOFILE)
+        files = len(list(Path(f"/proc/{process}/fd").iterdir()))
+        resource.prlimit(process, resource.RLIMIT_NOFILE, (files + 3, limits[1]))
+        self.assertEqual(self.node.post(self.node.payment(0))[0], 200)
+        self.assertRegex(self.node.page(), "Block 1, [0-9:]* UTC: no picture: .*Too many open files")
+        resource.prlimit(process, resource.RLIMIT_NOFILE, limits)
+        self.assertIn("<svg ", self.node.page())
+        self.assertEqual(self.node.post(self.node.payment(1))[0], 200)
+
+    def test_what_a_block_costs(self) -> None:
+        """The storage is never dumped. A block runs again only when somebody asks for the page, and once."""
+        for number in range(2):
+            self.assertEqual(self.node.post(self.node.payment(number))[0], 200)
+        self.assertNotRegex((self.place / "requests").read_bytes(), b"(?m)^dump$")
+        self.assertEqual((self.place / "runs").read_text(encoding="utf-8"), "chain\n")
+        self.assertEqual((self.node.page().count("<svg "), self.node.page().count("<svg ")), (2, 2))
+        self.assertEqual((self.place / "runs").read_text(encoding="utf-8"), "chain\nconflicts\nconflicts\n")
+
+
+class Failures(WithNode):
+    """Engines that fail. The limit on the size of files is no signal for these engines."""
+
+    script = """#!/bin/sh
+echo "$1" >>PLACE/runs
+if [ -e PLACE/dies ]; then kill -9 $$; fi
+trap "" XFSZ
+exec PROGRAM "$@"
+"""
+
+    def test_an_engine_that_another_signal_ends(self) -> None:
+        """Those who ask before the next one runs are refused, and asked to wait; none is left without an answer."""
+        for number, kind in enumerate((signal.SIGTERM, signal.SIGABRT)):
+            (engine,) = self.node.engines()
+            os.kill(engine, kind)
+            reasons = self.node.until_receipt(self.node.payment(number))
+            self.assertLessEqual(set(reasons), {f"the engine failed: the session ended with status {-kind}"})
+        self.assertEqual(self.node.account(ALICE), {"next": 2, "coins": 98})
+
+    def test_an_engine_that_dies_each_time(self) -> None:
+        """It is started less and less often. The page says why there is none."""
+        (self.place / "dies").touch()
+        (engine,) = self.node.engines()
+        os.kill(engine, signal.SIGKILL)
+        posting = Posting(self.node, self.node.payment(0))
+        time.sleep(2.5)
+        reason = "the engine failed: it was killed 3 times before it answered"
+        self.assertLess(len((self.place / "runs").read_text(encoding="utf-8").split()), 12)
+        self.assertEqual(posting.answer, (503, {"error": reason}))
+        self.assertIn(reason, self.node.page())
+        (self.place / "dies").unlink()
+        self.node.until_receipt(self.node.payment(0))
+        self.assertNotIn("the engine failed", self.node.page())
+
+    def test_a_full_disk(self) -> None:
+        """Those who wait get the reason, and a receipt if they send again and there is room."""
+        (engine,) = self.node.engines()
+        resource.prlimit(engine, resource.RLIMIT_FSIZE, (4096, 4096))
+        refused = (503, {"error": "the engine failed: the block did not run: failed store Full 8"})
+        self.assertEqual(self.node.post(self.node.payment(0)), refused)
+        self.node.until_receipt(self.node.payment(0))
+        self.assertEqual(self.node.account(ALICE), {"next": 1, "coins": 99})
 
 
 class Kills(WithNode):
     def test_an_engine_that_is_killed_in_a_block(self) -> None:
         """The frame was not kept: the node starts another engine, and gives it again. The receipt comes."""
-        self.node.post(payment(0))
+        self.node.post(self.node.payment(0))
         (engine,) = self.node.engines()
         os.kill(engine, signal.SIGSTOP)
-        posting = Posting(self.node, payment(1))
+        posting = Posting(self.node, self.node.payment(1))
         time.sleep(2.5)  # the block has begun
         os.kill(engine, signal.SIGKILL)
         posting.join()
@@ -205,16 +422,20 @@ class Kills(WithNode):
         self.assertNotEqual(self.node.engines(), [engine])
 
     def test_engines_that_are_killed_again_and_again(self) -> None:
-        """Each call has one receipt, and runs once. The engines live longer and longer, so that one lives long enough to open the file."""
+        """Each call has at most one receipt, and runs once. The engines live longer and longer, so that one lives long enough to open
+        the file."""
         for number in range(3):
-            posting, life = Posting(self.node, payment(number)), 0.2
-            while posting.is_alive():
+            posting, life = Posting(self.node, self.node.payment(number)), 0.2
+            while posting.is_alive() or posting.answer and posting.answer[0] == 503:
+                if not posting.is_alive():
+                    time.sleep(1)
+                    posting = Posting(self.node, self.node.payment(number))
                 posting.join(life)
                 life *= 1.7
                 for engine in self.node.engines():
                     os.kill(engine, signal.SIGKILL)
             assert posting.answer
-            self.assertEqual(posting.answer[0], 200)
+            self.assertIn(posting.answer[0], (200, 409))
         self.assertEqual(self.node.account(ALICE), {"next": 3, "coins": 97})
 
     def test_a_node_that_is_killed_in_a_block(self) -> None:
@@ -222,12 +443,12 @@ class Kills(WithNode):
         for wait in (0.2, 0.9, 1.0, 1.1):
             ran = self.node.account(ALICE)["next"]
             assert isinstance(ran, int)
-            posting = Posting(self.node, payment(ran))
+            posting = Posting(self.node, self.node.payment(ran))
             time.sleep(wait)
             self.node.end()
             posting.join()
             self.start()
-            status, answer = self.node.post(payment(ran))
+            status, answer = self.node.post(self.node.payment(ran))
             self.assertIn((status, answer.get("error")), [(200, None), (409, f"the next call of this account has the number {ran + 1}")])
             self.assertEqual(self.node.account(ALICE), {"next": ran + 1, "coins": 99 - ran})
 

@@ -35,6 +35,7 @@ BLOCKS, BLOCKS_A_DUMP, STRANGER_AT, KILLED_AT = 10, 4, 5, 7
 KILLS = 8
 LONGEST_LIFE = 4  # at most, from a start to a kill, in times of what the first start lasted
 NODE = TOP / "examples/node"
+MOST_LINES = 550
 PYTHON = "/usr/bin/python3"
 """It has Debian's packages."""
 
@@ -156,10 +157,10 @@ def from_a_file(run: Run) -> None:
 
 
 def signed_calls(run: Run, tests: str) -> None:
-    """The tests of the example: forged calls, a call given twice, a body of 10 MB; and kills."""
+    """Some tests of the example."""
     if command([PYTHON, "-c", "import cryptography"]).status:
         raise Lacks("python3-cryptography")
-    done = command([PYTHON, "-m", "unittest", f"test_node.{tests}"], NODE, more={"RVSTM": str(run.program), "PYTHONDONTWRITEBYTECODE": "1"})
+    done = command([PYTHON, "-m", "unittest", tests], NODE, more={"RVSTM": str(run.program), "PYTHONDONTWRITEBYTECODE": "1"})
     holds(done.status == 0, last_lines(done.errors), "OK")
 
 
@@ -172,8 +173,9 @@ def coins_built_again(run: Run) -> None:
 
 def few_lines(run: Run) -> None:
     """The node is as short as its page says."""
-    count = len(Path(NODE / "node.py").read_text(encoding="utf-8").splitlines())
-    holds(count <= 200, count, "at most 200 lines")
+    count = sum(len(Path(NODE / f"{name}.py").read_text(encoding="utf-8").splitlines()) for name in ("node", "ledger", "calls", "pages"))
+    holds(count <= MOST_LINES, count, f"at most {MOST_LINES} lines")
+    holds(f" {MOST_LINES} lines" in (NODE / "README.md").read_text(encoding="utf-8"), "another number", "the lines of the page")
 
 
 def cases() -> list[Case]:
@@ -181,8 +183,12 @@ def cases() -> list[Case]:
     return [
         Case("node: from a dump", from_a_dump, cost=2),
         Case("node: from a file", from_a_file, cost=8),
-        Case("node: signed calls", partial(signed_calls, tests="SignedCalls"), cost=20),
-        Case("node: kills", partial(signed_calls, tests="Kills"), cost=20),
+        Case("node: signed calls", partial(signed_calls, tests="test_node.SignedCalls"), cost=20),
+        Case("node: strangers", partial(signed_calls, tests="test_node.Strangers"), cost=20),
+        Case("node: pages", partial(signed_calls, tests="test_node.Pages"), cost=10),
+        Case("node: kills", partial(signed_calls, tests="test_node.Kills"), cost=20),
+        Case("node: failures", partial(signed_calls, tests="test_node.Failures"), cost=20),
+        Case("node: payments", partial(signed_calls, tests="test_pay"), cost=10),
         Case("node: its contract built again", coins_built_again, CONTRACTS),
         Case("node: its lines", few_lines),
     ]
