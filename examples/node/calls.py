@@ -25,7 +25,7 @@ SMALL_ORDER = frozenset(map(bytes.fromhex, (
     "edffffffffffffffffffffffffffffffffffffffffffffffffffffffffffff7f",  # p in place of y = 0
     "eeffffffffffffffffffffffffffffffffffffffffffffffffffffffffffff7f",  # p + 1 in place of y = 1
 )))
-"""Each y of a point of small order, as keys may have it: for such a key one signature is valid for all calls, or for one in eight."""
+"""Each y of a point of small order, as keys may have it. One signature is valid for all its calls, or for one in 8."""
 FIELDS = {"key": str, "number": int, "gas": int, "input": str, "signature": str}
 
 

@@ -1,4 +1,4 @@
-"""The ledger: calls that wait for their block, and the session of `rvstm chain` in which blocks run. It is kept in a file."""
+"""The ledger: calls that wait for their block, and the session of `rvstm chain` in which blocks run, kept in a file."""
 
 import contextlib
 import secrets
@@ -53,8 +53,8 @@ def read_by(call: SignedCall) -> list[Row]:
 
 
 class Ledger:
-    """Calls that wait, and the session in which their blocks run. If its engine fails, all that wait are refused, and everyone for a
-    pause. Each failure before the next block doubles the pause."""
+    """Calls that wait, and the session in which their blocks run. If its engine fails, all that wait are refused, and
+    everybody for a pause. Each failure before the next block doubles the pause."""
 
     def __init__(self, program: Program, store: str) -> None:
         self.program, self.contract = program, CONTRACT.read_bytes()
@@ -72,8 +72,8 @@ class Ledger:
         self.starts = 0
         self.session = KeptSession(self.engine, [Request(Word.PROGRAM, (), self.contract)])
         if self.session.height == 0 and self.value_at(NAME) is None:
-            name = secrets.token_bytes(NAME_LENGTH)
-            self.answer(requests.begin(0, bytes(32), frames.dump_of(Rules.THREE, {NAME.key: name})))
+            named = self.answer(Request(Word.DUMP)) + frames.store_lines({NAME.key: secrets.token_bytes(NAME_LENGTH)})
+            self.answer(requests.begin(0, self.session.state.digest, named))
         self.name = self.value_at(NAME) or b""
         if len(self.name) != NAME_LENGTH:
             raise UserError(f"{self.settings.store}: the ledger has no name: an older node began it")
@@ -101,7 +101,7 @@ class Ledger:
                 raise RefusedError(503, self.fault) from error
 
     def fail(self, reason: str) -> None:
-        """Refuses all that wait. A call of the block that failed may have run: who sends it again gets a receipt or status 409."""
+        """Refuses all that wait. A call may have run: if it is sent again, it gets a receipt or status 409."""
         self.session.session.kill()
         self.fault = f"the engine failed: {reason}"
         with contextlib.suppress(OSError):
@@ -124,18 +124,18 @@ class Ledger:
         text = self.answer(Request(Word.GET, (requests.key_field(row.key),))).decode()
         return None if text == "absent\n" else results.bytes_of(text.split()[1])
 
-    def number_at(self, table: str, account: bytes) -> int | None:
-        value = self.value_at(Row(table, account))
-        return None if value is None else int.from_bytes(value, "little")
-
     def next_number(self, account: bytes) -> int:
         """The number of the next call of an account: it is kept in the same step as the block of the last one."""
-        return self.numbers[account] if account in self.numbers else self.number_at(NUMBERS, account) or 0
+        if account in self.numbers:
+            return self.numbers[account]
+        return int.from_bytes(self.value_at(Row(NUMBERS, account)) or b"", "little")
 
     def account(self, account: bytes) -> Object:
         """What a sender needs, and the coins."""
         with self.running():
-            return {"ledger": self.name.hex(), "next": self.next_number(account), "coins": self.number_at(COINS, account)}
+            number, value = self.next_number(account), self.value_at(Row(COINS, account))
+        coins = None if value is None else int.from_bytes(value, "little")
+        return {"ledger": self.name.hex(), "next": number, "coins": coins}
 
     def take(self, call: SignedCall) -> Future[Object]:
         """Takes a call for the next block. Its receipt comes later, also for one that is sent again while it waits."""
@@ -169,7 +169,8 @@ class Ledger:
         if not isinstance(answer, Done):
             raise UserError(f"the block did not run: {answer.said}")
         receipts, height = results.result_of(answer.body.decode()).receipts, self.session.height
-        self.shown.appendleft(pages.Shown(height, frames.put_over(block, before), [one.call.account for one in taken], receipts))
+        file, senders = frames.put_over(block, before), [one.call.account for one in taken]
+        self.shown.appendleft(pages.Shown(height, file, senders, receipts))
         for one, receipt in zip(taken, receipts):
             del self.waiting[one.call.account, one.call.number]
             one.receipt.set_result({"block": height} | objects.object_of_call(receipt, has_registers=False))

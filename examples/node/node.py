@@ -102,7 +102,7 @@ class Handler(BaseHTTPRequestHandler):
         self.answer(lambda: self.ledger.take(self.call()).result())
 
     def call(self) -> calls.SignedCall:
-        """The call of the body. One that is too long is not read, nor one that a page of another origin sends by a browser."""
+        """The call of the body. One that is too long is not read, nor one of a page of another origin in a browser."""
         hosts: list[str] = self.headers.get_all("Host", [])
         origins: list[str] = self.headers.get_all("Origin", [])
         if len(hosts) != 1 or hosts[0].partition(":")[0] not in HOSTS or origins not in ([], [f"http://{hosts[0]}"]):
@@ -140,9 +140,8 @@ def main() -> int:
     parser = argparse.ArgumentParser(description="A node that takes signed calls.")
     options.add_program(parser)
     parser.add_argument("--store", required=True, metavar="FILE", help="the file that the ledger is kept in")
-    parser.add_argument(
-        "--port", type=options.number(0, 65535), default=8545, metavar="N", help="the port of 127.0.0.1 on which it listens (8545); 0 is a free port",
-    )
+    help_of_port = "the port of 127.0.0.1 on which it listens (8545); 0 is a free port"
+    parser.add_argument("--port", type=options.number(0, 65535), default=8545, metavar="N", help=help_of_port)
     given = parser.parse_args()
     ledger = Ledger(finding.chosen(options.program_choice(given), "node"), given.store)
     Handler.ledger = ledger

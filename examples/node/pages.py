@@ -34,7 +34,7 @@ DRAWING = threading.Lock()  # of the pictures: one is drawn at a time
 
 @dataclass
 class Shown:
-    """A block of the page: its file over what its calls read before it, who sent them, their receipts, and the picture if it is drawn."""
+    """A block of the page: its file over what its calls read, who sent them, their receipts, and the picture."""
 
     height: int
     file: bytes
@@ -44,25 +44,25 @@ class Shown:
     drawn: str = ""
 
     def picture(self, program: Program, programs: Mapping[str, bytes]) -> str:
-        """Which calls wait for which, or why there is no picture. `programs` are files by the paths that the block names."""
+        """Which calls wait for which, or why there is no picture. `programs` are files by the paths in the block."""
         title = f"Block {self.height}, {time.strftime('%H:%M:%S', time.gmtime(self.time))} UTC"
         with DRAWING:
             try:
-                self.drawn = self.drawn or Picture(title, conflicts.conflicts_of(waits_in(self.file, program, programs)), View()).svg()
+                self.drawn = self.drawn or Picture(title, waits_in(self.file, program, programs), View()).svg()
             except (UserError, OSError) as error:
                 return f"<p>{title}: no picture: {escape(errors.reason(error))}</p>"
             return self.drawn
 
 
-def waits_in(block: bytes, program: Program, programs: Mapping[str, bytes]) -> str:
-    """What `rvstm conflicts` prints for a block file."""
+def waits_in(block: bytes, program: Program, programs: Mapping[str, bytes]) -> conflicts.Conflicts:
+    """Which calls of a block file wait for which."""
     with tempfile.TemporaryDirectory() as place:
         for name, file in {"block": block, **programs}.items():
             (Path(place) / name).write_bytes(file)
         printed = program.run(["conflicts", "block"], Path(place))
     if printed.refusal:
         raise UserError(printed.refusal)
-    return printed.text
+    return conflicts.conflicts_of(printed.text)
 
 
 def page_of(sections: Sequence[str], state: str, ledger: str, program: str, fault: str) -> str:

@@ -1,7 +1,7 @@
 #!/usr/bin/python3
 """Signs a payment, sends it to a node, and prints its receipt. KEY is the file of a private key; a new one is made if none is there.
 
-The signed call is in KEY.call until its receipt comes. If the answer was lost, start again: the same call is sent, and no second one.
+The signed call is in KEY.call until its receipt comes. If the answer is lost, start again: the same call is sent.
 With --account it prints the account of KEY, and sends nothing.
 """
 
@@ -114,17 +114,21 @@ class Node:
             raise self.wrong(NO_NODE)
         return bytes.fromhex(name), number
 
-    def send(self, kept: Path) -> UserError | None:
-        """Sends the call that is kept, and prints its receipt, or returns the refusal of a number that is used. Then the file goes."""
+    def send(self, kept: Path, *, is_again: bool) -> None:
+        """Sends the call that is kept. The file goes after its receipt is printed, or if its number is used: then what
+        was sent before has run."""
         status, found = self.ask("POST", "/calls", kept.read_bytes())
-        refusal = None if status == HTTPStatus.OK else self.wrong(f"{status}: {found['error']}")
-        if refusal and status != HTTPStatus.CONFLICT:
+        refusal = self.wrong(f"{status}: {found.get('error')}")
+        if status == HTTPStatus.OK:
+            print(json.dumps(found), flush=True)
+        elif status != HTTPStatus.CONFLICT:
             raise refusal
+        elif is_again:
+            print(f"pay: the call of {kept} was sent before, and its receipt is lost: {refusal}", file=sys.stderr)
         kept.unlink()
         sync_folder(kept)
-        if not refusal:
-            print(json.dumps(found))
-        return refusal
+        if status == HTTPStatus.CONFLICT and not is_again:
+            raise refusal
 
 
 def pay(key: Path, kept: Path, node: Node, data: bytes) -> None:
@@ -134,14 +138,12 @@ def pay(key: Path, kept: Path, node: Node, data: bytes) -> None:
         fcntl.flock(file, fcntl.LOCK_EX)  # payments with one key come one after the other
         if kept.exists():
             call = calls.call_of(kept.read_bytes())
-            if refusal := node.send(kept):
-                print(f"pay: call {call.number} of {kept} was sent before, and its receipt is lost: {refusal}", file=sys.stderr)
+            node.send(kept, is_again=True)
             if call.input == data:
                 return
         name, number = node.next_call(calls.account_of(public_of(private)))
         keep(kept, signed(private, name, PROGRAM, number, data))
-        if refusal := node.send(kept):
-            raise refusal
+        node.send(kept, is_again=False)
 
 
 def main() -> int:
@@ -150,7 +152,8 @@ def main() -> int:
     parser.add_argument("to", nargs="?", metavar="TO", help="the account that is paid, 20 bytes in hex")
     parser.add_argument("amount", nargs="?", metavar="AMOUNT", help="how many coins")
     parser.add_argument("--account", action="store_true", help="prints the account of KEY")
-    parser.add_argument("--port", type=options.number(1, 65535), default=8545, metavar="N", help="of the node on 127.0.0.1 (8545)")
+    port = options.number(1, 65535)
+    parser.add_argument("--port", type=port, default=8545, metavar="N", help="of the node on 127.0.0.1 (8545)")
     given = parser.parse_args()
     if given.account:
         print(calls.account_of(public_of(key_in(given.key))).hex())

@@ -23,6 +23,7 @@ import pay
 from rvstm_tools.sessions.processes import Session, Settings
 from rvstm_tools.sessions.requests import Request, Word
 from rvstm_tools.texts.objects import Object
+from rvstm_tools.texts.rows import Row
 
 HERE = Path(__file__).resolve().parent
 ALICE, BOB, CAROL = (Ed25519PrivateKey.from_private_bytes(bytes([number]) * 32) for number in (1, 2, 3))
@@ -107,11 +108,15 @@ class RunningNode:
                         found.append(int(child))
         return found
 
-    def payment(self, number: int, payer: Ed25519PrivateKey = ALICE, payee: Ed25519PrivateKey = BOB, amount: int = 1) -> Object:
+    def payment(
+        self, number: int, payer: Ed25519PrivateKey = ALICE, payee: Ed25519PrivateKey = BOB, amount: int = 1
+    ) -> Object:
         """A payment that is signed for this ledger."""
         return pay.signed(payer, self.ledger, pay.PROGRAM, number, account(payee) + amount.to_bytes(8, "little"))
 
-    def ask(self, method: str, path: str, body: bytes | None = None, fields: Mapping[str, str] | None = None) -> tuple[int, Object]:
+    def ask(
+        self, method: str, path: str, body: bytes | None = None, fields: Mapping[str, str] | None = None
+    ) -> tuple[int, Object]:
         """The status of an answer, and its object. `fields` are in place of the field Host."""
         connection = http.client.HTTPConnection("127.0.0.1", self.port, timeout=SECONDS_TO_START)
         connection.putrequest(method, path, skip_host=fields is not None)
@@ -126,7 +131,7 @@ class RunningNode:
         return self.ask("POST", "/calls", json.dumps(given).encode())
 
     def until_receipt(self, given: Object) -> list[object]:
-        """Posts a call until it has a receipt, and returns the reasons of the refusals before, which all have status 503."""
+        """Posts a call until it has a receipt, and returns the reasons of the refusals before, all of status 503."""
         reasons, until = list[object](), time.monotonic() + SECONDS_TO_START
         while (answer := self.post(given))[0] != 200:
             assert answer[0] == 503 and time.monotonic() < until, answer
@@ -201,8 +206,9 @@ class SignedCalls(WithNode):
         forged: list[Object]
         data = bytes.fromhex(str(right["input"]))
         forged = [
-            {"key": pay.public_of(BOB).hex()}, {"input": (account(CAROL) + data[20:]).hex()}, {"number": 1}, {"gas": 5001},
-            {"signature": "00" * 64}, {"signature": ""}, {"key": ""}, {"key": "00" * 31}, {"signature": self.node.payment(1)["signature"]},
+            {"key": pay.public_of(BOB).hex()}, {"input": (account(CAROL) + data[20:]).hex()}, {"number": 1},
+            {"gas": 5001}, {"signature": "00" * 64}, {"signature": ""}, {"key": ""}, {"key": "00" * 31},
+            {"signature": self.node.payment(1)["signature"]},
             pay.signed(ALICE, self.node.ledger, "00" * 32, 0, data), pay.signed(ALICE, bytes(32), pay.PROGRAM, 0, data),
         ]
         for changed in forged:
@@ -211,10 +217,10 @@ class SignedCalls(WithNode):
         self.assertEqual(self.node.account(ALICE), {"next": 0, "coins": None})
 
     def test_keys_of_small_order(self) -> None:
-        """R = (0, 1) and S = 0 are a signature of all calls for such a key, or of one in 2, 4 or 8. The table has the encodings that
-        the arithmetic of the curve gives."""
+        """R = (0, 1) and S = 0 are a signature of all calls for such a key, or of one in 2, 4 or 8. The table has the
+        encodings that the arithmetic of the curve gives."""
         encodings = small_order()
-        self.assertEqual((len(torsion()), len(encodings), {calls.has_small_order(key) for key in encodings}), (8, 14, {True}))
+        self.assertEqual(len(encodings), 14)
         self.assertEqual({key[:31] + bytes([key[31] & 0x7F]) for key in encodings}, calls.SMALL_ORDER)
         refused = (403, {"error": "the point of the key has small order, so everybody can sign"})
         right, signature = self.node.payment(0), (b"\1" + bytes(63)).hex()
@@ -233,15 +239,25 @@ class SignedCalls(WithNode):
         self.start()
         self.assertEqual((self.node.ledger, self.node.post(self.node.payment(1))[0]), (ledger, 200))
 
-    def test_a_ledger_without_a_name(self) -> None:
-        """One that an older node began."""
-        store = self.place / "old"
+    def session(self, request: Request) -> Path:
+        """The file of a session that another program began with a request."""
+        store = self.place / request.word.decode()
         session = Session(PROGRAM, Settings(frame_gas=100_000_000, digest=True, brief=True, store=str(store)))
-        session.ask(Request(Word.FRAME, (), b"rvblock 2\ngas 3\n"))
+        session.ask(request)
         session.end()
+        return store
+
+    def test_a_ledger_without_a_name(self) -> None:
+        """One at height 0 gets a name, and keeps its storage. One at height 1 is refused."""
+        row = b"rvblock 2\ngas 3\nstore %s 0500000000000000\n" % Row("coin", account(BOB)).key.hex().encode()
+        node = RunningNode(self.session(Request(Word.BEGIN, (b"0", b"0" * 64), row)))
+        self.addCleanup(node.end)
+        self.assertEqual((len(node.ledger), node.account(BOB)), (32, {"next": 0, "coins": 5}))
+        store = self.session(Request(Word.FRAME, (), row))
         words = [sys.executable, str(HERE / "node.py"), "--program", PROGRAM, "--store", str(store)]
         done = subprocess.run(words, capture_output=True, encoding="utf-8", timeout=SECONDS_TO_START, check=False)
-        self.assertEqual((done.returncode, done.stderr), (1, f"node: {store}: the ledger has no name: an older node began it\n"))
+        refused = f"node: {store}: the ledger has no name: an older node began it\n"
+        self.assertEqual((done.returncode, done.stderr), (1, refused))
 
     def test_a_call_given_twice(self) -> None:
         """It has one receipt while it waits, and later none."""
@@ -261,7 +277,8 @@ class Strangers(WithNode):
     def test_a_long_body_is_refused_unread(self) -> None:
         """The answer comes although no byte of the body was sent."""
         with socket.create_connection(("127.0.0.1", self.node.port), timeout=SECONDS_TO_START) as connection:
-            connection.sendall(f"POST /calls HTTP/1.1\r\nHost: localhost\r\nContent-Length: {TEN_MEGABYTES}\r\n\r\n".encode())
+            head = f"POST /calls HTTP/1.1\r\nHost: localhost\r\nContent-Length: {TEN_MEGABYTES}\r\n\r\n"
+            connection.sendall(head.encode())
             answer = b"".join(iter(lambda: connection.recv(4096), b""))
         self.assertRegex(answer.decode(), r"^HTTP/1\.0 413 .*\r\n(.*\r\n)+\r\n.*a call has at most 10000 bytes")
 
@@ -288,8 +305,9 @@ class Strangers(WithNode):
         refused = (403, {"error": "a call names 127.0.0.1 or localhost as its Host, and no other Origin"})
         wrong: tuple[dict[str, str], ...] = (
             {"Host": f"evil.example:{self.node.port}"}, {"Host": "127.0.0.1.evil.example"}, {"Host": ""}, {},
-            {"Host": here, "Origin": "http://evil.example"}, {"Host": here, "Origin": "null"}, {"Host": here, "Origin": f"https://{here}"},
-            {"Host": here, "Origin": "http://127.0.0.1:1"}, {"Host": here, "host": "evil.example"},
+            {"Host": here, "host": "evil.example"}, {"Host": here, "Origin": "http://evil.example"},
+            {"Host": here, "Origin": "null"}, {"Host": here, "Origin": f"https://{here}"},
+            {"Host": here, "Origin": "http://127.0.0.1:1"},
         )
         for fields in wrong:
             with self.subTest(fields):
@@ -297,12 +315,13 @@ class Strangers(WithNode):
         self.assertEqual(self.node.ask("POST", "/calls", body, {"Host": here, "Origin": f"http://{here}"})[0], 200)
 
     def test_slow_senders(self) -> None:
-        """1,100 connections send a byte now and then: the node lives, and takes a call as soon as their time is over."""
+        """1,100 connections send a byte now and then: the node lives, and takes a call when their time is over."""
         resource.setrlimit(resource.RLIMIT_NOFILE, (2048, resource.getrlimit(resource.RLIMIT_NOFILE)[1]))
         resource.prlimit(self.node.process.pid, resource.RLIMIT_NOFILE, (1024, 1024))
         first, until = Posting(self.node, self.node.payment(0)), time.monotonic() + SECONDS_OF_SLOW_SENDERS
+        here = ("127.0.0.1", self.node.port)
         with contextlib.ExitStack() as stack:
-            slow = [stack.enter_context(socket.create_connection(("127.0.0.1", self.node.port))) for _ in range(1100)]
+            slow = [stack.enter_context(socket.create_connection(here, 5)) for _ in range(1100)]
             second = Posting(self.node, self.node.payment(1))
             while (second.is_alive() or not second.answer or second.answer[0] != 200) and time.monotonic() < until:
                 for connection in slow:
@@ -353,10 +372,10 @@ tee -a PLACE/requests | PROGRAM "$@"
         self.assertEqual(self.node.post(self.node.payment(1))[0], 200)
 
     def test_what_a_block_costs(self) -> None:
-        """The storage is never dumped. A block runs again only when somebody asks for the page, and once."""
+        """The storage is dumped once, for the name. A block runs again only when somebody asks for the page, and once."""
         for number in range(2):
             self.assertEqual(self.node.post(self.node.payment(number))[0], 200)
-        self.assertNotRegex((self.place / "requests").read_bytes(), b"(?m)^dump$")
+        self.assertEqual((self.place / "requests").read_bytes().count(b"\ndump\n"), 1)
         self.assertEqual((self.place / "runs").read_text(encoding="utf-8"), "chain\n")
         self.assertEqual((self.node.page().count("<svg "), self.node.page().count("<svg ")), (2, 2))
         self.assertEqual((self.place / "runs").read_text(encoding="utf-8"), "chain\nconflicts\nconflicts\n")
@@ -422,8 +441,8 @@ class Kills(WithNode):
         self.assertNotEqual(self.node.engines(), [engine])
 
     def test_engines_that_are_killed_again_and_again(self) -> None:
-        """Each call has at most one receipt, and runs once. The engines live longer and longer, so that one lives long enough to open
-        the file."""
+        """Each call has at most one receipt, and runs once. The engines live longer and longer, so that one lives long
+        enough to open the file."""
         for number in range(3):
             posting, life = Posting(self.node, self.node.payment(number)), 0.2
             while posting.is_alive() or posting.answer and posting.answer[0] == 503:

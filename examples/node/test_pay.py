@@ -16,7 +16,7 @@ NO_NODE = "the answer is not one of a node"
 
 
 class Server(HTTPServer):
-    """Answers each GET with `account`, and each POST with the next of `answers`, a status and a body; without one it hangs up."""
+    """Answers each GET with `account`, and each POST with the next of `answers`; if there is none it hangs up."""
 
     def __init__(self, kept: Path) -> None:
         super().__init__(("127.0.0.1", 0), Handler)
@@ -70,10 +70,11 @@ class Payments(unittest.TestCase):
 
     def test_a_lost_answer(self) -> None:
         """The same call is sent again, and none is signed beside it. The next payment is another call."""
-        lost = f"pay: {self.address}: Remote end closed connection without response; {self.kept} has the call: start again to send it\n"
+        again = f"; {self.kept} has the call: start again to send it\n"
+        lost = f"pay: {self.address}: Remote end closed connection without response{again}"
         self.assertEqual(self.pay(BOB, "30"), (1, "", lost))
         self.server.answers = [(503, b'{"error": "no engine"}'), (200, RECEIPT), (200, RECEIPT)]
-        self.assertEqual(self.pay(BOB, "30"), (1, "", f"pay: {self.address}: 503: no engine; {self.kept} has the call: start again to send it\n"))
+        self.assertEqual(self.pay(BOB, "30"), (1, "", f"pay: {self.address}: 503: no engine{again}"))
         self.assertEqual(self.pay(BOB, "30"), (0, RECEIPT.decode() + "\n", ""))
         self.assertFalse(self.kept.exists())
         self.assertEqual(self.server.posted, [self.server.posted[0]] * 3)
@@ -86,9 +87,10 @@ class Payments(unittest.TestCase):
         """Of a call that was sent before it says that this one ran: that is no failure. A new one has not run."""
         self.pay(BOB, "30")
         self.server.answers = [(409, b'{"error": "the number is 1"}')] * 2
-        lost = f"pay: call 0 of {self.kept} was sent before, and its receipt is lost: {self.address}: 409: the number is 1\n"
+        used = f"{self.address}: 409: the number is 1\n"
+        lost = f"pay: the call of {self.kept} was sent before, and its receipt is lost: {used}"
         self.assertEqual((self.pay(BOB, "30"), self.kept.exists()), ((0, "", lost), False))
-        self.assertEqual((self.pay(BOB, "30"), self.kept.exists()), ((1, "", f"pay: {self.address}: 409: the number is 1\n"), False))
+        self.assertEqual((self.pay(BOB, "30"), self.kept.exists()), ((1, "", f"pay: {used}"), False))
 
     def test_another_payment(self) -> None:
         """It comes after the one that has no answer."""
@@ -102,11 +104,12 @@ class Payments(unittest.TestCase):
         """Each is one line. No key is made, and nothing is sent."""
         for amount in ("-5", str(1 << 64), "1_0", "\u0661", "+5", ""):
             with self.subTest(amount):
-                shown = ascii(amount)[1:-1]
-                self.assertEqual(self.pay(BOB, amount), (2, "", f"pay: {shown}: an amount is a number of 0 to 18446744073709551615\n"))
+                line = f"pay: {ascii(amount)[1:-1]}: an amount is a number of 0 to 18446744073709551615\n"
+                self.assertEqual(self.pay(BOB, amount), (2, "", line))
         for to in ("0b" * 19, "0B" * 20):
             with self.subTest(to):
-                self.assertEqual(self.pay(to, "5"), (2, "", f"pay: {to}: an account has 40 digits, 0 to 9 and a to f\n"))
+                line = f"pay: {to}: an account has 40 digits, 0 to 9 and a to f\n"
+                self.assertEqual(self.pay(to, "5"), (2, "", line))
         self.assertEqual((self.key.exists(), self.server.posted), (False, []))
         self.server.answers = [(200, RECEIPT)] * 2
         for amount in ("0", str((1 << 64) - 1)):
