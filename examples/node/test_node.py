@@ -13,7 +13,7 @@ import tempfile
 import threading
 import time
 import unittest
-from collections.abc import Iterator, Mapping
+from collections.abc import Mapping
 from pathlib import Path
 
 from cryptography.hazmat.primitives.asymmetric.ed25519 import Ed25519PrivateKey
@@ -29,39 +29,24 @@ HERE = Path(__file__).resolve().parent
 ALICE, BOB, CAROL = (Ed25519PrivateKey.from_private_bytes(bytes([number]) * 32) for number in (1, 2, 3))
 PROGRAM = os.environ.get("RVSTM", "")
 SECONDS_TO_START = 60
-SECONDS_OF_SLOW_SENDERS = 20
+SECONDS_OF_SLOW_SENDERS = 40
 TEN_MEGABYTES = 10_000_000
-P, L = 2**255 - 19, 2**252 + 27742317777372353535851937790883648493  # of edwards25519 (RFC 8032, 5.1)
+P = 2**255 - 19  # of edwards25519 (RFC 8032, 5.1)
 D = -121665 * pow(121666, -1, P) % P
 
 
-def added(one: tuple[int, int], other: tuple[int, int]) -> tuple[int, int]:
-    """The sum of two points of the curve."""
-    (x, y), (u, v) = one, other
-    product = D * x * y * u * v
-    return (x * v + y * u) * pow(1 + product, -1, P) % P, (y * v + x * u) * pow(1 - product, -1, P) % P
+def doubled(x: int, y: int) -> tuple[int, int]:
+    """The double of a point of edwards25519."""
+    product = D * x * x * y * y
+    return 2 * x * y * pow(1 + product, -1, P) % P, (y * y + x * x) * pow(1 - product, -1, P) % P
 
 
-def torsion() -> set[tuple[int, int]]:
-    """The points whose order divides 8: L times some points are some of each kind."""
-    found = set()
-    for y in range(2, 40):
-        square = (y * y - 1) * pow(D * y * y + 1, -1, P) % P
-        root = pow(square, (P + 3) // 8, P)
-        for x in (root, root * pow(2, (P - 1) // 4, P) % P):
-            if x * x % P == square:
-                point = (0, 1)
-                for bit in f"{L:b}":
-                    point = added(point, point)
-                    point = added(point, (x, y)) if bit == "1" else point
-                found.add(point)
-    return found
-
-
-def small_order() -> set[bytes]:
-    """The keys whose point has small order, also those with a y of p or more, or with a sign of x = 0."""
-    encodings = ((same, sign) for x, y in torsion() for same in (y, y + P) for sign in {x & 1, 1 if x == 0 else x & 1})
-    return {(y | sign << 255).to_bytes(32, "little") for y, sign in encodings if y < 1 << 255}
+def points_at(y: int) -> set[tuple[int, int]]:
+    """The points with this y."""
+    square = (y * y - 1) * pow(D * y * y + 1, -1, P) % P
+    root = pow(square, (P + 3) // 8, P)
+    roots = {sign * x % P for x in (root, root * pow(2, (P - 1) // 4, P)) for sign in (1, -1)}
+    return {(x, y % P) for x in roots if x * x % P == square}
 
 
 def account(private: Ed25519PrivateKey) -> bytes:
@@ -217,16 +202,17 @@ class SignedCalls(WithNode):
         self.assertEqual(self.node.account(ALICE), {"next": 0, "coins": None})
 
     def test_keys_of_small_order(self) -> None:
-        """R = (0, 1) and S = 0 are a signature of all calls for such a key, or of one in 2, 4 or 8. The table has the
-        encodings that the arithmetic of the curve gives."""
-        encodings = small_order()
-        self.assertEqual(len(encodings), 14)
-        self.assertEqual({key[:31] + bytes([key[31] & 0x7F]) for key in encodings}, calls.SMALL_ORDER)
+        """Eight times each point of the table is (0, 1). The curve has 8 such points, so these are all. Each y below 2^255
+        is there; the highest bit is a sign. R = (0, 1) and S = 0 are a signature of some calls for such a key, or of all."""
+        numbers = {int.from_bytes(key, "little") for key in calls.SMALL_ORDER}
+        points = set[tuple[int, int]]().union(*map(points_at, numbers))
+        self.assertEqual((len(points), {doubled(*doubled(*doubled(*point))) for point in points}), (8, {(0, 1)}))
+        self.assertEqual(numbers, {same for _, y in points for same in (y, y + P) if same < 1 << 255})
         refused = (403, {"error": "the point of the key has small order, so everybody can sign"})
-        right, signature = self.node.payment(0), (b"\1" + bytes(63)).hex()
-        for key in encodings:
-            with self.subTest(key.hex()):
-                self.assertEqual(self.node.post(right | {"key": key.hex(), "signature": signature}), refused)
+        for key in (number | sign << 255 for number in numbers for sign in (0, 1)):
+            forged = {"key": key.to_bytes(32, "little").hex(), "signature": (b"\1" + bytes(63)).hex()}
+            with self.subTest(forged):
+                self.assertEqual(self.node.post(self.node.payment(0) | forged), refused)
 
     def test_another_ledger(self) -> None:
         """What is signed for one ledger runs in no other. A ledger keeps its name."""
@@ -387,6 +373,7 @@ class Failures(WithNode):
     script = """#!/bin/sh
 echo "$1" >>PLACE/runs
 if [ -e PLACE/dies ]; then kill -9 $$; fi
+if [ -e PLACE/says ]; then cat PLACE/says >&2; exit 1; fi
 trap "" XFSZ
 exec PROGRAM "$@"
 """
@@ -414,6 +401,16 @@ exec PROGRAM "$@"
         (self.place / "dies").unlink()
         self.node.until_receipt(self.node.payment(0))
         self.assertNotIn("the engine failed", self.node.page())
+
+    def test_what_an_engine_says(self) -> None:
+        """It reaches the terminal of the node without its escape sequences."""
+        (self.place / "says").write_bytes(b"\x1b[2Jno\nmore\n")
+        (engine,) = self.node.engines()
+        os.kill(engine, signal.SIGKILL)
+        self.assertEqual(self.node.post(self.node.payment(0)), (503, {"error": "the engine failed: \x1b[2Jno"}))
+        self.node.process.kill()
+        said = self.node.process.communicate()[1].splitlines()
+        self.assertEqual(set(said), {"node: the engine failed: \\x1b[2Jno"})
 
     def test_a_full_disk(self) -> None:
         """Those who wait get the reason, and a receipt if they send again and there is room."""
