@@ -40,12 +40,12 @@ class Shown:
     file: bytes
     senders: Sequence[bytes]
     receipts: Sequence[Receipt]
-    time: float = field(default_factory=time.time)
+    ran_at: float = field(default_factory=time.time)  # seconds since 1970
     drawn: str = ""
 
     def picture(self, program: Program, programs: Mapping[str, bytes]) -> str:
         """Which calls wait for which, or why there is no picture. `programs` are files by the paths in the block."""
-        title = f"Block {self.height}, {time.strftime('%H:%M:%S', time.gmtime(self.time))} UTC"
+        title = f"Block {self.height}, {time.strftime('%H:%M:%S', time.gmtime(self.ran_at))} UTC"
         with DRAWING:
             try:
                 self.drawn = self.drawn or Picture(title, waits_in(self.file, program, programs), View()).svg()

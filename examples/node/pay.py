@@ -89,8 +89,8 @@ class Node:
     def wrong(self, text: object) -> UserError:
         return UserError(f"http://127.0.0.1:{self.port}: {calls.printable(str(text))}")
 
-    def ask(self, method: str, path: str, body: bytes | None = None) -> tuple[int, Object]:
-        """The status of an answer, and its object. That of a refusal has an `error`."""
+    def ask(self, method: str, path: str, wanted: str, body: bytes | None = None) -> tuple[int, Object]:
+        """The status of an answer, and its object. It has the field `wanted`, or that of a refusal an `error`."""
         connection = http.client.HTTPConnection("127.0.0.1", self.port)
         try:
             connection.request(method, path, body)
@@ -100,16 +100,16 @@ class Node:
             raise self.wrong(error.strerror or error) from error
         except (http.client.HTTPException, ValueError, RecursionError):
             found = None
-        if not isinstance(found, dict) or answer.status != HTTPStatus.OK and "error" not in found:
+        if not isinstance(found, dict) or (wanted if answer.status == HTTPStatus.OK else "error") not in found:
             raise self.wrong(NO_NODE)
         return answer.status, found
 
     def next_call(self, account: bytes) -> tuple[bytes, int]:
         """The name of the ledger, and the number of the next call of an account."""
-        status, found = self.ask("GET", f"/accounts/{account.hex()}")
+        status, found = self.ask("GET", f"/accounts/{account.hex()}", "ledger")
         if status != HTTPStatus.OK:
             raise self.wrong(f"{status}: {found['error']}")
-        name, number = found.get("ledger"), found.get("next")
+        name, number = found["ledger"], found.get("next")
         if not isinstance(name, str) or not LEDGER.fullmatch(name) or not isinstance(number, int):
             raise self.wrong(NO_NODE)
         return bytes.fromhex(name), number
@@ -117,7 +117,7 @@ class Node:
     def send(self, kept: Path, *, is_again: bool) -> None:
         """Sends the call that is kept. The file goes after its receipt is printed, or if its number is used: then what
         was sent before has run."""
-        status, found = self.ask("POST", "/calls", kept.read_bytes())
+        status, found = self.ask("POST", "/calls", "end", kept.read_bytes())
         refusal = self.wrong(f"{status}: {found.get('error')}")
         if status == HTTPStatus.OK:
             print(json.dumps(found), flush=True)
@@ -165,11 +165,11 @@ def main() -> int:
     kept = Path(f"{given.key}.call")
     try:
         pay(given.key, kept, Node(given.port), data)
-    except UserError as error:
-        again = f"; {kept} has the call: start again to send it" if kept.exists() else ""
+    except (UserError, calls.RefusedError) as error:
+        again = f"; the next start sends {kept} again" if kept.exists() else ""
         raise UserError(f"{error}{again}") from error
     return 0
 
 
 if __name__ == "__main__":
-    sys.exit(errors.ended("pay", main, (calls.RefusedError,)))
+    sys.exit(errors.ended("pay", main))

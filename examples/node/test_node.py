@@ -202,8 +202,8 @@ class SignedCalls(WithNode):
         self.assertEqual(self.node.account(ALICE), {"next": 0, "coins": None})
 
     def test_keys_of_small_order(self) -> None:
-        """Eight times each point of the table is (0, 1). The curve has 8 such points, so these are all. Each y below 2^255
-        is there; the highest bit is a sign. R = (0, 1) and S = 0 are a signature of some calls for such a key, or of all."""
+        """Eight times each point of the table is (0, 1). The curve has 8 such points, so these are all. Each y below
+        2^255 is there; the highest bit is a sign. R = (0, 1) and S = 0 sign some calls for such a key, or all."""
         numbers = {int.from_bytes(key, "little") for key in calls.SMALL_ORDER}
         points = set[tuple[int, int]]().union(*map(points_at, numbers))
         self.assertEqual((len(points), {doubled(*doubled(*doubled(*point))) for point in points}), (8, {(0, 1)}))
@@ -358,7 +358,7 @@ tee -a PLACE/requests | PROGRAM "$@"
         self.assertEqual(self.node.post(self.node.payment(1))[0], 200)
 
     def test_what_a_block_costs(self) -> None:
-        """The storage is dumped once, for the name. A block runs again only when somebody asks for the page, and once."""
+        """The storage is dumped once, for the name. A block runs again once, when somebody asks for the page."""
         for number in range(2):
             self.assertEqual(self.node.post(self.node.payment(number))[0], 200)
         self.assertEqual((self.place / "requests").read_bytes().count(b"\ndump\n"), 1)
