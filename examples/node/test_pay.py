@@ -69,17 +69,17 @@ class Payments(unittest.TestCase):
         return done.returncode, done.stdout, done.stderr
 
     def test_a_lost_answer(self) -> None:
-        """The same call is sent again, and none is signed beside it. The next payment is another call."""
+        """The node took the call, so the next number is 1: yet the same call is sent again. The next payment is another one."""
         again = f"; the next start sends {self.kept} again\n"
         lost = f"pay: {self.address}: Remote end closed connection without response{again}"
         self.assertEqual(self.pay(BOB, "30"), (1, "", lost))
+        self.server.account = (200, self.server.account[1].replace(b'"next": 0', b'"next": 1'))
         self.server.answers = [(503, b'{"error": "no engine"}'), (200, b"{}"), (200, RECEIPT), (200, RECEIPT)]
         self.assertEqual(self.pay(BOB, "30"), (1, "", f"pay: {self.address}: 503: no engine{again}"))
         self.assertEqual(self.pay(BOB, "30"), (1, "", f"pay: {self.address}: {NO_NODE}{again}"))
         self.assertEqual(self.pay(BOB, "30"), (0, RECEIPT.decode() + "\n", ""))
         self.assertFalse(self.kept.exists())
         self.assertEqual(self.server.posted, [self.server.posted[0]] * 4)
-        self.server.account = (200, self.server.account[1].replace(b'"next": 0', b'"next": 1'))
         self.assertEqual(self.pay(BOB, "30")[0], 0)
         self.assertEqual(json.loads(self.server.posted[4])["number"], 1)
         self.assertEqual(self.server.found, self.server.posted, "a call is kept before it is sent")
