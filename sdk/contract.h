@@ -1,4 +1,5 @@
-/* What a contract in C or C++ needs: the storage calls and the limits. */
+/** @file
+ * What a contract in C or C++ needs: the storage calls and the limits. */
 
 #ifndef CONTRACT_H
 #define CONTRACT_H
@@ -37,35 +38,62 @@ enum {
 #define STORAGE_CALL /* sdk/host.c has the bodies */
 #endif
 
-/* What a call runs; each contract defines it. Where it comes back, the call returns with an empty
-   output. The input is at a multiple of 4. */
+/** What a call runs; each contract defines it. If it comes back, the call returns with an empty output. The input is at a
+ * multiple of 4, and has at most INPUT_LIMIT bytes. */
 void contract(const u8 *input, u32 length);
 
-/* Copies the key's value into the buffer and returns its length; ABSENT if there is none, LONGER
-   if it is longer than the capacity, and then nothing is copied. The capacity is at most
-   VALUE_LIMIT under rules one, where a read costs 200. Under rules two and three it is at most
-   LONG_VALUE_LIMIT, and a read costs one more for each byte that it copies. */
+/* A key has KEY_LENGTH bytes at any address. A range of length 0 may be anywhere. Each call below also ends as `out-of-gas`
+   if less gas is left than it costs. */
+
+/** Copies the value at a key into a buffer, which has to be writable over its whole capacity: at most VALUE_LIMIT under rules
+ * one, LONG_VALUE_LIMIT under rules two and three.
+ * @return the value's length; ABSENT if there is none; LONGER if it is longer than the capacity, and then nothing is copied
+ * @par Gas
+ * 200 + copied bytes; under rules one 200
+ * @par Ends
+ * `bad-length` if the capacity is too large, `out-of-gas`, `memory-fault` if a range has no rights */
 STORAGE_CALL u32 storage_read(const void *key, void *buffer, u32 capacity);
 
-/* Gives the key a value of at most VALUE_LIMIT bytes under rules one, and of at most
-   LONG_VALUE_LIMIT under rules two and three. An empty value is not absence. */
+/** Gives a key a value of at most VALUE_LIMIT bytes under rules one, LONG_VALUE_LIMIT under rules two and three. An empty value
+ * is not absence.
+ * @par Gas
+ * 400 + 4 * length
+ * @par Ends
+ * `bad-length` if the value is too long, `out-of-gas`, `memory-fault` if a range has no rights, `too-many-writes` if the call
+ * changed KEYS_LIMIT other keys */
 STORAGE_CALL void storage_write(const void *key, const void *value, u32 length);
 
-/* Removes the key, which may be absent. */
+/** Removes a key, which may be absent.
+ * @par Gas
+ * 300
+ * @par Ends
+ * `out-of-gas`, `memory-fault` if the key has no rights, `too-many-writes` if the call changed KEYS_LIMIT other keys */
 STORAGE_CALL void storage_remove(const void *key);
 
-/* Adds an amount to the number at the key, without reading it: calls that only add to a key do not
-   conflict. The number is a value of 8 bytes, the lowest first; an absent key, and a value of another
-   length, count as 0. The sum wraps at 2^64. Under rules three alone; otherwise the call ends as `unknown-call`. */
+/** Adds an amount to the number at a key, without reading it: calls that only add to a key do not conflict. The number is a
+ * value of 8 bytes, the lowest first; an absent key, and a value of another length, count as 0. The sum wraps at 2^64.
+ * @par Gas
+ * 300
+ * @par Ends
+ * `unknown-call` under rules one and two, `out-of-gas`, `memory-fault` if the key has no rights, `too-many-writes` if the call
+ * changed KEYS_LIMIT other keys */
 STORAGE_CALL void storage_add(const void *key, u64 amount);
 
-/* Ends the call: its writes are kept, its output is these bytes, at most OUTPUT_LIMIT. */
+/** Ends the call: its writes are kept, its output is these bytes, at most OUTPUT_LIMIT.
+ * @par Gas
+ * 10 + length
+ * @par Ends
+ * `bad-length` if the output is too long, `out-of-gas`, `memory-fault` if it has no rights */
 STORAGE_CALL void return_output(const void *bytes, u32 length) DOES_NOT_RETURN;
 
-/* Ends the call: its writes are dropped, its output is these bytes, at most OUTPUT_LIMIT. */
+/** Ends the call: its writes are dropped, its output is these bytes, at most OUTPUT_LIMIT.
+ * @par Gas
+ * 10 + length
+ * @par Ends
+ * `bad-length` if the output is too long, `out-of-gas`, `memory-fault` if it has no rights */
 STORAGE_CALL void revert(const void *bytes, u32 length) DOES_NOT_RETURN;
 
-/* Reverts with a literal text as the output. */
+/** Reverts with a literal text as the output. */
 #define REVERT(text) revert(text, sizeof(text) - 1)
 
 #ifdef __riscv

@@ -52,6 +52,11 @@ static void copy_bytes(void *to, const void *from, u32 length) {
     }
 }
 
+/* Bytes of length 0 are the same, also at NULL. */
+static int are_same_bytes(const void *one, const void *other, u32 length) {
+    return length == 0 || memcmp(one, other, length) == 0;
+}
+
 static DOES_NOT_RETURN void fail_test(const char *what) {
     fprintf(stderr, "host.c: %s\n", what);
     exit(2);
@@ -94,7 +99,7 @@ static struct entry *find_to_write(const void *key) {
     }
     if (entry == NULL) {
         if (entry_count == STORAGE_LIMIT) {
-            fail_test("the storage is full");
+            fail_test("the storage is full: it has at most 1024 keys, also removed ones");
         }
         entry = &entries[entry_count++];
         memset(entry, 0, sizeof *entry);
@@ -157,6 +162,10 @@ void revert(const void *bytes, u32 length) {
 }
 
 void set_rules(u32 rules) {
+    if (rules < 1 || rules > 3) {
+        fprintf(stderr, "host.c: set_rules(%u): the rules are 1, 2 or 3\n", rules);
+        exit(2);
+    }
     rules_of_calls = rules;
 }
 
@@ -196,7 +205,7 @@ struct result call_contract(const void *input, u32 length) {
 }
 
 static int has_ended(struct result result, enum ending ending, const void *output, u32 length) {
-    differs = result.ending != ending || result.length != length || memcmp(result.output, output, length) != 0;
+    differs = result.ending != ending || result.length != length || !are_same_bytes(result.output, output, length);
     came = result;
     wanted.ending = ending;
     wanted.length = length;

@@ -22,17 +22,17 @@ struct result {
     u8 output[OUTPUT_LIMIT];
 };
 
-/* Chooses rules 1, 2 or 3; at first they are 1. */
+/* Chooses rules 1, 2 or 3; at first they are 1. Any other number ends the test with a message and status 2. */
 void set_rules(u32 rules);
 
-/* Makes the storage empty. */
+/* Makes the storage empty. It has at most 1,024 keys, also removed ones: one more ends the test with a message and status 2. */
 void clear_storage(void);
 
 /* Calls the contract with a copy of the input; a sanitizer sees each read past it. What the call writes
    is kept if it returned. */
 struct result call_contract(const void *input, u32 length);
 
-/* Whether the call ended so, with this output. */
+/* Whether the call ended so, with this output. If its length is 0, the address may be NULL. */
 int has_returned(struct result result, const void *output, u32 length);
 int has_returned_u64(struct result result, u64 number);
 int has_reverted(struct result result, const char *text);

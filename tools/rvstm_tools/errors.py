@@ -10,7 +10,7 @@ import os
 import re
 import signal
 import sys
-from collections.abc import Callable, Iterator
+from collections.abc import Callable, Iterable, Iterator
 from contextlib import contextmanager
 from types import FrameType
 
@@ -77,6 +77,12 @@ def ended(name: str, run: Callable[[], int]) -> int:
     drop_output()
     print(f"{name}: {fault}", file=sys.stderr)
     return status
+
+
+def warn(place: str, warnings: Iterable[str]) -> None:
+    """Prints warnings on standard error, each in a line with its place. They change no status."""
+    for text in warnings:
+        print(printable(f"warning: {place}: {text}"), file=sys.stderr)
 
 
 @contextmanager

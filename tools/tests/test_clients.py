@@ -149,6 +149,12 @@ class OfTypedLines(WithChain):
         for line in (f"try {len(BLOCK)}", f"list {BOB} 1", f"begin 7 {DIGEST} 10", f"begin 0 {'0' * 64} 10", f"forget {name}"):
             self.assertIn(line, log)
 
+    def test_a_key_that_lists_say_otherwise_is_a_warning(self) -> None:
+        path = self.write("b.list", f"shape row:acct[account] u64\n{LIST}")
+        wanted = "warning: session: row:acct:al: a text, and its shape has an account there; the key of the account is row:acct:key:al\n"
+        self.assertEqual(called_with(f"frame {path}\nget row:acct:al\nget row:acct:key:al\n", "session")[::2], (0, wanted))
+        self.assertEqual(called("session", path, "--get", "row:acct:al")[::2], (0, wanted))
+
     def test_help_names_each_request(self) -> None:
         output = called_with("help\n", "session")[1]
         words = ["frame", "try", "last", "get", "list", "dump", "begin", "state", "program", "programs", "forget", "help", "q"]

@@ -11,7 +11,7 @@ from rvstm_tools.texts import lists, rows, words
 from rvstm_tools.texts.keys import Key
 from rvstm_tools.texts.rows import Row
 from rvstm_tools.texts.views import View
-from tests.helpers import InFolder, called_with
+from tests.helpers import InFolder, called, called_with
 
 FIRST_TWENTY = "6d616c6c6f727900000000000000000000000000"  # of key:mallory
 
@@ -169,6 +169,21 @@ class InTools(InFolder):
             with self.subTest(first), self.assertRaises(UserError) as caught:
                 lists.read_view(path)
             self.assertEqual(str(caught.exception), f"{path}, line 2: {second}: {message}")
+
+    def test_a_text_in_place_of_an_account_is_a_warning(self) -> None:
+        """The key of a text of 20 bytes is that of the account; a key with a shape of its own, and a number, are no mistakes."""
+        shapes = "shape row:acct[account] balance:u64\nshape row:acct:pot fees:u64\nshape row:pay[u32,account] u8\n"
+        warned = {"row:acct:alice": "row:acct:key:alice", "row:pay:u32:7,bob": "row:pay:u32:7,key:bob"}
+        right = ("row:acct:key:bob", "row:acct:pot", "row:acct:" + "b" * 20, "row:pay:u32:7,key:bob", "row:acct:u8:1", "row:lots:lamp", "key:bob")
+        text = "".join(f"store {word} u8:1\n" for word in (*warned, *right)) + shapes
+        said = {
+            word: f"{word}: a text, and its shape has an account there; the key of the account is {meant}" for word, meant in warned.items()
+        }
+        path = self.write("a.list", text)
+        wanted = (0, "".join(f"warning: {path}: {line}\n" for line in said.values()))
+        self.assertEqual(called_with("end\n", "result", "--list", path)[::2], wanted)
+        description = self.write("a.explore", f"program x x.elf\n{text}call x 9\n")
+        self.assertIn(f"warning: {description}: {said['row:acct:alice']}\n", called("explore", description, "--program", "/bin/false")[2])
 
     def test_a_picture_of_conflicts_names_rows(self) -> None:
         self.assertEqual(waits.name_of(Key(model_key("acct", b"alice" + bytes(15))), View()), "row:acct:key:alice")

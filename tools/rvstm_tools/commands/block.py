@@ -51,7 +51,8 @@ Lines `shape` change nothing of the block. `test`, `explore`, `result`, `trace` 
 
     shape KEY FIELDS..        the value at a key
     shape row:TABLE FIELDS..  the values of all rows of a table, except those with a line of their own; also shape table:TAG
-    shape row:TABLE[TYPE,TYPE..] FIELDS..    the same; the types are those of the parts of a row, and its key is shown by them
+    shape row:TABLE[TYPE,TYPE..] FIELDS..    the same; the types are those of the parts of a row, and its key is shown by them.
+                              A word with a text in place of an account, such as row:acct:alice, says another key: tools warn of it
     shape input NAME FIELDS.. an input, which is shown by the first of these lines that it fits
 
 A field is TYPE or NAME:TYPE, or a word with bytes that are always the same, such as u32:0; this is not shown. The types:

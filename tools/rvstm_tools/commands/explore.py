@@ -44,7 +44,7 @@ An expression is one of Python, and has these names:
 
     value(KEY)                the bytes at a key, None if it has none; KEY is a word of a list or 32 bytes
     u8(KEY) .. u64(KEY)       the number at a key, 0 if it has none; i8(KEY) .. i64(KEY) the same with a sign
-    fields(KEY)               the fields of the value at a key that its line `shape` names, as in fields("row:acct:bob").balance:
+    fields(KEY)               the fields of the value at a key that its line `shape` names, as in fields("row:acct:key:bob").balance:
                               numbers, texts or bytes; None if it has none
     keys()                    all keys, ascending
     every.NAME                the words that may be in {NAME}

@@ -49,8 +49,8 @@ class Asked:
 
 
 def get_of(word: str) -> Asked:
-    key = words.key_of(word)
-    return Asked(f"get {word}", lambda client: client.get(key))
+    words.key_of(word)
+    return Asked(f"get {word}", lambda client: client.get(client.key_of(word)))
 
 
 def list_of(word: str) -> Asked:

@@ -7,6 +7,7 @@ from dataclasses import dataclass, field
 from pathlib import Path
 from types import CodeType
 
+from rvstm_tools import errors
 from rvstm_tools.errors import UserError
 from rvstm_tools.exploring import expressions, places, storages
 from rvstm_tools.exploring.expressions import MODEL, OF_BEFORE, OF_CALLS, OF_STORAGE, Rule
@@ -84,6 +85,7 @@ class Description:
                 with lists.placed(path, number):
                     lists.check_encoding(text)
                     self._take(text.strip(), number)
+        errors.warn(path, self.blocks.view.doubts(word for text in self.stores for word in words.words_of(text)))
         if not self.kinds:
             raise UserError(f"{path}: there is no line `call`")
         self.programs = {name: str(self.folder / program.path) for name, program in self.blocks.block.programs.items()}

@@ -4,13 +4,14 @@ from collections.abc import Iterator
 from dataclasses import dataclass
 from pathlib import Path
 
+from rvstm_tools import errors
 from rvstm_tools.errors import UserError
 from rvstm_tools.sessions import answers, frames, requests
 from rvstm_tools.sessions.answers import Answer, Done, State
 from rvstm_tools.sessions.frames import Named
 from rvstm_tools.sessions.processes import Session
 from rvstm_tools.sessions.requests import Request, Word
-from rvstm_tools.texts import lists, results, tables
+from rvstm_tools.texts import lists, results, tables, words
 from rvstm_tools.texts.keys import KEY_LENGTH, Key
 from rvstm_tools.texts.views import View
 
@@ -63,6 +64,11 @@ class Client:
 
     def state(self) -> State:
         return answers.state_of(self.body(Request(Word.STATE)))
+
+    def key_of(self, word: str) -> Key:
+        """The key of a word. One that is not as the lists have it is a warning."""
+        errors.warn("session", self.view.doubts([word]))
+        return words.key_of(word)
 
     # ---- requests, each with the lines of its answer
 

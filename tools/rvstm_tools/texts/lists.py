@@ -6,6 +6,7 @@ from collections.abc import Callable, Iterator
 from contextlib import contextmanager
 from dataclasses import dataclass
 
+from rvstm_tools import errors
 from rvstm_tools.errors import UserError
 from rvstm_tools.texts import blocks, dumps, numbers, words
 from rvstm_tools.texts.blocks import Block, Call, ProgramFile, Rules
@@ -182,4 +183,5 @@ def read_view(path: str) -> View:
                 view.take_shape(line.words[1:])
             else:
                 view.take_names(line.words)
+    errors.warn(path, view.doubts(view.names.values()))
     return view

@@ -1,7 +1,7 @@
 """How people see keys, values and inputs: by the words and the shapes of a list, and without one by what their bytes may be."""
 
 import re
-from collections.abc import Sequence
+from collections.abc import Iterable, Iterator, Sequence
 from dataclasses import dataclass, field
 
 from rvstm_tools.errors import UserError
@@ -49,6 +49,21 @@ class View:
             lengths = f"at most {rows.LONGEST_SHORT_ROW}" if row.is_long else f"{rows.LONG_ROW}"
             raise UserError(f"{word}: it has {len(row.data)} bytes, and the other rows of {row.table} have {lengths}")
         ours.add(row.table)
+
+    def doubt(self, word: str) -> str:
+        """A warning of a word `row:` that has a text where the shape of its rows has an account, and so says another key; or nothing."""
+        row = words.row_of(word)
+        fields = self.rows.get(row.table, ())
+        parts = word.split(":", 2)[2].split(",")
+        if len(parts) != len(fields) or row.key in self.of_keys or not isinstance(Shape(fields).parts(row.data), Misfit):
+            return ""
+        meant = [f"key:{part}" if field.kind is Kind.ACCOUNT and ":" not in part else part for field, part in zip(fields, parts)]
+        key = f"row:{row.table}:{','.join(meant)}"
+        return f"{word}: a text, and its shape has an account there; the key of the account is {key}" if key != word else ""
+
+    def doubts(self, given: Iterable[str]) -> Iterator[str]:
+        """The warnings of some words, each once, in their order."""
+        yield from filter(None, map(self.doubt, dict.fromkeys(word for word in given if word.startswith("row:"))))
 
     def take_shape(self, given: Sequence[str]) -> None:
         """Takes the words after `shape`: a key, `row:TABLE`, `table:TAG` or `input NAME`, and fields."""

@@ -1,0 +1,149 @@
+"""What sdk/contract.h and sdk/host.h say: gas and ends of each storage call, and the edges of a test on this machine."""
+
+import re
+from dataclasses import dataclass
+
+from gate.calls import command, rvstm
+from gate.cases import TOP, Case, Run, same
+from gate.machine import Tool
+from gate.texts import Call, block, receipts, written
+
+MAKEFILE, HEADER = TOP / "sdk/Makefile", TOP / "sdk/contract.h"
+
+# ---- the edges of host.c
+
+EDGES = """#include "host.h"
+#include "numbers.h"
+
+int main(int count, char **words) {
+    u8 key[KEY_LENGTH] = {0};
+    check("no output", has_returned(call_contract(0, 0), 0, 0));
+    check("no text", !has_reverted(call_contract(0, 0), ""));
+    for (u32 number = 0; number < 1024; number++) {
+        write_u32(key, number);
+        storage_write(key, 0, 0);
+    }
+    storage_remove(key);
+    storage_write(key, 0, 0);
+    check("the last of 1,024 keys", storage_read(key, 0, 0) == 0);
+    set_rules((u32)(words[count - 1][0] - '0'));
+    report_checks();
+    write_u32(key, 1024);
+    storage_write(key, 0, 0);
+    return 0;
+}
+"""
+
+
+def edges(run: Run) -> None:
+    """Outputs of no bytes, a full storage, and rules that are not there, with sanitizers."""
+    written(run.place / "edges.c", '#include "contract.h"\nvoid contract(const u8 *input, u32 length) {}\n')
+    written(run.place / "edges-test.c", EDGES)
+    command(["make", "-s", "-f", MAKEFILE, "CC=cc", "edges-test"], run.place).done()
+    for rules in range(8):
+        done = command([run.place / "edges-test", str(rules)])
+        wanted = ("3 passed, 0 failed\n", "host.c: the storage is full: it has at most 1024 keys, also removed ones\n")
+        if rules not in (1, 2, 3):
+            wanted = ("", f"host.c: set_rules({rules}): the rules are 1, 2 or 3\n")
+        same((done.status, done.out, done.errors), (2, *wanted), f"set_rules({rules})")
+
+
+# ---- gas and ends
+
+INPUT = 0x00100000
+KEY, BUFFER = INPUT + 16, INPUT + 64
+# A call of the storage by the words of the input: its number, a1, a2 and a0. Then it returns.
+ONE = """
+  mv s0,a0
+  lw a7,0(s0)
+  lw a1,4(s0)
+  lw a2,8(s0)
+  lw a0,12(s0)
+  ecall
+  li a7,3
+  li a1,0
+  ecall
+"""
+BEFORE, AFTER = 1 + 4 * 2, 2 + 2 + 10  # the gas before and after that call: `li` is two instructions, and RETURN costs 10
+# The same for each of 257 keys.
+MANY = """
+  mv s0,a0
+  li s1,257
+again:
+  lw a7,0(s0)
+  lw a1,4(s0)
+  lw a2,8(s0)
+  lw a0,12(s0)
+  sw s1,0(a0)
+  ecall
+  addi s1,s1,-1
+  bne s1,x0,again
+  li a7,3
+  li a1,0
+  ecall
+"""
+
+
+@dataclass(frozen=True)
+class Storage:
+    """A storage call: its function in C and its number, and what its gas is counted by."""
+
+    function: str
+    number: int
+    unit: str = "length"
+
+    def call(self, length: int, *, program: int = 0, gas: int = 1_000_000, at: int = KEY) -> Call:
+        """The call with this length, and with a key or an output at this address."""
+        second, third = (length, 0) if self.number in (3, 4) else (BUFFER, length)
+        words = b"".join(word.to_bytes(4, "little") for word in (self.number, second, third, at))
+        return Call(program, gas, (words + bytes(1024)).hex())
+
+
+CALLS = (
+    Storage("storage_read", 0, "copied bytes"), Storage("storage_write", 1), Storage("storage_remove", 2), Storage("storage_add", 5),
+    Storage("return_output", 3), Storage("revert", 4),
+)
+
+
+def came(run: Run, rules: int, calls: list[Call]) -> list[tuple[str, int]]:
+    """The ends and the gas of calls over a key whose value has 8 bytes."""
+    written(run.place / "one.block", block(["one.elf", "many.elf"], calls, {"00" * 32: "07" * 8}, f"rvblock 2\ngas {rules}\n"))
+    return [(one.end, one.gas) for one in receipts(rvstm(run, "seq", "one.block", folder=run.place).done())]
+
+
+def gas_of(run: Run, storage: Storage, rules: int) -> str:
+    """The gas of a storage call, by calls with a length of 0 and of 8."""
+    found = []
+    for end, gas in came(run, rules, [storage.call(0), storage.call(8)]):
+        found.append(gas - BEFORE - (AFTER if storage.number not in (3, 4) else 0))
+    each = (found[1] - found[0]) // 8
+    return f"{found[0]}{f' + {each} * {storage.unit}' if each else ''}".replace(" 1 * ", " ")
+
+
+def ends_of(run: Run, storage: Storage) -> set[str]:
+    """The ends of calls that are too long, have too little gas, no rights, 257 keys or older rules; beside `returned` and `reverted`."""
+    calls = [storage.call(0), storage.call(257), storage.call(0, gas=BEFORE + 9), storage.call(8, at=0), storage.call(0, program=1)]
+    found = {end for rules in (1, 2, 3) for end, _ in came(run, rules, calls)}
+    return found - {"returned", "reverted"}
+
+
+def header(run: Run) -> None:
+    """Gas and ends as contract.h has them, in comments that doxygen reads, are those of the program."""
+    text = HEADER.read_text(encoding="utf-8")
+    found = re.findall(r"/\*\*((?:(?!\*/).)*)\*/\s*STORAGE_CALL \w+ (\w+)\(", text, re.S)
+    comments = {name: " ".join(comment.replace("\n * ", " ").split()) for comment, name in found}
+    same(list(comments), [storage.function for storage in CALLS], "the functions with a comment")
+    for name, source in (("one", ONE), ("many", MANY)):
+        written(run.place / f"{name}.s", source)
+        rvstm(run, "asm", f"{name}.s", "--out", f"{name}.elf", folder=run.place).done()
+    for storage in CALLS:
+        _, gas, ends = re.split(r"@par (?:Gas|Ends) ", comments[storage.function])
+        new = gas_of(run, storage, 3)
+        old = gas_of(run, storage, 1) if storage.number != 5 else new
+        same(gas.strip(), old if old == new else f"{new}; under rules one {old}", f"the gas of {storage.function}")
+        same(set(re.findall("`([a-z-]+)`", ends)), ends_of(run, storage), f"the ends of {storage.function}")
+
+
+def cases() -> list[Case]:
+    """All of them."""
+    return [Case("sdk: the edges of host.c", edges, (Tool.CC, Tool.MAKE), cost=2), Case("sdk: gas and ends in contract.h", header)]
