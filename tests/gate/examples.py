@@ -240,8 +240,8 @@ def wrong_description(run: Run, text: str, wanted: str) -> None:
     holds(line in lines, lines[-1:], line)
 
 
-def debugged(run: Run, name: str, contract: str, make: Sequence[str]) -> None:
-    """What gdb prints at the lines of a script, with each line before it. Sources of the sdk are named by their paths from here."""
+def debug_folder(run: Run, contract: str, make: Sequence[str]) -> Path:
+    """A folder with the block of a contract, and with its program and its lines. Sources of the sdk are named by their paths from there."""
     folder = run.place / "examples" / contract.partition("/")[0]
     folder.mkdir(parents=True)
     for part in ("sdk", "tools"):
@@ -250,6 +250,12 @@ def debugged(run: Run, name: str, contract: str, make: Sequence[str]) -> None:
         shutil.copy(EXAMPLES / f"{contract}{ending}", folder)
     program = contract.partition("/")[2]
     command(["make", "-s", "-f", "../../sdk/Makefile", *make, f"{program}.elf", f"{program}.lines.elf"], folder).done()
+    return folder
+
+
+def debugged(run: Run, name: str, contract: str, make: Sequence[str]) -> None:
+    """What gdb prints at the lines of a script, with each line before it."""
+    folder, program = debug_folder(run, contract, make), contract.partition("/")[2]
     lines = ["set width 110", "set confirm off", "set remotetimeout 600", "set trace-commands on"]
     lines += (EXAMPLES / f"debugged/{name}.gdb").read_text(encoding="utf-8").splitlines()
     words = ["gdb-multiarch", "-nx", "-q", "-batch", *(word for line in lines for word in ("-ex", line)), f"{program}.lines.elf"]
@@ -257,6 +263,32 @@ def debugged(run: Run, name: str, contract: str, make: Sequence[str]) -> None:
     done = command(["sh", "-c", 'exec "$@" 2>&1', "sh", *words], folder, more={"RVSTM": str(run.program), "DEBUGINFOD_URLS": ""})
     came = re.sub(r"^\+[a-z]* \n", "", done.out, flags=re.M)
     same(came, (EXAMPLES / f"debugged/{name}.out").read_text(encoding="utf-8"))
+
+
+AT_LINE = ("echo @{0}\\n", "break {0}", "monitor go 0", "maintenance flush register-cache", "continue", "delete")
+OF_ITS_FUNCTION = (
+    r'dprintf vault.c:61,"amount %llu\n",payment.amount', "break vault.c:61 if payment.amount != 90",
+    "tbreak vault.c:61 if payment.amount == 90", "monitor go 0", "maintenance flush register-cache", "continue", "print payment.amount", "continue",
+)
+"""A payment of 90 (vault.list) is written in line 61, which begins with calls that are inlined."""
+
+
+def lines_stop(run: Run) -> None:
+    """gdb stops at each line of the source that a call runs. A replay and llvm-addr2line say which lines these are."""
+    folder = debug_folder(run, "vault/vault", ["TOOLS=clang"])
+    steps = rvstm(run, "debug", "vault.block", "--call", "0", folder=folder, data="s\n" * 1000).done()
+    addresses = sorted(set(re.findall("^[0-9]+ ([0-9a-f]{8}) ", steps, re.M)))
+    found = command(["llvm-addr2line", "-i", "-s", "-e", "vault.lines.elf"], folder, "\n".join(addresses)).done()
+    ran = sorted(set(re.findall(r"^vault\.c:[1-9][0-9]*", found, re.M)))
+    script = [f"source {TOP}/sdk/gdb_lines.py", "target remote | ../../tools/rvstm-tools gdb vault.block --call 0"]
+    script += [line.format(at) for at in ran for line in AT_LINE] + ["echo @\\n", *OF_ITS_FUNCTION]
+    words = ["gdb-multiarch", "-nx", "-q", "-batch", *(word for line in script for word in ("-ex", line)), "vault.lines.elf"]
+    done = command(words, folder, more={"RVSTM": str(run.program), "DEBUGINFOD_URLS": ""})
+    *stops, values = done.out.split("@")[1:]
+    missed = [stop.partition("\n")[0] for stop in stops if not re.search("^Breakpoint [0-9]+, ", stop, re.M)]
+    same((len(stops), missed), (len(ran), []), f"the lines at which gdb does not stop, of {ran}")
+    for text, times in (("amount 90\n", 1), ("Temporary breakpoint", 2), ("$1 = 90\n", 1), ("No more reverse-execution history.", 1)):
+        same(values.count(text), times, f"{text} in {values}")
 
 
 def cases() -> list[Case]:
@@ -295,5 +327,6 @@ def cases() -> list[Case]:
     ):
         run = partial(debugged, name=name, contract=contract, make=make)
         found.append(Case(f"calls debugged by gdb: {name}", run, (*needs, Tool.GDB), cost=8))
+    found.append(Case("calls debugged by gdb: each line", lines_stop, (*CONTRACTS, Tool.GDB, Tool.LLVM), cost=5))
     said = [partial(wrong_description, text=text, wanted=wanted) for text, wanted in DESCRIPTIONS]
     return [*found, *(Case(f"a description and its line, {number}", run) for number, run in enumerate(said, 1))]

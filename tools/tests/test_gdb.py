@@ -182,6 +182,7 @@ class Questions(Replayed):
         self.assertEqual(self.monitor("value 00"), "00: a key has 32 bytes, and this is 1\n")
         self.assertEqual(self.monitor(f"value {'00' * 33}"), f"{'00' * 33}: a key has at most 32 bytes, and this is 33\n")
         self.assertIn("0g: not bytes in hex, ", self.monitor("value 0g"))
+        self.assertEqual(self.monitor("places a.c:7"), "there is no a.lines.elf: make -f sdk/Makefile a.lines.elf makes it\n")
         for line in ("", "go", "go x", "go -1", "go \u0663", "end now", "what", "go 99999999999999999999"):
             self.assertEqual(self.monitor(line), gdb.COMMANDS)
 

@@ -14,7 +14,10 @@ DETAILS = """\
 It speaks gdb's remote protocol over standard input and output, and drives sessions of `rvstm debug`. gdb starts it:
 
     make -f ../../sdk/Makefile token.lines.elf
-    gdb-multiarch token.lines.elf -ex "target remote | rvstm-tools gdb token.block --call 2"
+    gdb-multiarch -x ../../sdk/gdb_lines.py token.lines.elf -ex "target remote | rvstm-tools gdb token.block --call 2"
+
+sdk/gdb_lines.py, which may be left out, sets `break`, `tbreak` and `dprintf` of FILE:LINE at each place of the line. gdb by itself
+passes over a line that begins with a call that the compiler inlined.
 
 gdb must know RISC-V, as Debian's package gdb-multiarch does. If the calls before this one last for seconds, type `set
 remotetimeout 600` first.
@@ -32,6 +35,7 @@ before it has the end, the output, the steps and the gas.
     monitor calls             the storage calls up to here, each with its moment
     monitor value KEY         what a READ of KEY would find here; KEY is a word of a list, such as key:alice, or 64 hex digits;
                               with --list a value is shown by its lines `shape`
+    monitor places FILE:LINE  the addresses at which code of a line begins, also that of functions inlined there
     monitor go MOMENT         goes to a moment; after it `maintenance flush register-cache` shows gdb the new place
 
 Going forward, to breakpoints and to changes of memory too, is as fast as a run. Going back is a run from the call's start.

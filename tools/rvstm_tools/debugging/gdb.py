@@ -43,7 +43,7 @@ ERROR = "E01"
 FEATURES = "PacketSize=3fff;QStartNoAckMode+;qXfer:features:read+;ReverseStep+;ReverseContinue+;vContSupported+"
 TARGET = "qXfer:features:read:target.xml:"
 QUERIES = {"qSupported": FEATURES, "qC": "QC1", "qAttached": "1", "qfThreadInfo": "m1", "qsThreadInfo": "l", "qSymbol": "OK"}
-COMMANDS = "monitor end, monitor calls, monitor value KEY, monitor go MOMENT\n"
+COMMANDS = "monitor end, monitor calls, monitor value KEY, monitor go MOMENT, monitor places FILE:LINE\n"
 MOST_DIGITS = 16  # of a number in a packet
 
 
@@ -160,6 +160,8 @@ class Server:
                 return f"moment {self.call.now} of {self.call.last}, pc {self.call.state().pc:08x}\n"
             case ["value", key]:
                 return self.call.value_text(key)
+            case ["places", line]:
+                return self.call.places_text(line)
             case ["end"]:
                 return self.call.end_text()
             case ["calls"]:

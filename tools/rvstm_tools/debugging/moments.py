@@ -4,14 +4,17 @@ A session of `rvstm debug --more` goes to any moment: forward from its own, back
 that were opened are kept, and a moment is reached from the nearest one before it.
 """
 
+import functools
 import os
 from bisect import bisect_left, bisect_right
 from collections.abc import Callable, Sequence
 from dataclasses import dataclass
 from typing import NamedTuple
 
-from rvstm_tools.debugging import replays
+from rvstm_tools import errors
+from rvstm_tools.debugging import coverage, replays, sources
 from rvstm_tools.debugging.sessions import LINES_AT_ONCE, MOST_BYTES, REFUSED, CallOf, Debugger, place_of
+from rvstm_tools.debugging.sources import Chains
 from rvstm_tools.errors import UserError
 from rvstm_tools.debugging.charges import StorageCall
 from rvstm_tools.programs.running import Program
@@ -348,6 +351,22 @@ class Call:
         kind, *value = self.here_at(self.now).answer(f"v {data.hex()}").split(" ")
         found = self.view.value(Key(data), bytes.fromhex(value[0].replace("-", ""))) if value else kind
         return f"{self.view.key(Key(data))}: {found}\n"
+
+    @functools.cached_property
+    def chains(self) -> Chains:
+        """The functions and lines of all addresses of the program."""
+        path = blockfiles.head_of_call(self.subject.file, self.subject.number).program
+        tool = sources.address_tool()
+        program = coverage.lines_program(str(self.subject.folder / path), tool)
+        return sources.chains_of(program, list(program.words()), tool)
+
+    def places_text(self, line: str) -> str:
+        """The addresses at which code of FILE:LINE begins, a line for each."""
+        try:
+            places = sources.places_of(self.chains, line)
+        except (UserError, OSError) as error:
+            return f"{errors.reason(error)}\n"
+        return "".join(f"{address:08x}\n" for address in places) or f"{line}: no code is of this line\n"
 
     def ecalls(self) -> list[int]:
         path = blockfiles.head_of_call(self.subject.file, self.subject.number).program

@@ -69,6 +69,20 @@ def chain_of(lines: Sequence[str], function: str) -> list[Inlined]:
     return [Inlined(function if name.startswith(LOCAL_LABEL) else plain_name(name), line) for name, line in reversed(pairs)]
 
 
+def places_of(chains: Chains, line: str) -> list[int]:
+    """The addresses at which code of FILE:LINE begins: its own, or that of functions that the compiler inlined there."""
+    path, _, number = line.rpartition(":")
+    found, before = list[int](), None
+    for address in sorted(chains):
+        known = [source_line(inlined.line) for inlined in chains[address]]
+        depth = next((at for at, one in enumerate(known, 1) if one and f"{one.number}" == number and one.path.endswith(f"/{path}")), 0)
+        copy = known[:depth]  # the line, and the calls around it
+        if copy and copy != before:
+            found.append(address)
+        before = copy
+    return found
+
+
 def short_place(line: str) -> str:
     """FILE:LINE without its folder; nothing if it is not known."""
     place = os.path.basename(without_discriminator(line))
