@@ -18,7 +18,7 @@ _rvstm_tools() {
     release) options="--help" ;;
     result) options="--help --list --json --schema --registers" ;;
     schedule) options="--help --program --preview --to-done --from" ;;
-    session) options="--help --program --preview --get --list --state --dump --last --replay --write --store --frame-limit --frame-gas --workers --brief" ;;
+    session) options="--help --program --preview --get --list --state --dump --last --shapes --replay --write --store --frame-limit --frame-gas --workers --brief" ;;
     test) options="--help --program --preview --jobs --only --filter --variant --update --json --junit --gas --within --write" ;;
     trace) options="--help --program --preview --call --list --lines --svg" ;;
     verify) options="--help --sums --yes" ;;

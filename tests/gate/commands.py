@@ -359,6 +359,31 @@ def session(run: Run) -> None:
     same(came, 'get key:bob\n      "bob": 0400000000000000  4\n')
 
 
+BLOCKS = (
+    "store key:node.clock u64:1000\n",
+    "call lock 10000 key:gate u64:5000\n",
+    "store key:node.clock u64:6000\ncall lock 10000 key:gate\ncall lock 10000 key:gate\n",
+)
+"""A lock of the name `gate` until 5000, which is opened at 6000, and then is none."""
+
+
+def typed_blocks(run: Run) -> None:
+    """Calls that are typed, one by one and as a block, give the digest of lists with the same blocks; and a kept session by its fields."""
+    path, folder = run.place / "ledger", TOP / "examples/lock"
+    one, other, several = BLOCKS
+    typed = f"{one}{other}block\n{several}get key:node.clock\nrun\nstate\n"
+    came = command([*tool_words("session"), "--store", path, "--shapes", "lock.list"], folder, typed, {"RVSTM": str(run.program)}).done()
+    shown = re.findall(r'^ +(?:\d  (\w+) +\d+  \w+  (?:\w+  )?|("node.clock"|height):? )(.*)$', came, re.M)
+    clock, ends = ("", '"node.clock"', "seconds 1000"), [("returned", "", "-"), ("returned", "", "1000"), ("reverted", "", '"the name has no lock"')]
+    same(shown, [clock, ends[0], clock, *ends[1:], ("", "height", "3")], came)
+    lists = [written(run.place / f"{number}.list", f"program lock {folder}/lock.elf\n{text}") for number, text in enumerate(BLOCKS)]
+    same(came.splitlines()[-1], tool(run, "session", *lists, "--state").done().splitlines()[-1], "the digest")
+    kept = tool(run, "session", "--store", path, "--shapes", "lock.list", "--get", "key:node.clock", "--state", folder=folder).done()
+    same(re.findall("node.clock.*|height .*", kept), ["node.clock", 'node.clock": seconds 6000', "height 3"], kept)
+    again = command(tool_words("session"), folder, f"block\ncall {'0' * 64} 9\nrun\nrun\nblock\n", {"RVSTM": str(run.program)})
+    same((again.out, again.errors, again.status), ("      dropped calls and keys: 1\n", 2 * "session: refused frame NoProgram 3\n", 1), "a block that is refused stays")
+
+
 TOOLS: dict[str, tuple[Callable[[Run], None], Sequence[Tool]]] = {
     "block": (block, ()),
     "test": (test, ()),
@@ -394,4 +419,5 @@ def cases() -> list[Case]:
     found = [Case(f"rvstm {name}", call, cost=0.5) for name, call in COMMANDS.items()]
     found += [Case(f"tool {name}", call, needs, cost=2) for name, (call, needs) in TOOLS.items()]
     found += [Case("rvstm help and version", help_and_version), Case("rvstm refusals", refusals)]
+    found.append(Case("tool session: typed blocks", typed_blocks, cost=2))
     return [*found, Case("tools: each has a case", names_of_tools)]

@@ -3,6 +3,7 @@
 import hashlib
 import io
 import os
+import re
 import sys
 import unittest
 from pathlib import Path
@@ -149,6 +150,29 @@ class OfTypedLines(WithChain):
         for line in (f"try {len(BLOCK)}", f"list {BOB} 1", f"begin 7 {DIGEST} 10", f"begin 0 {'0' * 64} 10", f"forget {name}"):
             self.assertIn(line, log)
 
+    def test_blocks(self) -> None:
+        """By one line, and by several between `block` and `run`. The program is sent before its block, and named by its hash."""
+        name, store, program = "cd" * 32, f"store {BOB} 0400000000000000\n", "program 4\nfile\n"
+        head = f"rvblock 2\ngas 3\nprogram 0 {name}\n"
+        self.write("b.list", "rules 3\nprogram b a.elf\nshape key:bob votes:u64\n")
+        for typed, output, blocks in (
+            ("call b 9 key:bob", TABLE, [program, f"{head}call 0 9 {BOB}\n"]),
+            (f"call {name} 9", TABLE, [f"{head}call 0 9 -\n"]),
+            (f"program {self.folder}/a.elf\ncall a 9 07", f"      {name}\n{TABLE}", [program, program, f"{head}call 0 9 07\n"]),
+            ("store key:bob u64:4", '      "bob": votes 5\n', [f"rvblock 2\ngas 3\n{store}"]),
+            ("block\nstore key:bob u64:4\ncall b 9 07\ncall b 8\nrun", TABLE, [program, f"{head}{store}call 0 9 07\ncall 0 8 -\n"]),
+            ("block\ncall b 9\nblock\ncall b 8\nrun", f"      dropped calls and keys: 1\n{TABLE}", [program, program, f"{head}call 0 8 -\n"]),
+        ):
+            with self.subTest(typed):
+                self.log.unlink(missing_ok=True)
+                self.assertEqual(called_with(f"{typed}\n", "session", "--shapes", f"{self.folder}/b.list"), (0, output, ""))
+                sent = re.sub("^(state|frame .*|get .*|q|chain .*)\n", "", self.log.read_text(encoding="utf-8"), flags=re.M)
+                self.assertEqual(sent, "".join(blocks))
+
+    def test_a_block_that_is_not_run(self) -> None:
+        wanted = (1, "", "session: the last block was not run: `run` is missing\n")
+        self.assertEqual(called_with(f"block\nstore key:bob 07\ncall {'cd' * 32} 9\n", "session"), wanted)
+
     def test_a_key_that_lists_say_otherwise_is_a_warning(self) -> None:
         path = self.write("b.list", f"shape row:acct[account] u64\n{LIST}")
         wanted = "warning: session: row:acct:al: a text, and its shape has an account there; the key of the account is row:acct:key:al\n"
@@ -157,7 +181,7 @@ class OfTypedLines(WithChain):
 
     def test_help_names_each_request(self) -> None:
         output = called_with("help\n", "session")[1]
-        words = ["frame", "try", "last", "get", "list", "dump", "begin", "state", "program", "programs", "forget", "help", "q"]
+        words = ["frame", "try", "call", "store", "block", "run", "last", "get", "list", "dump", "begin", "state", "program", "programs", "forget", "help", "q"]
         self.assertEqual([line.split()[0] for line in output.splitlines()], words)
 
     def test_wrong_lines(self) -> None:
@@ -176,6 +200,12 @@ class OfTypedLines(WithChain):
             "programs": "refused block 3 BadLine 2",
             "get \udcff": "not UTF-8",
             "frame a\0.list": "a\\x00.list: a path has no zero byte",
+            "call b": "the request is `call NAME GAS [WORD..]`",
+            "call b 9": "b: no program of a list, and no file NAME.elf of a request `program`; a hash may be in its place",
+            f"call {'cd' * 32} 0": "0: gas is a number of 1 to 10000000",
+            "store": "the request is `store KEY [WORD..]`",
+            f"store key:b {'00' * 65}": f"{'00' * 65}: a value under rules 1 has at most 64 bytes, and this is 65",
+            "run": "run: `block` begins a block",
         }.items():
             with self.subTest(line):
                 status, output, faults = called_with(f"{line}\nget key:bob\n", "session")
@@ -194,10 +224,13 @@ class OfTypedLines(WithChain):
         with Session(self.program) as session:
             client = Client(session, View())
             list(client.dump())
+            client.take_list(Path(self.list))
             completion = Completion(client)
             for before, word, wanted in (
                 ("", "p", ["program ", "programs"]),
                 ("get ", "key:", ["key:alice", "key:bob"]),
+                ("call ", "a", ["a "]),
+                ("call a ", "a", []),
                 ("state ", "", []),
                 ("what ", "", []),
                 ("program ", f"{self.folder}/", [f"{self.folder}/{name}" for name in ("a.elf", "a.list", "b.elf", "log", "program")]),

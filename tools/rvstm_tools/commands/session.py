@@ -34,7 +34,8 @@ On a terminal the tab key completes requests, files and keys, and the arrow keys
 --replay sends the frames of FOLDER again: its files {', '.join('NAME' + ending for ending in ('.frame', '.block', '.list'))}, in the order of their names, after
 its programs NAME.elf. The digest after each is compared with that in NAME.frame.digest. The first one that differs ends the run.
 
-With --store the session is kept in a file, and continues from it: `rvstm-tools session --store FILE --state` reads it.
+With --store the session is kept in a file, and continues from it: `rvstm-tools session --store FILE --state` reads it. With
+--shapes LIST its values are shown by their fields, and typed calls name the programs of LIST.
 Without it the session is in memory, and ends with this command. A FILE belongs to the settings that it was made with.
 
 The status is 0 if all is done, 1 if a request is refused or a digest differs, and 2 for a wrong command line."""
@@ -83,6 +84,8 @@ def run(given: argparse.Namespace) -> int:
     program = finding.chosen(options.program_choice(given), "session")
     with Session(program.path, settings_of(given)) as session:
         client = Client(session, View())
+        for path in given.shapes:
+            client.take_list(path)
         status = answer_all(client, given)
         ended = session.end()
     if ended.status:
@@ -135,6 +138,8 @@ def answer_typed(client: Client) -> int:
             status = status if is_terminal else Status.FAILED
             if client.session.process.poll() is not None:
                 return Status.FAILED
+    if client.typed.size():
+        raise UserError("the last block was not run: `run` is missing")
     return status
 
 
@@ -160,6 +165,10 @@ COMMAND = Command(
             help="the whole storage; with OUT it is written there, as `begin` takes it",
         ),
         argument("--last", dest="asked", action="append_const", const=LAST, help="what the last frame was answered"),
+        argument(
+            "--shapes", action="append", type=Path, default=[], metavar="LIST",
+            help="shows keys and values by the words and shapes of a list, and runs nothing of it; it may be given again",
+        ),
         argument("--replay", type=Path, metavar="FOLDER", help="sends the frames of a folder again, and compares digests"),
         argument("--write", action="store_true", help="with --replay: writes the digests in place of comparing them"),
         argument("--store", metavar="FILE", help="the file that the session is kept in; without it the session is in memory"),

@@ -1,5 +1,6 @@
 """A session as people use it: frames by the paths of their files, keys by the words of lists, and answers as lines."""
 
+import re
 from collections.abc import Iterator
 from dataclasses import dataclass
 from pathlib import Path
@@ -8,6 +9,7 @@ from rvstm_tools import errors
 from rvstm_tools.errors import UserError
 from rvstm_tools.sessions import answers, frames, requests
 from rvstm_tools.sessions.answers import Answer, Done, State
+from rvstm_tools.sessions.blocks import TypedBlock
 from rvstm_tools.sessions.frames import Named
 from rvstm_tools.sessions.processes import Session
 from rvstm_tools.sessions.requests import Request, Word
@@ -15,6 +17,7 @@ from rvstm_tools.texts import lists, results, tables, words
 from rvstm_tools.texts.keys import KEY_LENGTH, Key
 from rvstm_tools.texts.views import View
 
+HASH = re.compile("[0-9a-f]{64}")
 LISTS = ".list"  # How the name of a list ends. Every other file of a frame is a block file.
 MOST_KEYS = 1024  # of one answer to `list`
 FIRST_KEY = Key(bytes(KEY_LENGTH))
@@ -46,6 +49,9 @@ class Client:
         self.session = session
         self.view = view
         self.keys: set[Key] = set()  # those that answers had so far
+        self.programs: dict[str, Path] = {}  # the files of programs by the names that calls give them
+        self.rules = 1  # the highest of the lists that were read
+        self.typed = TypedBlock(self)
 
     def answer(self, request: Request) -> Answer:
         """The answer to a request. A session that ended before it is an error, with what it said."""
@@ -77,10 +83,28 @@ class Client:
         file = FrameFile(path)
         named = file.read()
         if file.is_list:
-            add_view(self.view, lists.read_view(str(path)))
+            self.take_list(path)
         for program in named.programs():
             self.body(program)
         return self.receipts(self.body(Request(word, (), named.block)))
+
+    def take_list(self, path: Path) -> None:
+        """Keeps what a list says of keys and values, its programs and its rules. Nothing of it is run."""
+        add_view(self.view, lists.read_view(str(path)))
+        for line in lists.lines_of(str(path)):
+            match line.words:
+                case ["program", name, file]:
+                    self.programs[name] = path.parent / file
+                case ["rules", "2" | "3" as rules]:
+                    self.rules = max(self.rules, int(rules))
+
+    def program_of(self, name: str) -> str:
+        """The hash by which a frame names a program, which is handed in. `name` is that of a list or of a file, or the hash."""
+        if HASH.fullmatch(name):
+            return name
+        if name not in self.programs:
+            raise UserError(f"{name}: no program of a list, and no file NAME.elf of a request `program`; a hash may be in its place")
+        return self.body(Request(Word.PROGRAM, (), self.programs[name].read_bytes())).decode().strip()
 
     def receipts(self, body: bytes) -> Iterator[str]:
         items = list(results.items_of(body.decode("ascii", "backslashreplace").splitlines(keepends=True)))
@@ -124,7 +148,8 @@ class Client:
         return iter([f"      {line}" for line in self.body(Request(word)).decode().splitlines()] or [NONE])
 
     def program(self, path: Path) -> Iterator[str]:
-        return iter([f"      {self.body(Request(Word.PROGRAM, (), path.read_bytes())).decode().strip()}"])
+        self.programs[path.stem] = path
+        return iter([f"      {self.program_of(path.stem)}"])
 
     def forget(self, name: str) -> Iterator[str]:
         self.body(Request(Word.FORGET, (name.encode(),)))

@@ -1,7 +1,6 @@
 """Requests that somebody types: a line for each, with help, completion and a history."""
 
 import glob
-import re
 import readline
 from collections.abc import Callable, Iterable, Iterator, Sequence
 from dataclasses import dataclass
@@ -10,13 +9,12 @@ from typing import TextIO
 
 from rvstm_tools.errors import UserError
 from rvstm_tools.sessions import frames
-from rvstm_tools.sessions.clients import FIRST_KEY, MOST_KEYS, Client
+from rvstm_tools.sessions.clients import FIRST_KEY, HASH, MOST_KEYS, Client
 from rvstm_tools.sessions.requests import Word
 from rvstm_tools.texts import lists, numbers, views, words
 from rvstm_tools.texts.keys import Key
 
 PROMPT = "rvstm> "
-HASH = re.compile("[0-9a-f]{64}")
 HIGHEST = 9_999_999_999  # the greatest height
 NO_DIGEST = "0" * 64
 HELP, QUIT = "help", "q"
@@ -27,10 +25,10 @@ class Form:
     """A request that may be typed: its words, what it does, and how it is done."""
 
     word: str
-    arguments: str  # the names of the words after it; those in brackets may be left out
+    arguments: str  # the names of the words after it; those in brackets may be left out, and one with `..` may come again
     help: str
     run: Callable[[Client, Sequence[str]], Iterator[str]]
-    completes: str = ""  # what the words after it are: `file`, `key`, or nothing
+    completes: str = ""  # what the words after it are: `file`, `key`, `name` of a program, or nothing
 
     @property
     def text(self) -> str:
@@ -39,7 +37,7 @@ class Form:
     def check(self, given: Sequence[str]) -> None:
         names = self.arguments.split()
         least = sum(not name.startswith("[") for name in names)
-        if not least <= len(given) <= len(names):
+        if len(given) < least or len(given) > len(names) and not self.arguments.endswith("..]"):
             raise UserError(f"the request is `{self.text}`")
 
 
@@ -74,6 +72,11 @@ FORMS = (
          lambda client, given: client.run(Word.FRAME, path_of(given[0])), "file"),
     Form("try", "FILE", "the same, and keeps nothing of it but the programs",
          lambda client, given: client.run(Word.TRY, path_of(given[0])), "file"),
+    Form("call", "NAME GAS [WORD..]", "runs a block of this call, as a list has it; NAME is that of a program of a list or of a file",
+         lambda client, given: client.typed.call(given), "name"),
+    Form("store", "KEY [WORD..]", "runs a block that gives the key this value", lambda client, given: client.typed.store(given), "key"),
+    Form("block", "", "begins a block of the calls and keys that follow", lambda client, given: client.typed.begin()),
+    Form("run", "", "runs it", lambda client, given: client.typed.run()),
     Form("last", "", "what the last frame was answered", lambda client, given: client.last()),
     Form("get", "KEY", "the value at a key, such as key:alice, row:acct:key:alice or bytes in hex",
          lambda client, given: client.get(client.key_of(given[0])), "key"),
@@ -83,9 +86,9 @@ FORMS = (
     Form("begin", "FILE [HEIGHT] [DIGEST]", "puts the storage of a dump in place of this one, with the height and digest of its session",
          run_begin, "file"),
     Form("state", "", "rules, height, keys, programs, settings and digest", lambda client, given: client.lines(Word.STATE)),
-    Form("program", "FILE", "sends a program, and prints its name", lambda client, given: client.program(path_of(given[0])), "file"),
-    Form("programs", "", "the names of all programs", lambda client, given: client.lines(Word.PROGRAMS)),
-    Form("forget", "PROGRAM", "frees a program, by its name or its file", run_forget, "file"),
+    Form("program", "FILE", "sends a program, and prints its hash; calls name NAME.elf by NAME", lambda client, given: client.program(path_of(given[0])), "file"),
+    Form("programs", "", "the hashes of all programs", lambda client, given: client.lines(Word.PROGRAMS)),
+    Form("forget", "PROGRAM", "frees a program, by its hash or its file", run_forget, "file"),
 )
 """The requests, in the order of the help. `help` and `q` are beside them."""
 BY_WORD = {form.word: form for form in FORMS}
@@ -129,6 +132,8 @@ class Completion:
         kind = BY_WORD[given[0]].completes if given[0] in BY_WORD else ""
         if kind == "file":
             return [f"{path}/" if Path(path).is_dir() else path for path in sorted(glob.glob(f"{glob.escape(word)}*"))]
+        if kind == "name":
+            return sorted(f"{name} " for name in self.client.programs if name.startswith(word) and len(given) == 1)
         if kind == "key":
             named = {self.word_of(key) for key in self.client.keys} | set(self.client.view.names.values())
             return sorted(name for name in named if name.startswith(word))
