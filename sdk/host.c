@@ -185,9 +185,13 @@ static void run(const u8 *input, u32 length) {
 struct result call_contract(const void *input, u32 length) {
     static struct entry entries_before[STORAGE_LIMIT];
     u32 count_before = entry_count;
-    u8 *copy = malloc(length);
-    if (length > INPUT_LIMIT || (copy == NULL && length > 0)) {
+    u8 *copy;
+    if (length > INPUT_LIMIT) {
         fail_test("the input is too long");
+    }
+    copy = malloc(length);
+    if (copy == NULL && length > 0) {
+        fail_test("no memory is left for the input");
     }
     copy_bytes(copy, input, length);
     for (u32 at = 0; at < entry_count; at++) {

@@ -20,7 +20,7 @@ MAKEFILE, HEADER = TOP / "sdk/Makefile", TOP / "sdk/contract.h"
 
 WRITES = """#include "numbers.h"
 
-/* Writes so many keys, and reverts if a byte more is given. */
+/* Writes so many keys. If a byte more is given, it reverts with all that follow. */
 void contract(const u8 *input, u32 length) {
     u8 key[KEY_LENGTH] = {0};
     for (u32 number = length == 0 ? 0 : read_u32(input); number > 0; number--) {
@@ -28,15 +28,27 @@ void contract(const u8 *input, u32 length) {
         storage_write(key, key, 4);
     }
     if (length > 4) {
-        REVERT("");
+        revert(input + 5, length - 5);
     }
 }
 """
 EDGES = """#include "host.h"
 #include "numbers.h"
 
+static u8 longest[INPUT_LIMIT + 1] = {0, 0, 0, 0, 0, 7, 7, 7, 7, 7, 7, 7, 7};
+
 int main(int count, char **words) {
     u8 key[KEY_LENGTH] = {0};
+    if (words[count - 1][0] == 's') {
+        for (u32 length = 1; length <= 8; length++) {
+            check("shown", has_reverted(call_contract(longest, 5 + length), ""));
+        }
+        return report_checks();
+    }
+    check("the longest input", call_contract(longest, INPUT_LIMIT).ending == BAD_LENGTH);
+    if (words[count - 1][0] == 'l') {
+        call_contract(longest, INPUT_LIMIT + 1);
+    }
     check("no output", has_returned(call_contract(0, 0), 0, 0));
     check("no text", !has_reverted(call_contract(0, 0), ""));
     check("a call that reverts", has_reverted(call_contract("\\1\\0\\0\\0", 5), ""));
@@ -67,9 +79,13 @@ def edges(run: Run) -> None:
     written(run.place / "edges.c", WRITES)
     written(run.place / "edges-test.c", EDGES)
     command(["make", "-s", "-f", MAKEFILE, "CC=cc", "edges-test"], run.place).done()
+    command([run.place / "edges-test", "long"]).refused("host.c: the input is too long", 2)
+    numbers = {1: "  7", 2: "  1799", 4: "  117901063", 8: "  506381209866536711"}  # 7 in each byte
+    shown = [f"    came    reverted  {'07' * length}{numbers.get(length, '')}" for length in range(1, 9)]
+    same(command([run.place / "edges-test", "shown"]).out.splitlines()[2::3], shown)
     for rules in range(8):
         done = command([run.place / "edges-test", str(rules)])
-        wanted = ("8 passed, 0 failed\n", "host.c: the storage is full: it has at most 1024 keys, also removed ones\n")
+        wanted = ("9 passed, 0 failed\n", "host.c: the storage is full: it has at most 1024 keys, also removed ones\n")
         if rules not in (1, 2, 3):
             wanted = ("", f"host.c: set_rules({rules}): the rules are 1, 2 or 3\n")
         same((done.status, done.out, done.errors), (2, *wanted), f"set_rules({rules})")

@@ -105,7 +105,7 @@ static void bytes(const u8 *how, const u8 *from) {
 
 static void rows(const u8 *how, const u8 *from) {
     static const struct key constants[] = {TEXT_KEY(T, "a"), NUMBER_KEY(T, 0xfedcba9876543210)};
-    struct key keys[3] = {constants[0], constants[1]};
+    struct key keys[3] = {constants[0], constants[1], {{~0u, ~0u, ~0u, ~0u, ~0u, ~0u, ~0u, ~0u}}};
     ROW_KEY_OF(&keys[2], T, from + how[2], how[1]);
     return_output(keys, sizeof keys);
 }

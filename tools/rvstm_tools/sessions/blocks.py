@@ -53,12 +53,12 @@ class TypedBlock:
         return reader
 
     def _take(self, kind: str, given: Sequence[str]) -> Iterator[str]:
+        self.client.view.take_names(given)
         errors.warn("session", self.client.view.doubts(given))
         reader = self.reader or self._new()
         if kind == "call" and given[0] not in reader.block.programs:
             reader.take(Line("", 0, ["program", given[0], self.client.program_of(given[0])]))
         reader.take(Line("", 0, [kind, *given]))
-        self.client.view.take_names(given)
         return iter(()) if self.reader else self._sent(reader)
 
     def _sent(self, reader: BlockReader) -> Iterator[str]:
