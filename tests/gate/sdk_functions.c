@@ -1,5 +1,5 @@
 /* A contract for each function of the SDK: the input's first byte is the number of the function, three more say how, and what it is given
-   follows. tests/gate/sdk.py says what has to come. Compiled for this machine too, where names of C's library are those of the SDK. */
+   follows. tests/gate/sdk_functions.py says what has to come. Compiled for this machine too, where names of C's library are those of the SDK. */
 
 #include "rows.h"
 #include "sha256.h"

@@ -1,4 +1,4 @@
-//! The functions of the SDK in Rust, by the same inputs as sdk_functions.c, as far as Rust has them. tests/gate/sdk.py says what has to come.
+//! The functions of the SDK in Rust, by the same inputs as sdk_functions.c, as far as Rust has them. tests/gate/sdk_functions.py says what has to come.
 //! On this machine it reads lines RULES INPUT, the latter in hex, and prints the end and the output of each call.
 
 #![cfg_attr(target_arch = "riscv32", no_std, no_main)]
