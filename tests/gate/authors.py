@@ -5,19 +5,27 @@ import re
 import struct
 import time
 from functools import partial
+from pathlib import Path
 
 from gate.calls import command, tool
 from gate.cases import TOP, Case, Lacks, Run, holds, same
 from gate.machine import CONTRACTS, Tool
+from gate.texts import written
 
 SECTION_SIZE, SYMBOL_SIZE = 40, 16  # bytes, of a header and of a row in an ELF file of 32 bits
 SECONDS_TO_REFUSE = 20
+PASSED = "1 test: 1 passed, 0 failed; 4 calls, 12 expectations, 0 not met"
 NO_LIBRARIES = "Rust has no libraries for "
 BUGS = {
     "votes.c": ("__builtin_add_overflow(amount_at(account), amount, &sum)", "(sum = amount_at(account) + amount, 0)"),
     "src/main.rs": ("amount_at(account)?.checked_add(amount)", "Some(amount_at(account)?.wrapping_add(amount))"),
 }
 """Of each source what is put in place of what: an amount wraps."""
+
+
+PARTS = {"votes.c": ("#include", "parts.h", '#include "parts.h"\n'), "src/main.rs": ("use contract", "src/parts.rs", 'include!("parts.rs");\n')}
+"""Of each source before which text it is cut, the file that has the rest then, and the line that takes it in."""
+SECOND = {"votes.c": "second.c", "src/main.rs": "src/bin/second.rs"}
 
 
 def new_contract(run: Run, source: str, options: tuple[str, ...] = ()) -> None:
@@ -27,20 +35,41 @@ def new_contract(run: Run, source: str, options: tuple[str, ...] = ()) -> None:
     if made.status and (NO_LIBRARIES in made.errors or " not found; " in made.errors):
         raise Lacks("Rust for the machine of contracts")
     same(made.done().splitlines()[-1], f"built {folder}/votes.elf; `make` in {folder} builds it again and runs its test")
-    passed = command(["make", "-s"], folder, more={"RVSTM": str(run.program)}).done()
-    same(passed.splitlines()[-1], "1 test: 1 passed, 0 failed; 4 calls, 12 expectations, 0 not met")
+    more = {"RVSTM": str(run.program), "EXPLORE": "--seed 1 --calls 100"}
+    same(command(["make", "-s"], folder, more=more).done().splitlines()[-1], PASSED)
+    made_again(folder, source, more)
     covered = tool(run, "coverage", "votes.list", folder=folder).done()
     holds(bool(re.search(rf"^{source}: lines \d+ of \d+", covered, re.M)), covered, f"lines of {source}")
-    explore = ("explore", "votes.explore", "--calls", "100")
-    same(tool(run, *explore, folder=folder).done().splitlines()[-1], "nothing is broken")
+    same(command(["make", "-s", "ci"], folder, more=more).done().splitlines()[-1], "nothing is broken")
+    holds('tests="2" failures="0"' in (folder / "tests.xml").read_text(encoding="utf-8"), "tests.xml", "two tests")
     text = (folder / source).read_text(encoding="utf-8")
     right, wrong = BUGS[source]
     same(text.count(right), 1, right)
     (folder / source).write_text(text.replace(right, wrong), encoding="utf-8")
-    command(["make", "-s", "votes.elf"], folder).done()
-    broken = tool(run, *explore, folder=folder)
-    same(broken.status, 1, "explore with a bug")
-    holds("line 10: returned number(output)" in broken.out, broken.out, "the line that is broken")
+    broken = command(["make", "-s", "ci"], folder, more=more)
+    same(broken.status, 2, "make ci with a bug")
+    holds("line 11: returned number(output)" in broken.out, broken.out, "the line that is broken")
+
+
+def made_again(folder: Path, source: str, more: dict[str, str]) -> None:
+    """`make` fails at once if only a file that the source takes in has a bug; and it builds and tests a second contract."""
+    path, text = folder / source, (folder / source).read_text(encoding="utf-8")
+    begin, parts, line = PARTS[source]
+    head, _, rest = text.partition(begin)
+    path.write_text(head + line, encoding="utf-8")
+    written(folder / parts, begin + rest)
+    same(command(["make", "-s"], folder, more=more).done().splitlines()[-1], PASSED)
+    written(folder / parts, (begin + rest).replace("unknown request", "no request"))
+    failed = command(["make", "-s"], folder, more=more)
+    same((failed.status, failed.out.splitlines()[-1]), (2, "1 test: 0 passed, 1 failed; 4 calls, 12 expectations, 1 not met"))
+    path.write_text(text, encoding="utf-8")
+    second = folder / SECOND[source]
+    second.parent.mkdir(exist_ok=True)
+    written(second, text)
+    votes = (folder / "votes.list").read_text(encoding="utf-8")
+    written(folder / "second.list", votes.replace("program votes votes.elf", "program votes second.elf"))
+    both = command(["make", "-s"], folder, more=more).done().splitlines()
+    same(both[-1], "2 tests: 2 passed, 0 failed; 8 calls, 24 expectations, 0 not met")
 
 
 def with_symbol(program: bytes, name: bytes, header_size: int = SECTION_SIZE, sections: int = 4) -> bytes:

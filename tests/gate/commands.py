@@ -344,7 +344,7 @@ def new(run: Run) -> None:
     ended = tool(run, "new", "votes", folder=run.place)
     holds(ended.status == 0 or "votes is made, and not built: " in ended.errors, ended.errors, "a folder that is built")
     made = sorted(path.name for path in (run.place / "votes").iterdir() if path.suffix != ".elf")
-    same(made, [".gitignore", "Makefile", "README.md", "votes.c", "votes.explore", "votes.list"])
+    same(made, [".github", ".gitignore", "Makefile", "README.md", "compile_flags.txt", "votes.c", "votes.explore", "votes.list"])
 
 
 def session(run: Run) -> None:

@@ -14,9 +14,10 @@ from rvstm_tools.programs.finding import Home
 from tests.helpers import InFolder, called
 
 TOP = Path(__file__).resolve().parents[2]
+OF_ALL = (".github/workflows/ci.yml", ".gitignore", "Makefile", "README.md", "votes.explore", "votes.list")
 FILES = {
-    "": {".gitignore", "Makefile", "README.md", "votes.c", "votes.explore", "votes.list"},
-    "--rust": {".cargo/config.toml", ".gitignore", "Cargo.toml", "Makefile", "README.md", "src/main.rs", "votes.explore", "votes.list"},
+    "": {*OF_ALL, "votes.c", "compile_flags.txt"},
+    "--rust": {*OF_ALL, ".cargo/config.toml", "Cargo.toml", "src/main.rs"},
 }
 PROGRAMS = ("make", "clang", "ld.lld", "llvm-addr2line", "llvm-strip", "cargo", "rustc")
 MAKE = "#!/bin/sh\nfor made; do case $made in *.elf) echo built >$made ;; esac; done\n"
@@ -66,8 +67,7 @@ class New(InFolder):
         self.made(str(self.folder / "votes"))
         lines = (self.folder / "votes/Makefile").read_text(encoding="utf-8").splitlines()
         self.assertEqual(lines[0], f"SDK ?= {TOP}/sdk")
-        self.assertEqual(lines[1], "test: votes.elf votes.lines.elf ; rvstm-tools test .")
-        self.assertEqual(len(lines), 3)
+        self.assertEqual(lines[1], "RVSTM_TOOLS ?= rvstm-tools")
         self.assertIn("program votes votes.elf\n", (self.folder / "votes/votes.list").read_text(encoding="utf-8"))
 
     def test_an_empty_folder_may_be_there(self) -> None:

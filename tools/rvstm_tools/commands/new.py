@@ -20,9 +20,13 @@ FOLDER are then
     NAME.c or src/main.rs     the contract
     NAME.list                 a test of it, for `rvstm-tools test` and `rvstm-tools coverage`
     NAME.explore              a description of random calls, for `rvstm-tools explore`
-    Makefile                  `make` builds the contract and runs the test
+    Makefile                  `make` builds the contract and runs the test, `make ci` also makes random calls
+    .github                   what GitHub runs on each push: `make ci`
     README.md                 these commands
+    compile_flags.txt         the compiler's flags, by which editors find the headers of the SDK; only for C
     Cargo.toml, .cargo        with --rust
+
+A second contract is a second file NAME.c, or src/bin/NAME.rs: `make` builds it, too. Its calls follow rules 3.
 
 The contract is built at once, as NAME.elf, and as NAME.lines.elf with its lines of source. If a compiler is missing, FOLDER is
 made all the same, and the message says which of Debian's packages to install.
@@ -63,7 +67,7 @@ def make_files(folder: Path, files: dict[str, str]) -> None:
         raise UserError(f"{folder}: it is there, and is not empty")
     for name, text in files.items():
         path = folder / name
-        path.parent.mkdir(exist_ok=True)
+        path.parent.mkdir(parents=True, exist_ok=True)
         path.write_text(text, encoding="utf-8")
     print(f"{folder}: {', '.join(files)}")
 

@@ -20,11 +20,11 @@ class Language(enum.Enum):
 
 
 OF_ALL = {"contract.list": "{name}.list", "contract.explore": "{name}.explore"}
+OF_BOTH = {"Makefile": "Makefile", "README.md": "README.md", "gitignore": ".gitignore", "ci.yml": ".github/workflows/ci.yml"}
 OF_LANGUAGE = {
-    Language.C: {"contract.c": "{name}.c", "Makefile": "Makefile", "README.md": "README.md", "gitignore": ".gitignore"},
+    Language.C: {"contract.c": "{name}.c", "compile_flags.txt": "compile_flags.txt", **OF_BOTH},
     Language.RUST: {
-        "main.rs": "src/main.rs", "Cargo.toml": "Cargo.toml", "cargo-config.toml": ".cargo/config.toml", "Makefile": "Makefile",
-        "README.md": "README.md", "gitignore": ".gitignore",
+        "main.rs": "src/main.rs", "Cargo.toml": "Cargo.toml", "cargo-config.toml": ".cargo/config.toml", **OF_BOTH,
     },
 }
 """The files of a template, and their paths in the folder that is made."""

@@ -77,7 +77,7 @@ mod tests {
 
     #[test]
     fn mints() {
-        let (mut ledger, alice) = (Ledger::new(1), [1; 20]);
+        let (mut ledger, alice) = (Ledger::new(3), [1; 20]);
         let ending = ledger.call(answer, &mint_of(&alice, 100));
         assert!(ending.has_returned(100u64.to_le_bytes()));
         let ending = ledger.call(answer, &mint_of(&alice, u64::MAX));
