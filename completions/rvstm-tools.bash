@@ -10,7 +10,7 @@ _rvstm_tools() {
     conflicts) options="--help --program --preview --list --svg" ;;
     coverage) options="--help --program --preview --lcov --sdk" ;;
     example) options="--help" ;;
-    explore) options="--help --program --preview --seed --jobs --calls --seconds --length --out --folder --replace" ;;
+    explore) options="--help --program --preview --seed --jobs --calls --seconds --length --strict --out --folder --replace" ;;
     gdb) options="--help --program --preview --call --list" ;;
     library) options="--help" ;;
     new) options="--help --rust" ;;

@@ -35,12 +35,14 @@ def new_contract(run: Run, source: str, options: tuple[str, ...] = ()) -> None:
     if made.status and (NO_LIBRARIES in made.errors or " not found; " in made.errors):
         raise Lacks("Rust for the machine of contracts")
     same(made.done().splitlines()[-1], f"built {folder}/votes.elf; `make` in {folder} builds it again and runs its test")
-    more = {"RVSTM": str(run.program), "EXPLORE": "--seed 1 --calls 100"}
+    more = {"RVSTM": str(run.program), "EXPLORE": "--seed 1 --strict --calls 100"}
     same(command(["make", "-s"], folder, more=more).done().splitlines()[-1], PASSED)
     made_again(folder, source, more)
     covered = tool(run, "coverage", "votes.list", folder=folder).done()
     holds(bool(re.search(rf"^{source}: lines \d+ of \d+", covered, re.M)), covered, f"lines of {source}")
-    same(command(["make", "-s", "ci"], folder, more=more).done().splitlines()[-1], "nothing is broken")
+    explored = command(["make", "-s", "ci"], folder, more=more).done()
+    same(explored.splitlines()[-1], "nothing is broken")
+    holds(bool(re.search(rf"^{source}: lines \d+ of \d+.*\n +not ", explored, re.M)), explored, "branches that no call reached")
     holds('tests="2" failures="0"' in (folder / "tests.xml").read_text(encoding="utf-8"), "tests.xml", "two tests")
     text = (folder / source).read_text(encoding="utf-8")
     right, wrong = BUGS[source]

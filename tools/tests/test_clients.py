@@ -5,6 +5,7 @@ import io
 import os
 import re
 import sys
+import re
 import unittest
 from pathlib import Path
 from unittest import mock
@@ -244,9 +245,21 @@ class OfReplays(WithChain):
         super().setUp()
         self.frames = self.folder / "frames"
         self.frames.mkdir()
+        self.at_height(0)
         self.write("frames/c.elf", b"other")
         self.write("frames/1.frame", "rvblock 1\n")
         self.write("frames/2.block", "rvblock 1\nrefuse\n")
+
+    def at_height(self, height: int) -> None:
+        text = self.program.read_text(encoding="utf-8")
+        self.program.write_text(re.sub(r"height \d+", f"height {height}", text), encoding="utf-8")
+
+    def test_a_session_that_has_frames(self) -> None:
+        """It is refused before a program or a frame is sent."""
+        self.at_height(7)
+        message = "session: the session is at height 7: a replay begins a new one\n"
+        self.assertEqual(called("session", "--replay", str(self.frames), "--write"), (1, "", message))
+        self.assertEqual(self.logged(), ["chain --digest", "state"])
 
     def test_digests_are_written_and_compared(self) -> None:
         status, output, faults = called("session", "--replay", str(self.frames), "--write")
@@ -254,7 +267,7 @@ class OfReplays(WithChain):
         self.assertEqual((status, output, faults), (0, wanted, ""))
         self.assertEqual((self.frames / "2.block.digest").read_text(encoding="utf-8"), f"{DIGEST}\n")
         self.assertEqual(called("session", "--replay", str(self.frames)), (0, output, ""))
-        self.assertEqual(self.logged()[:4], ["chain --digest", "program 5", "other", "frame 10"])
+        self.assertEqual(self.logged()[:5], ["chain --digest", "state", "program 5", "other", "frame 10"])
 
     def test_messages(self) -> None:
         called("session", "--replay", str(self.frames), "--write")

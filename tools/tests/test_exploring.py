@@ -14,6 +14,7 @@ from unittest import mock
 from rvstm_tools import errors
 from rvstm_tools.errors import UserError
 from rvstm_tools.exploring import expressions, foundlists, runs, saved, shortening, storages
+from rvstm_tools.exploring.comparing import Data, MistakeError, Name
 from rvstm_tools.exploring.descriptions import Description
 from rvstm_tools.exploring.expressions import Raised, Rule
 from rvstm_tools.exploring.places import AnyBytes, DrawnBytes, Numbers, Span, Words
@@ -259,7 +260,29 @@ class OfStorage(unittest.TestCase):
                 fields(key)
             self.assertEqual(str(caught.exception), message)
 
+    def test_names_and_other_bytes_are_compared_with_texts(self) -> None:
+        """A name equals its words. What never equals a text is a mistake, in place of an answer."""
+        account, key = Name(b"bob".ljust(20, b"\0")), Name(A)
+        for name, texts in {account: ("bob", "account:bob", account.hex()), key: ("a", "key:a", A.hex(), "hex:61")}.items():
+            for text in texts:
+                self.assertTrue(name == text and text == name and not name != text and name in ["c", text], text)
+            self.assertTrue(name != "c" and name == bytes(name) and hash(name) == hash(bytes(name)))
+        for data, text, message in (
+            (account, "key:bob", "the account is compared with 'key:bob', which has 32 bytes in place of 20"),
+            (account, "7", "the account is compared with '7': account:7: an account has a name, and this is a number"),
+            (account, "", "the account is compared with '': account:: no name follows it"),
+            (key, "k" * 33, f"the key is compared with '{'k' * 33}': key:{'k' * 33}: a key has at most 32 bytes, and this is 33"),
+            (Data(b"no")[:1], "n", "1 bytes are compared with the text 'n', which they never equal"),
+        ):
+            with self.subTest(text), self.assertRaises(MistakeError) as caught:
+                self.assertFalse(data == text)
+            self.assertEqual(str(caught.exception), message)
+
     def test_changes_that_are_shown(self) -> None:
+        old, new = (storages.Fields(buyer=Name(b"bob".ljust(20, b"\0")), note="x" * 200, state=state) for state in (1, 2))
+        (line,) = storages.change_lines("deals", {"one": old}, {"one": new})
+        self.assertTrue(line.startswith("deals['one'].state: 1 -> 2  (buyer bob, note"), line)
+        self.assertEqual(list(storages.change_lines("n", b"\1" * 99, None)), [f"n: {'01' * 99} -> None"])
         self.assertEqual(list(storages.change_lines("n", 1, 2)), ["n: 1 -> 2"])
         self.assertEqual(list(storages.change_lines("n", 1, 1)), [])
         self.assertEqual(list(storages.change_lines("n", {"a": b"\1", "b": 1}, {"a": b"\2", "c": 3})),
@@ -407,6 +430,24 @@ class OfRuns(Explored):
         self.assertIn("program echo echo.elf\n", text)
         self.assertIn("call echo 100 u8:7\nexpect returned 07\n", text)
 
+    def test_calls_that_never_return(self) -> None:
+        """They are reported. If no call returned, nothing was tried."""
+        reverted = mock.patch.object(Chain, "receipt", lambda _, number, data: REVERTED.format(number))
+        with reverted:
+            self.assertEqual(self.explored("")[1][-2:], ["line 3 never returned", "nothing is broken, but no call returned"])
+            self.assertEqual(self.explored("")[0], 1)
+        self.use(Bank)
+        both = "call echo 100 01 u8:{some}\nmay-end out-of-gas\ncall echo 100 01 u8:{more=some}"
+        for options, wanted in {(): 0, ("--strict",): 1}.items():
+            with mock.patch.object(Bank, "receipt", lambda _, number, data: RETURNED.format(number, data) if len(data) == 2 else REVERTED.format(number)):
+                status, lines = self.explored(both, *options)
+            self.assertEqual((status, lines[-3:]), (wanted, ["line 4 never returned", "line 6 never returned", "nothing is broken"]))
+
+    def test_bytes_and_a_text(self) -> None:
+        status, _, faults = called("explore", "--program", str(self.program), self.write("a.explore", f"{CALL}returned output != 'bob'\n"))
+        self.assertEqual((status, faults.replace(f"{self.folder}/", "")), (2, "explore: a.explore, line 6: 1 bytes are compared with the text "
+                         "'bob', which they never equal\n"))
+
     def test_one_seed_makes_the_same_calls(self) -> None:
         one, other = self.explored("returned some < 190"), self.explored("returned some < 190")
         self.assertEqual([line for line in one[1] if " s" not in line], [line for line in other[1] if " s" not in line])
@@ -449,8 +490,9 @@ done
 
     def test_answers(self) -> None:
         status, output, faults = self.explored(self.SESSION, "--calls", "7", "--length", "1")
+        unknown = f"which branches no call reached is not known: {self.folder}/echo.elf: not an ELF file of 32 bits, or only a part of one"
         self.assertEqual((status, output.splitlines()[1:], faults), (0, [
-            "  line 5: call echo 100 u8:{some}", "            7  returned", "nothing is broken"], ""))
+            "  line 5: call echo 100 u8:{some}", "            7  returned", unknown, "nothing is broken"], ""))
 
     def test_a_refused_program(self) -> None:
         refused = "#!/bin/sh\nwhile read line; do echo refused elf BadMagic 2; done\n"

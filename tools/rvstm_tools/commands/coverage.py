@@ -48,8 +48,7 @@ def run(given: argparse.Namespace) -> int:
     inputs = counts_of_inputs(given.lists)
     for path, steps in programs.items():
         coverage.add_program(covered, path, steps)
-    sdk = os.path.realpath(finding.home().top / "sdk") + os.sep
-    shown = {path: covered[path] for path in sorted(covered) if given.sdk or not path.startswith(sdk)}
+    shown = {path: covered[path] for path in sorted(covered) if given.sdk or not path.startswith(finding.sdk_prefix())}
     print(f"{inputs.total():,} calls, {sum(steps.total for steps in programs.values()):,} steps")
     if any(inputs):
         print(f"inputs: {', '.join(f'{name} {count:,}' for name, count in inputs.items() if name)}; others {inputs['']:,}")

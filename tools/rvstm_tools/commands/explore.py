@@ -45,7 +45,9 @@ An expression is one of Python, and has these names:
     value(KEY)                the bytes at a key, None if it has none; KEY is a word of a list or 32 bytes
     u8(KEY) .. u64(KEY)       the number at a key, 0 if it has none; i8(KEY) .. i64(KEY) the same with a sign
     fields(KEY)               the fields of the value at a key that its line `shape` names, as in fields("row:acct:key:bob").balance:
-                              numbers, texts or bytes; None if it has none
+                              numbers, texts or bytes; None if it has none. A field that is an account or a key equals the word
+                              that says it, as in fields("row:deal:one").buyer != caller. To compare other bytes with a text is
+                              an error: write number(output), or b"text"
     keys()                    all keys, ascending
     every.NAME                the words that may be in {NAME}
     before.value(KEY), before.u64(KEY), before.fields(KEY), before.NAME    the same before the call, and a name of `let`
@@ -87,8 +89,12 @@ written to --out. Its lines `expect` say what came, so `rvstm-tools test` accept
 With --folder a later run continues after the sequences that were made. It first tries what was found before, and begins again if
 a program has changed.
 
-The status is 0 if nothing is broken, 1 if something is, 2 if the description, the model or the command line is wrong, and 130 if
-it was interrupted before anything was broken."""
+A line `call` of which no call returned is reported; with --strict the status is 1 then. If no call returned at all, it is 1
+without it. If NAME.lines.elf is beside each program NAME.elf, it prints the lines and branches that no call reached, as
+`rvstm-tools coverage` does: of the calls of a line that end at one instruction with one gas, one is replayed.
+
+The status is 0 if nothing is broken, 1 if something is or nothing was tried, 2 if the description, the model or the command line is
+wrong, and 130 if it was interrupted before anything was broken."""
 
 
 def limits_of(given: argparse.Namespace) -> Limits:
@@ -101,7 +107,7 @@ def plan_of(given: argparse.Namespace) -> Plan:
     description = Description(given.file)
     description.replace(given.replace)
     folder = None if given.folder is None else Folder(given.folder, description)
-    return Plan(program.path, description, limits_of(given), given.jobs, given.out, folder)
+    return Plan(program.path, description, limits_of(given), given.jobs, given.out, folder, given.strict)
 
 
 def run(given: argparse.Namespace) -> int:
@@ -128,6 +134,7 @@ COMMAND = Command(
             help=f"how long calls are made at most, and how long a finding is shortened at most ({SECONDS_TO_SHORTEN:.0f})",
         ),
         argument("--length", type=options.count, default=LENGTH, metavar="N", help=f"of a sequence, in calls ({LENGTH})"),
+        argument("--strict", action="store_true", help="the status is 1 if a line `call` never returned"),
         argument("--out", type=options.new_file, metavar="LIST", help="a file for the list"),
         argument(
             "--folder", type=Path, metavar="FOLDER",

@@ -26,6 +26,7 @@ class Plan:
     jobs: int  # how many processes search
     out: Path | None  # the file for the list of the finding
     folder: Folder | None
+    is_strict: bool  # whether a line `call` that never returned is a failure
 
 
 class Exploration:
@@ -55,7 +56,7 @@ class Exploration:
 
     def _search(self) -> Status:
         """Searches, and prints what came of it. If it is interrupted, that is what came so far."""
-        search = Search(self.limits, self.progress.of_search if self.progress.is_shown else None)
+        search = Search(self.limits, self.progress.of_search)
         is_interrupted = False
         try:
             search.search(self.plan.rvstm, self.description, self.plan.jobs)
@@ -68,12 +69,17 @@ class Exploration:
         for line in foundlists.count_lines(self.description, search):
             print(line)
         if search.found:
+            self.progress.end_replays()
             return self._report(search.found)
+        never = foundlists.never_returned(self.description, search)
+        is_nothing_tried = len(never) == len(self.description.kinds)
+        lines = [*self.progress.reached_lines(search.seconds), *(f"line {line} never returned" for line in never)]
+        for line in lines:
+            print(line)
+        print("nothing is broken" + " so far" * is_interrupted + ", but no call returned" * is_nothing_tried)
         if is_interrupted:
-            print("nothing is broken so far")
             raise KeyboardInterrupt
-        print("nothing is broken")
-        return Status.DONE
+        return Status.FAILED if is_nothing_tried or never and self.plan.is_strict else Status.DONE
 
     def _report(self, found: Found) -> Status:
         made, at = self.limits.place_of(found.sequence, found.broken.at), found.broken.at

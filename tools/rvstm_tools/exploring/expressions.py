@@ -9,6 +9,7 @@ from types import CodeType
 from typing import NamedTuple
 
 from rvstm_tools.errors import UserError
+from rvstm_tools.exploring.comparing import MistakeError
 
 NUMBERS = ("u8", "u16", "u32", "u64", "i8", "i16", "i32", "i64")
 OF_STORAGE = frozenset({"value", "fields", "keys", "every", "before", "number", "sha256", *NUMBERS})
@@ -81,6 +82,8 @@ def evaluated(rule: Rule, names: Names) -> object | Raised:
     """The value of an expression, or what it raised."""
     try:
         value: object = eval(rule.code, names)  # whatever the author of the description wrote
+    except MistakeError as error:
+        raise MistakeError(f"{rule.code.co_filename}, line {rule.line}: {error}") from error
     except Exception as error:
         return Raised(f"{type(error).__name__}: {error}")
     return value

@@ -68,7 +68,13 @@ def list_lines(description: Description, view: View, finding: Finding, limits: L
     for call, outcome in zip(finding.calls, finding.outcomes, strict=True):
         meaning = view.input(call.kind.data(call.values))
         yield from ["", *([f"# {meaning}"] if meaning else []), call.words(), *expect_lines(outcome, view)]
-    yield from [f"# {differences.cut(change)}" for change in finding.broken.changes]
+    yield from [f"# {change}" for change in finding.broken.changes]
+
+
+def never_returned(description: Description, search: Search) -> list[int]:
+    """The lines `call` of which no call returned."""
+    returned = {of.line for of in search.counts if of.end is End.RETURNED}
+    return [kind.line for kind in description.kinds if kind.line not in returned]
 
 
 def count_lines(description: Description, search: Search) -> Iterator[str]:

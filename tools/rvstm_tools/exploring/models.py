@@ -14,6 +14,7 @@ from types import ModuleType, SimpleNamespace
 
 from rvstm_tools.errors import UserError
 from rvstm_tools.exploring import storages
+from rvstm_tools.exploring.comparing import MistakeError
 from rvstm_tools.exploring.places import Value
 from rvstm_tools.exploring.storages import OtherLengthError
 from rvstm_tools.texts import words
@@ -24,7 +25,7 @@ MODULE = "rvstm_tools_model"
 ANSWERS = "bytes, a number, a text, or None"
 
 
-class ModelError(UserError):
+class ModelError(MistakeError):
     """A mistake of the model's author."""
 
 

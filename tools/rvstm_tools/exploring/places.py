@@ -8,6 +8,7 @@ from random import Random
 from typing import NamedTuple
 
 from rvstm_tools.errors import UserError
+from rvstm_tools.exploring.comparing import Data
 from rvstm_tools.texts import keys, numbers
 
 RANGE = re.compile(r"([0-9]+)(?:\.\.([0-9]+))?")
@@ -21,7 +22,7 @@ OF_AN_END = 4
 DISTANCES = (0, 0, 1, -1)  # of a number from one that was seen
 
 
-class DrawnBytes(bytes):
+class DrawnBytes(Data):
     """Bytes that were drawn. In a word they are hex."""
 
     def __format__(self, _: str) -> str:

@@ -13,6 +13,7 @@ from rvstm_tools.exploring.shortening import Shorter
 
 CLEAR = "\r\x1b[K"
 EACH = 0.2  # seconds
+LEAST_REPLAYING = 2.0  # seconds that replays may last after a search
 
 
 class Progress:
@@ -27,14 +28,20 @@ class Progress:
         self.last = -EACH
 
     def of_search(self, search: Search, samples: list[Sample]) -> None:
+        """Replays the samples beside the search, and says how far it is."""
         if self.reached is None:
             self.reached = Reached(self.rvstm, self.description)
-        self.reached.add(samples)
+        if self.is_shown or not self.reached.lack:
+            self.reached.add(samples)
         if not self._is_due():
             return
         found = search.found
         best = f"{len(found.calls)} calls break {found.broken.rule}" if found else "nothing is broken"
         self._say(f"{search.made():,} calls, {search.speed():,.0f} a second, {self.reached.said()}; {best}")
+
+    def reached_lines(self, seconds: float) -> list[str]:
+        """Which lines and branches the calls of a search reached that lasted so long."""
+        return [] if self.reached is None else list(self.reached.covered(max(LEAST_REPLAYING, seconds / 2)))
 
     def of_shorter(self, shorter: Shorter) -> None:
         if not self._is_due():
@@ -43,9 +50,11 @@ class Progress:
         verb = "call breaks" if count == 1 else "calls break"
         self._say(f"{count} {verb} {rule}; {shorter.runs:,} runs in {shorter.spent():.0f} s")
 
-    def end(self) -> None:
+    def end_replays(self) -> None:
         if self.reached:
             self.reached.end()
+
+    def end(self) -> None:
         if self.is_shown:
             print(CLEAR, end="", file=self.output, flush=True)
 

@@ -3,13 +3,13 @@
 import os
 import queue
 import threading
-from collections.abc import Iterable
+from collections.abc import Iterable, Iterator
 from dataclasses import dataclass
 from pathlib import Path
 from typing import NamedTuple
 
 from rvstm_tools.debugging import coverage, sources
-from rvstm_tools.debugging.coverage import Steps
+from rvstm_tools.debugging.coverage import Covered, SourceFile, Steps
 from rvstm_tools.debugging.sessions import CallOf
 from rvstm_tools.debugging.sources import SourceLine
 from rvstm_tools.errors import UserError
@@ -80,6 +80,7 @@ class Reached:
         self.programs = {name: LinesOf(path) for name, path in description.programs.items()}
         self.ways: set[Way] = set()
         self.samples: queue.SimpleQueue[Sample | None] = queue.SimpleQueue()
+        self.replayed = 0  # how many samples
         self.is_ended = False
         self.thread = threading.Thread(target=self._replay_all, daemon=True)
         self.thread.start()
@@ -90,13 +91,34 @@ class Reached:
                 self.ways.add(sample.way)
                 self.samples.put(sample)
 
+    @property
+    def lack(self) -> str:
+        """Why the lines of a program are not known; empty if those of all are."""
+        return next((program.lack for program in self.programs.values() if program.lack), "")
+
     def said(self) -> str:
         """How many lines are reached, or instructions if the lines of a program are not known."""
         programs = self.programs.values()
-        has_lines = all(program.lines for program in programs)
+        has_lines = not self.lack
         reached = sum(len(program.reached_lines() if has_lines else program.steps.counts) for program in programs)
         whole = sum(len(program.all_lines() if has_lines else program.words) for program in programs)
         return f"{reached} of {whole} {'lines' if has_lines else 'instructions'} reached"
+
+    def covered(self, seconds: float) -> Iterator[str]:
+        """What `rvstm-tools coverage` prints of the calls that were replayed. It waits for replays at most so many seconds."""
+        if self.lack:
+            yield f"which branches no call reached is not known: {self.lack}"
+            return
+        self.samples.put(None)
+        self.thread.join(seconds)
+        if self.thread.is_alive():
+            yield f"reached by {self.replayed} of {len(self.ways)} calls that ended each in another way:"
+        covered = Covered(SourceFile)
+        for program in self.programs.values():
+            coverage.add_program(covered, program.path, program.steps)
+        for path in sorted(covered):
+            if not path.startswith(finding.sdk_prefix()):
+                yield from coverage.source_lines(os.path.relpath(path), covered[path])
 
     def end(self) -> None:
         self.is_ended = True
@@ -106,6 +128,7 @@ class Reached:
         while (sample := self.samples.get()) and not self.is_ended:
             try:
                 self.programs[sample.program].replay(self.rvstm, self.rules, sample)
+                self.replayed += 1
             except (UserError, OSError):
                 return  # the search goes on without it, and reports what stops it
 
@@ -116,17 +139,20 @@ class LinesOf:
     def __init__(self, path: str) -> None:
         self.path = path
         self.steps = Steps()
-        self.words = list(ElfFile(path).words())
+        self.words: list[int] = []
+        self.lines: dict[int, set[SourceLine]] = {}
+        self.lack = ""  # why its lines are not known
         try:
+            self.words = list(ElfFile(path).words())
             self.lines = self._lines()
-        except UserError:
-            self.lines = {}
+        except UserError as error:
+            self.lack = f"{error}"
 
     def _lines(self) -> dict[int, set[SourceLine]]:
         """The lines of each instruction, without those of the SDK."""
         tool = sources.address_tool()
         chains = sources.chains_of(coverage.lines_program(self.path, tool), self.words, tool)
-        sdk = os.path.realpath(finding.home().top / "sdk") + os.sep
+        sdk = finding.sdk_prefix()
         found = {address: filter(None, (sources.source_line(one.line) for one in chain)) for address, chain in chains.items()}
         return {address: {line for line in lines if not line.path.startswith(sdk)} for address, lines in found.items()}
 

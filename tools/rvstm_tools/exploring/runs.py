@@ -10,6 +10,7 @@ from typing import NamedTuple, Self
 
 from rvstm_tools.errors import UserError
 from rvstm_tools.exploring import expressions, storages
+from rvstm_tools.exploring.comparing import Data
 from rvstm_tools.exploring.descriptions import Description, Kind
 from rvstm_tools.exploring.expressions import MODEL, Names, Raised, Rule
 from rvstm_tools.exploring.models import Model
@@ -187,7 +188,7 @@ class Run:
         self._see([outcome.output] if end is End.RETURNED else [])
         self._see(self.storage.data.get(key) or b"" for key in self.storage.changed)
         self.names |= call.values
-        self.names |= {"end": end.value, "gas": outcome.gas, "output": outcome.output}
+        self.names |= {"end": end.value, "gas": outcome.gas, "output": Data(outcome.output)}
         self._keep_lets()
         if end not in kind.ends:
             rule = f"line {kind.line}: ended {end}"

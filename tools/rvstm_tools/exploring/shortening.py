@@ -6,7 +6,7 @@ from collections.abc import Callable, Iterator, Sequence
 from random import Random
 
 from rvstm_tools.exploring import runs
-from rvstm_tools.exploring.models import ModelError
+from rvstm_tools.exploring.comparing import MistakeError
 from rvstm_tools.exploring.moving import Moving
 from rvstm_tools.exploring.places import Numbers, Place, Value, Words
 from rvstm_tools.exploring.runs import Call, Finding, Run
@@ -65,7 +65,7 @@ class Shorter:
             self.watch(self)
         try:
             other = self.run.finding_of(calls)
-        except ModelError:  # the finding is no less true if the model is wrong of other calls
+        except MistakeError:  # the finding is no less true if an expression or the model is wrong of other calls
             return False
         if other is None or not self.finding.broken.is_as(other.broken):
             return False
@@ -118,7 +118,7 @@ class Shorter:
     def _moved_without(self, at: int) -> Sequence[Call] | None:
         try:
             return Moving(self.run, self.finding).without(at)
-        except ModelError:
+        except MistakeError:
             return None
 
     def find_shorter(self, random: Random) -> bool:
@@ -137,7 +137,7 @@ class Shorter:
                 calls.append(runs.drawn_call(random, self.run.description.kinds, list(self.run.seen)))
                 broken = self.run.go_on(calls[-1:])
             broken = broken or self.run.end()
-        except ModelError:
+        except MistakeError:
             return False
         self.runs += 1
         return self.finding.broken.is_as(broken) and self.takes(calls)
@@ -190,4 +190,4 @@ def with_value(calls: Sequence[Call], at: int, name: str, value: Value) -> list[
 
 
 def renamed(call: Call, place: Place, old: Value, new: Value) -> dict[str, Value]:
-    return {name: new if value == old and call.kind.places[name] is place else value for name, value in call.values.items()}
+    return {name: new if call.kind.places[name] is place and value == old else value for name, value in call.values.items()}

@@ -5,11 +5,12 @@ import hashlib
 from collections.abc import Callable, Iterator, Mapping
 from types import SimpleNamespace
 
+from rvstm_tools.exploring.comparing import Data, Name
 from rvstm_tools.exploring.expressions import NUMBERS, Names
-from rvstm_tools.texts import keys, views, words
+from rvstm_tools.texts import differences, keys, views, words
 from rvstm_tools.texts.keys import Key, Storage
 from rvstm_tools.texts.results import Added, Change, Removed
-from rvstm_tools.texts.shapes import Misfit
+from rvstm_tools.texts.shapes import Kind, Misfit, Part
 from rvstm_tools.texts.views import View
 
 AMOUNTS = 2**64
@@ -104,23 +105,39 @@ class StorageByReceipts:
 
     def readers_of(self, value: "Reader") -> Names:
         numbers = {kind: functools.partial(number_at, value, kind) for kind in NUMBERS}
-        return {"value": value, "fields": functools.partial(self.fields_of, value), **numbers}
+        return {"value": functools.partial(data_at, value), "fields": functools.partial(self.fields_of, value), **numbers}
 
     def fields_of(self, value: "Reader", key: str | bytes) -> Fields | None:
         """The fields with names of the value at a key, by its shape; None if it has no value."""
         data = value(key)
         if data is None:
             return None
-        found = self.key_of(key)
-        if not self.shapes.shape_at(found):
+        shape = self.shapes.shape_at(self.key_of(key))
+        if not shape:
             raise ValueError(f"{shown_word(key)} has no line `shape`")
-        fields = self.shapes.named_fields(found, data)
-        if isinstance(fields, Misfit):
-            raise OtherLengthError(f"the value at {shown_word(key)}: {fields.reason}")
-        return Fields(**fields)
+        parts = shape.parts(data)
+        if isinstance(parts, Misfit):
+            raise OtherLengthError(f"the value at {shown_word(key)}: {parts.reason}")
+        named: dict[str, object] = {part.field.name: value_of(part) for part in parts if part.field in shape.fields}
+        named |= {field.name: [value_of(part) for part in parts if part.field is field] for field in shape.repeated}
+        return Fields(**{name: value for name, value in named.items() if name})
 
 
 Reader = Callable[[str | bytes], bytes | None]
+
+
+def value_of(part: Part) -> int | str | Data:
+    """A field: a number, a text, a name of a key or an account, or other bytes."""
+    if part.field.kind in (Kind.UNSIGNED, Kind.SIGNED):
+        return views.number_of(part)
+    if part.field.kind is Kind.TEXT:
+        return part.data.rstrip(b"\0").decode()
+    return Name(part.data) if part.field.kind in (Kind.KEY, Kind.ACCOUNT) else Data(part.data)
+
+
+def data_at(value: Reader, key: str | bytes) -> Data | None:
+    data = value(key)
+    return None if data is None else Data(data)
 
 
 def number_at(value: Reader, kind: str, key: str | bytes) -> int:
@@ -136,17 +153,29 @@ def shown_word(key: str | bytes) -> str:
 
 
 def change_lines(name: str, old: object, new: object) -> Iterator[str]:
-    """What a value was and what it is, if the two differ; of two dicts, for each of their keys."""
+    """What a value was and what it is, if the two differ: for each key of two dicts, and for each field, with the others after it."""
     if isinstance(old, dict) and isinstance(new, dict):
         for key in dict.fromkeys([*old, *new]):
             yield from change_lines(f"{name}[{key!r}]", old.get(key), new.get(key))
-    elif old != new:
-        yield f"{name}: {' -> '.join(value.hex() if isinstance(value, bytes) else str(value) for value in (old, new))}"
+    elif isinstance(old, Fields) and isinstance(new, Fields):
+        same = Fields(**{field: value for field, value in vars(new).items() if vars(old).get(field) == value})
+        for field, value in vars(new).items():
+            lines = change_lines(f"{name}.{field}", vars(old).get(field), value)
+            yield from (f"{line}  ({differences.cut(str(same))})" if vars(same) else line for line in lines)
+    elif type(old) is not type(new) or old != new:
+        yield f"{name}: {shown_value(old)} -> {shown_value(new)}"
+
+
+def shown_value(value: object) -> str:
+    """A value of an expression, for people: bytes that have no name in hex."""
+    if isinstance(value, Name):
+        return views.shown_name(value)
+    return value.hex() if isinstance(value, bytes) else str(value)
 
 
 def number_of(data: bytes) -> int:
     return int.from_bytes(data, "little")
 
 
-def digest_of(data: bytes) -> bytes:
-    return hashlib.sha256(data).digest()
+def digest_of(data: bytes) -> Data:
+    return Data(hashlib.sha256(data).digest())

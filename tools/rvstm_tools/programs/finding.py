@@ -57,6 +57,11 @@ def sdk() -> Path:
     return path
 
 
+def sdk_prefix() -> str:
+    """How the paths of the files of the SDK begin in lines of sources."""
+    return os.path.realpath(home().top / "sdk") + os.sep
+
+
 def absolute(path: Path | str) -> Path:
     """A path that holds in every folder, without `..` if that is not needed."""
     return Path(os.path.abspath(path))

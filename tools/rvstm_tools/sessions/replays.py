@@ -30,9 +30,11 @@ class Replay:
         return found
 
     def sent(self, client: Client, *, is_write: bool) -> Iterator[str]:
-        """Sends all frames. The lines say what each was answered. The first digest that differs is an error; with `is_write` the
+        """Sends all frames to a new session. The lines say what each was answered. The first digest that differs is an error; with `is_write` the
         digests are written in place of that."""
         paths = self.frames()
+        if height := client.state().height:
+            raise UserError(f"the session is at height {height}: a replay begins a new one")
         for program in self.files(OF_PROGRAMS):
             client.body(Request(Word.PROGRAM, (), program.read_bytes()))
         for path in paths:

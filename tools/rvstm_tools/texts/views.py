@@ -12,8 +12,6 @@ from rvstm_tools.texts.results import Change, Written
 from rvstm_tools.texts.rows import Row
 from rvstm_tools.texts.shapes import Field, Kind, Misfit, Part, Shape
 
-FieldValue = int | str | bytes
-
 LONGEST_VALUE = 256
 ROW_TARGET = re.compile(r"row:([^:\[]*)(?:\[(.*)\])?")
 TABLE_TARGET = re.compile("table:[^:]+")
@@ -156,19 +154,6 @@ class View:
             return [words.word_of(data)]
         return [word for part in parts for word in self._words_of_part(part)]
 
-    def named_fields(self, key: Key, data: bytes) -> dict[str, FieldValue | list[FieldValue]] | Misfit:
-        """The fields of a value that have names: numbers, texts, and bytes of all others. One that is repeated is a list."""
-        shape = self.shape_at(key)
-        if not shape:
-            return Misfit("it has no shape")
-        parts = shape.parts(data)
-        if isinstance(parts, Misfit):
-            return parts
-        named: dict[str, FieldValue | list[FieldValue]] = {part.field.name: value_of(part) for part in parts if part.field in shape.fields}
-        for field in shape.repeated:
-            named[field.name] = [value_of(part) for part in parts if part.field is field]
-        return {name: value for name, value in named.items() if name}
-
     def change(self, key: Key, change: Change) -> str:
         """What a call did to a key: the value, `gone`, or the amount with its sign."""
         return self.value(key, change.value) if isinstance(change, Written) else shown.shown_change(change)
@@ -271,12 +256,6 @@ def another(target: str) -> UserError:
 
 def number_of(part: Part) -> int:
     return int.from_bytes(part.data, "little", signed=part.field.kind is Kind.SIGNED)
-
-
-def value_of(part: Part) -> FieldValue:
-    if part.field.kind in (Kind.UNSIGNED, Kind.SIGNED):
-        return number_of(part)
-    return part.data.rstrip(b"\0").decode() if part.field.kind is Kind.TEXT else part.data
 
 
 def word_of_number(part: Part) -> str:
