@@ -6,7 +6,7 @@ _rvstm_tools() {
         return
     fi
     case ${COMP_WORDS[1]} in
-    block) options="--help" ;;
+    block) options="--help --out" ;;
     conflicts) options="--help --program --preview --list --svg" ;;
     coverage) options="--help --program --preview --lcov --sdk" ;;
     example) options="--help" ;;

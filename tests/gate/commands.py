@@ -15,7 +15,7 @@ from gate.machine import Tool
 from gate.texts import written
 
 EXAMPLES = TOP / "examples"
-COUNTER, TOKEN = EXAMPLES / "counter", EXAMPLES / "token"
+COUNTER, LOCK, TOKEN = (EXAMPLES / name for name in ("counter", "lock", "token"))
 KEY = f"{1:064x}"
 # README has this text, and says by hand what it means.
 COUNTED = f"""\
@@ -192,8 +192,17 @@ COMMANDS: dict[str, Callable[[Run], None]] = {
 
 
 def block(run: Run) -> None:
-    """A list to its block."""
+    """A list to its block; and one of three blocks to files, which a session takes as its frames."""
     same(tool(run, "block", COUNTER / "counter.list").done(), (COUNTER / "counter.block").read_text(encoding="utf-8"))
+    later = written(run.place / "later.list", (LOCK / "later.list").read_text(encoding="utf-8").replace("lock.elf", f"{LOCK}/lock.elf"))
+    refused = tool(run, "block", later)
+    same((refused.status, refused.errors), (2, f"block: {later}: it has 3 blocks; --out NAME writes each of them to a file\n"))
+    tool(run, "block", later, "--out", run.place / "later").done()
+    files = sorted(run.place.glob("later-*.block"))
+    ends = re.findall(r"^ +\d+  (\w+)", tool(run, "session", *files).done(), re.M)
+    same(ends, ["returned", "reverted", "reverted", "returned", "reverted"])
+    blocks = re.findall(r"^block \d$", tool(run, "session", later).done(), re.M)
+    same(blocks, ["block 0", "block 1", "block 2"])
 
 
 def test(run: Run) -> None:

@@ -63,7 +63,7 @@ def read_blocks() -> Blocks:
     found = Blocks()
     for name in LISTS:
         folder = TOP / "examples" / name
-        block = lists.read_block(str(folder / f"{name}.list"), {})
+        block = lists.read_list(str(folder / f"{name}.list")).blocks[0]
         block.rules = Rules.THREE
         found.storage |= block.storage
         block.storage = {}

@@ -113,4 +113,4 @@ JOBS = argument(
 
 
 def view(given: argparse.Namespace) -> View:
-    return lists.read_view(given.list) if given.list is not None else View()
+    return lists.read_list(given.list).view if given.list is not None else View()

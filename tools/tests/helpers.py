@@ -31,8 +31,8 @@ class InFolder(unittest.TestCase):
 class FakeProgram:
     """Used in place of rvstm: `seq BLOCK` and `run BLOCK --workers N` print what is given for them."""
 
-    def __init__(self, seq: Printed, by_workers: dict[int, Printed] | None = None) -> None:
-        self.seq = seq
+    def __init__(self, seq: Printed | Sequence[Printed], by_workers: dict[int, Printed] | None = None) -> None:
+        self.seq = [seq] if isinstance(seq, Printed) else seq  # for each block; the last one is for all further ones
         self.by_workers = by_workers or {}
         self.blocks: list[str] = []
         """The block files that `seq` was given."""
@@ -41,7 +41,7 @@ class FakeProgram:
         command, path, *options = words
         if (command, options) == ("seq", []):
             self.blocks.append(Path(path).read_text(encoding="utf-8"))
-            return self.seq
+            return self.seq[min(len(self.blocks), len(self.seq)) - 1]
         if (command, options[:1]) != ("run", ["--workers"]):
             raise AssertionError(f"a command that rvstm does not have: {words}")
         return self.by_workers[int(options[1])]

@@ -27,7 +27,7 @@ from rvstm_tools.releases import archives, verifying
 from rvstm_tools.releases.archives import File
 from rvstm_tools.sessions import replays, typed
 from rvstm_tools.sessions.answers import Done
-from rvstm_tools.sessions.clients import Client
+from rvstm_tools.sessions.clients import Client, read_frames
 from rvstm_tools.sessions.processes import Session
 from rvstm_tools.sessions.requests import Request, Word
 from rvstm_tools.texts import dumps, lists, results
@@ -122,7 +122,7 @@ class ChangedFiles(InFolder):
         self.tries(read, elf_file())
 
     def test_lists_results_and_dumps(self) -> None:
-        self.tries(lambda path: (lists.read_view(path), lists.read_block(path, {}).text()), LIST.encode())
+        self.tries(lambda path: [block.text() for block in lists.read_list(path).blocks], LIST.encode())
         self.tries(results.read_storage, RESULT.encode())
         self.tries(dumps.read_dump, DUMP.encode())
 
@@ -139,7 +139,8 @@ class ChangedFiles(InFolder):
         self.tries(read, TYPED.encode())
         for valid in (Path("a.block"), Path("a.list")):
             client = Client(cast(Session, FakeSession()), View())
-            self.tries(lambda path: list(client.run(Word.FRAME, Path(shutil.move(path, f"b{valid.suffix}")))), valid.read_bytes())
+            name = f"b{valid.suffix}"
+            self.tries(lambda path: list(client.run(Word.FRAME, read_frames(Path(shutil.move(path, name))))), valid.read_bytes())
         self.tries(lambda path: replays.digest_in(Path(path)), f"{KEY}\n".encode())
 
     def test_folders_of_explorations(self) -> None:

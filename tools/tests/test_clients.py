@@ -13,6 +13,7 @@ from unittest import mock
 from rvstm_tools.sessions.clients import Client
 from rvstm_tools.sessions.processes import Session
 from rvstm_tools.sessions.typed import Completion
+from rvstm_tools.texts import lists
 from rvstm_tools.texts.views import View
 from tests.helpers import InFolder, called, called_with
 
@@ -225,7 +226,7 @@ class OfTypedLines(WithChain):
         with Session(self.program) as session:
             client = Client(session, View())
             list(client.dump())
-            client.take_list(Path(self.list))
+            client.take_list(Path(self.list), lists.read_list(self.list))
             completion = Completion(client)
             for before, word, wanted in (
                 ("", "p", ["program ", "programs"]),

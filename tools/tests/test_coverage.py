@@ -2,11 +2,11 @@
 
 import unittest
 from collections import Counter
-from pathlib import Path
 
 from rvstm_tools.commands.coverage import counts_of_inputs
 from rvstm_tools.debugging import coverage
 from rvstm_tools.debugging.coverage import AtBranch, BranchOfSource, SourceFile, Steps, Ways
+from rvstm_tools.texts import lists
 from tests.helpers import InFolder
 
 
@@ -84,7 +84,7 @@ class Inputs(InFolder):
             self.write("one.list", f"program a a.elf\nshape input add u8:0 u8\nshape input done u8:2\n{calls}"),
             self.write("two.list", f"program a a.elf\nshape input take u8:1\n{calls}"),
         ]
-        self.assertEqual(counts_of_inputs(list(map(Path, paths))), {"add": 2, "done": 0, "take": 4, "": 4})
+        self.assertEqual(counts_of_inputs(list(map(lists.read_list, paths))), {"add": 2, "done": 0, "take": 4, "": 4})
 
 
 if __name__ == "__main__":

@@ -13,47 +13,60 @@ class Reading(InFolder):
     def test_a_whole_list(self) -> None:
         content = 'rules 3\n\nprogram token a.elf # first\nstore key:1 u8:7 "x"\ncall token 50 u16:1\nexpect so\n'
         path = self.write("a.list", content)
-        block = lists.read_block(path, {})
+        block = lists.read_list(path).blocks[0]
         self.assertEqual(block.rules, Rules.THREE)
         self.assertEqual(block.programs, {"token": ProgramFile("a.elf", 3)})
         self.assertEqual(block.storage, {numbered_key(1): b"\7x"})
         self.assertEqual(block.calls, [Call("token", 50, b"\1\0", 5)])
 
+    def test_blocks(self) -> None:
+        """Each has the store lines above its calls. Calls are counted through all of them."""
+        text = "program a a.elf\nstore key:1 01\ncall a 5\nblock\nstore key:1 02\ncall a 6\ncall a 7\nblock\nstorage\nexpect key:1 02\n"
+        found = lists.read_list(self.write("a.list", text))
+        self.assertEqual([block.text() for block in found.blocks], [
+            f"rvblock 1\nprogram 0 a.elf\n{rest}" for rest in (
+                f"store {numbered_key(1).hex()} 01\ncall 0 5 -\n", f"store {numbered_key(1).hex()} 02\ncall 0 6 -\ncall 0 7 -\n", "")])
+        self.assertEqual([found.place_of(number) for number in range(3)], [(0, 0), (1, 0), (1, 1)])
+        for number in (-1, 3):
+            with self.assertRaises(UserError) as caught:
+                found.place_of(number)
+            self.assertEqual(str(caught.exception), f"there is no call {number}; its 3 calls count from 0")
+
     def test_store_lines_are_put_over_the_storage(self) -> None:
         path = self.write("a.list", "store key:1 01\nstore key:2 02\n")
-        block = lists.read_block(path, {numbered_key(2): b"old", numbered_key(3): b"kept"})
+        block = lists.read_list(path, {numbered_key(2): b"old", numbered_key(3): b"kept"}).blocks[0]
         self.assertEqual(block.storage, {numbered_key(1): b"\1", numbered_key(2): b"\2", numbered_key(3): b"kept"})
 
     def test_an_empty_list_is_an_empty_block(self) -> None:
         for content in ("", "\n\n", "# nothing", "storage\nexpect x\nstorage\n"):
             with self.subTest(content):
-                self.assertEqual(lists.read_block(self.write("a.list", content), {}).text(), "rvblock 1\n")
+                self.assertEqual(lists.read_list(self.write("a.list", content)).blocks[0].text(), "rvblock 1\n")
 
     def test_ends_of_lines(self) -> None:
         for content in (b"program a b\r\nstore 00 01\r\n", b"program a b\rstore 00 01", b"program a b\nstore 00 01"):
             with self.subTest(content):
-                block = lists.read_block(self.write("a.list", content), {})
+                block = lists.read_list(self.write("a.list", content)).blocks[0]
                 self.assertEqual(block.text(), f"rvblock 1\nprogram 0 b\nstore {'0' * 64} 01\n")
 
     def test_limits_that_are_met(self) -> None:
         programs = "".join(f"program p{number} {number}.elf\n" for number in range(64))
         calls = f"call p0 10000000 {'00' * 4096}\n" + "call p63 1\n" * 1023
         stores = f"store 01 {'00' * 64}\n"
-        block = lists.read_block(self.write("a.list", programs + stores + calls), {})
+        block = lists.read_list(self.write("a.list", programs + stores + calls)).blocks[0]
         self.assertEqual((len(block.programs), len(block.calls), block.longest_value()), (64, 1024, 64))
-        self.assertEqual(lists.read_block(self.write("b.list", f"rules 2\nstore 01 {'00' * 256}\n"), {}).longest_value(), 256)
+        self.assertEqual(lists.read_list(self.write("b.list", f"rules 2\nstore 01 {'00' * 256}\n")).blocks[0].longest_value(), 256)
 
 
 class Messages(InFolder):
     def check(self, content: str | bytes, line: int, message: str) -> None:
         path = self.write("wrong.list", content)
         with self.subTest(message), self.assertRaises(UserError) as caught:
-            lists.read_block(path, {})
+            lists.read_list(path).blocks[0]
         self.assertEqual(str(caught.exception), f"{path}, line {line}: {message}")
 
     def test_kinds(self) -> None:
-        self.check("prog a b\n", 1, "prog: not rules, program, shape, store, call, expect or storage")
-        self.check('"call" a\n', 1, '"call": not rules, program, shape, store, call, expect or storage')
+        self.check("prog a b\n", 1, "prog: not rules, program, shape, store, call, block, expect or storage")
+        self.check('"call" a\n', 1, '"call": not rules, program, shape, store, call, block, expect or storage')
         self.check("storage\nstore 00 00\n", 2, "store: only lines `expect` may follow `storage`")
         self.check("storage\n\nnonsense\n", 3, "nonsense: only lines `expect` may follow `storage`")
 
@@ -79,7 +92,13 @@ class Messages(InFolder):
 
     def test_keys(self) -> None:
         self.check("store\n", 1, "store: a key and its value follow it")
-        self.check("store key:a 00\nstore 61 01\n", 2, "61: another store line has this key")
+        self.check("store key:a 00\nstore 61 01\n", 2, "61: another store line of the block has this key")
+        self.check("program a b\ncall a 5\nstore 61 01\n", 3, "store: a call is above it; a line `block` begins the next block, and store lines "
+                   "come before its calls")
+        self.check("block 2\n", 1, "block: nothing follows it; it begins the next block")
+        self.check("block\nstore key:a 00\nstore 61 01\n", 3, "61: another store line of the block has this key")
+        self.check("block\nstorage a.dump\n", 2, lists.STORAGE)
+        self.check("storage\nblock\n", 2, "block: only lines `expect` may follow `storage`")
         self.check(f"store 00 {'00' * 65}\n", 1, f"{'00' * 65}: a value under rules 1 has at most 64 bytes, and this is 65")
         self.check(f"rules 2\nstore 00 00 {'00' * 256}\n", 2, "00: a value under rules 2 has at most 256 bytes, and this is 257")
 
@@ -98,13 +117,13 @@ class Messages(InFolder):
     def test_hostile_bytes(self) -> None:
         self.check(b"program a b\n# \xff\n", 2, "not UTF-8")
         self.check(b"\xfe\xff\0r\0u\0l\0e\0s", 1, "not UTF-8")
-        self.check(b"\x7fELF\x01\x01\x01\0", 1, "\x7fELF\1\1\1\0: not rules, program, shape, store, call, expect or storage")
+        self.check(b"\x7fELF\x01\x01\x01\0", 1, "\x7fELF\1\1\1\0: not rules, program, shape, store, call, block, expect or storage")
         self.check("store " + "0" * 99_999, 1, "0" * 99_999 + ': not bytes in hex, "text", u8:N .. u64:N, i8:N .. i64:N, '
                    "key:text, key:N, account:name, row:TABLE:name, table:TAG:text or hex:BYTES")
 
     def test_a_missing_file_is_an_error_of_the_system(self) -> None:
         with self.assertRaises(FileNotFoundError):
-            lists.read_block(str(self.folder / "nowhere.list"), {})
+            lists.read_list(str(self.folder / "nowhere.list")).blocks[0]
 
 
 class Dumps(InFolder):
@@ -114,14 +133,14 @@ class Dumps(InFolder):
 
     def test_a_storage_under_the_lines_store(self) -> None:
         self.write("dump", f"rvblock 2\ngas 3\n{self.KEYS}")
-        block = lists.read_block(self.write("a.list", "storage dump\nstore key:2 u8:9\nstorage\n"), {})
+        block = lists.read_list(self.write("a.list", "storage dump\nstore key:2 u8:9\nstorage\n")).blocks[0]
         self.assertEqual(block.storage, {numbered_key(1): b"\7", numbered_key(2): b"\t"})
         self.assertEqual(block.rules, 3)
 
     def test_a_result_and_an_older_dump(self) -> None:
         for content in (f"{self.KEYS}end\n", f"rvblock 1\n{self.KEYS}"):
             self.write("dump", content)
-            block = lists.read_block(self.write("a.list", "rules 2\nstorage dump\n"), {})
+            block = lists.read_list(self.write("a.list", "rules 2\nstorage dump\n")).blocks[0]
             self.assertEqual((block.storage, block.rules), ({numbered_key(1): b"\7", numbered_key(2): b""}, 2))
 
     def test_messages(self) -> None:
@@ -144,7 +163,7 @@ class Dumps(InFolder):
         ):
             self.write("dump", dump)
             with self.subTest(content=content, dump=dump), self.assertRaises(UserError) as caught:
-                lists.read_block(self.write("a.list", content), {})
+                lists.read_list(self.write("a.list", content)).blocks[0]
             said = str(caught.exception)
             self.assertTrue(said.startswith(f"{self.folder}/a.list, line {line}: "), said)
             if message is not None:
@@ -153,15 +172,15 @@ class Dumps(InFolder):
 
 class TableNames(InFolder):
     def test_names(self) -> None:
-        path = self.write("a.list", "# table:not:this\nstore table:t:a u8:1\ncall x 5 table:t:1\nexpect table:t:a gone\n")
-        found = lists.read_view(path).names
+        path = self.write("a.list", "# table:not:this\nprogram x x.elf\nstore table:t:a u8:1\ncall x 5 table:t:1\nexpect table:t:a gone\n")
+        found = lists.read_list(path).view.names
         self.assertEqual(sorted(found.values()), ["table:t:1", "table:t:a"])
         self.assertTrue(all(len(key) == 32 for key in found))
 
     def test_a_wrong_word(self) -> None:
         path = self.write("a.list", "\nstore table:t 00\n")
         with self.assertRaises(UserError) as caught:
-            lists.read_view(path)
+            lists.read_list(path)
         self.assertEqual(str(caught.exception), f"{path}, line 2: table:t: a tag and a text follow it, as in table:TAG:text")
 
 

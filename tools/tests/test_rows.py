@@ -161,13 +161,13 @@ class InTools(InFolder):
         """A table has rows of 28 bytes, or of at most 27."""
         long, short = "row:pay:key:bob,u64:1", "row:pay:key:bob"
         for first, second, message in (
-            (f"store {long}", short, "it has 20 bytes, and the other rows of pay have 28"),
-            (f"store {short}", long, "it has 28 bytes, and the other rows of pay have at most 27"),
-            ("shape row:pay[account,u64]", short, "it has 20 bytes, and the other rows of pay have 28"),
+            (f"store {long} u8:1", short, "it has 20 bytes, and the other rows of pay have 28"),
+            (f"store {short} u8:1", long, "it has 28 bytes, and the other rows of pay have at most 27"),
+            ("shape row:pay[account,u64] u8", short, "it has 20 bytes, and the other rows of pay have 28"),
         ):
-            path = self.write("a.list", f"{first} u8\nstore {second} u8:1\n")
+            path = self.write("a.list", f"{first}\nstore {second} u8:1\n")
             with self.subTest(first), self.assertRaises(UserError) as caught:
-                lists.read_view(path)
+                lists.read_list(path)
             self.assertEqual(str(caught.exception), f"{path}, line 2: {second}: {message}")
 
     def test_a_text_in_place_of_an_account_is_a_warning(self) -> None:

@@ -104,6 +104,20 @@ class Running(InFolderWithProgram):
             "1 test: 0 passed, 1 failed; 1 call, 4 expectations, 3 not met",
         ])
 
+    def test_several_blocks(self) -> None:
+        """Each is run over what the ones before it left. An expectation is of the call above it, or of the last storage."""
+        content = f"{BEGIN}expect returned u8:7\nblock\nstore key:2 u8:2\ncall a 8\nexpect gas at most 5\nexpect same by 2 workers\nstorage\n" \
+                  "expect key:1 u8:1\nexpect key:1 u8:3\n"
+        program = FakeProgram([Printed(result()), Printed(result(6, "03"))], {2: Printed(result(6, "03"))})
+        said = self.tried(content, program)
+        self.assertEqual(said[0], "failed  a.list: 2 calls, expectations: 2 of 5 not met")
+        self.assertEqual(said[1:4], ["    line 6, call 1: call a 8", "        line 7: expect gas at most 5", "        wanted  gas at most 5"])
+        self.assertEqual(said[5:8], ["    storage", "        line 10: expect key:1 u8:1", "        wanted  01  1"])
+        second = f"rvblock 1\nprogram 0 a.elf\nstore {KEY} 01\nstore {KEY[:-1]}2 02\ncall 0 8 -\n"
+        self.assertEqual(program.blocks, ["rvblock 1\nprogram 0 a.elf\ncall 0 9 -\n", second])
+        refused = FakeProgram([Printed(result()), Printed("", "rvstm: seq Memory 1")])
+        self.assertEqual(self.tried(content, refused)[1], "        a.list, block 1: rvstm: seq Memory 1")
+
     def test_another_result_by_workers(self) -> None:
         content = f"{BEGIN}expect same by 2 workers\nexpect same by 3 workers\n"
         program = FakeProgram(Printed(result()), {2: Printed(result(gas=6)), 3: Printed("", "rvstm: run Memory 5")})

@@ -2,8 +2,8 @@ import argparse
 import sys
 from pathlib import Path
 
-from rvstm_tools import errors
-from rvstm_tools.errors import Status, UserError
+from rvstm_tools import errors, options
+from rvstm_tools.errors import MisuseError, Status, UserError
 from rvstm_tools.options import Command, argument
 from rvstm_tools.texts import lists, results
 from rvstm_tools.texts.blocks import Block
@@ -23,6 +23,8 @@ LIST has a line for each program, key and call; # at the beginning of a word beg
                               starts from the folder of LIST, and lines `store` are put over it
     store KEY BYTES..         a key of the storage before the block, and its value
     call NAME GAS BYTES..     a call of a program with at most this gas, and its input
+    block                     begins the next block. Lines store between it and its first call are what the node writes before
+                              that block, over what the blocks before it left
     shape .. FIELDS..         what values and inputs have, for tools that show them; see below
 
 Each of BYTES is one of these, and all of them are put one after the other:
@@ -39,7 +41,8 @@ Each of BYTES is one of these, and all of them are put one after the other:
                               bytes; if one row of a table has 28, all have
     table:TAG:text            the key that table_key of sdk/sha256.h makes of TAG and key:text, or of TAG and key:N
 
-A KEY is one of them, followed by zeros up to 32 bytes. A NAME has one program line, and a KEY one store line.
+A KEY is one of them, followed by zeros up to 32 bytes. A NAME has one program line, and a KEY one store line in a block. Lines
+store come before the calls of their block.
 
 Lines `shape` change nothing of the block. `test`, `explore`, `result`, `trace` and `gdb` show fields by them, such as
 `balance 70, frozen 0`, and an input as `open(lot lamp, seller dave, 10)`:
@@ -67,25 +70,36 @@ A value that does not fit its shape is shown in hex, with the reason.
 
 It skips the lines of a test, which begin with `expect` or are `storage` alone (`rvstm-tools test --help`).
 
+A list of several blocks needs --out. It writes a file for each: NAME-0000.block, NAME-0001.block and so on. They are frames of one
+session, which `rvstm-tools session` takes one after another: the lines store of each are put over what the ones before it left.
+
 The first wrong line is reported, with the word that is wrong, and nothing is printed. A program that is not
 an ELF file is reported on standard error, if it is found from here or beside LIST."""
 
 
 def run(given: argparse.Namespace) -> int:
-    block = block_of(given.list, given.result)
-    report_programs(block, given.list)
-    print(block.text(), end="")
+    blocks = blocks_of(given.list, given.result)
+    report_programs(blocks[0], given.list)
+    if given.out is None and len(blocks) > 1:
+        raise MisuseError(f"{given.list}: it has {len(blocks)} blocks; --out NAME writes each of them to a file")
+    for number, block in enumerate(blocks):
+        if given.out is None:
+            print(block.text(), end="")
+        else:
+            path = Path(f"{given.out}-{number:04}.block")
+            path.write_text(block.text(), encoding="ascii")
+            print(f"written to {path}")
     return Status.DONE
 
 
-def block_of(path: str, result: str | None) -> Block:
-    """The block of a list, over the storage of a result if one is given."""
+def blocks_of(path: str, result: str | None) -> list[Block]:
+    """The blocks of a list, over the storage of a result if one is given."""
     storage = results.read_storage(result) if result is not None else {}
-    block = lists.read_block(path, storage)
-    longest = block.longest_value()
-    if longest > block.rules.longest_value:  # the list is right, so it is a value of the result
-        raise UserError(f"{result}: a value has {longest} bytes, which rules {block.rules} do not allow")
-    return block
+    blocks = lists.read_list(path, storage).blocks
+    longest, rules = blocks[0].longest_value(), blocks[0].rules
+    if longest > rules.longest_value:  # the list is right, so it is a value of the result
+        raise UserError(f"{result}: a value has {longest} bytes, which rules {rules} do not allow")
+    return blocks
 
 
 def report_programs(block: Block, path: str) -> None:
@@ -120,5 +134,6 @@ COMMAND = Command(
             help="a result that rvstm printed: its `store` lines are the storage before this block, and the `store` lines of LIST "
             "are put over them. So blocks chain",
         ),
+        argument("--out", type=options.new_file, metavar="NAME", help="writes NAME-NUMBER.block for each block of the list"),
     ),
 )

@@ -1,7 +1,7 @@
 import argparse
 import os
 from collections import Counter, defaultdict
-from collections.abc import Sequence
+from collections.abc import Collection
 from pathlib import Path
 
 from rvstm_tools import options
@@ -13,6 +13,7 @@ from rvstm_tools.options import Command, argument
 from rvstm_tools.programs import finding, running
 from rvstm_tools.programs.running import Program
 from rvstm_tools.texts import lists
+from rvstm_tools.texts.lists import ListFile
 from rvstm_tools.texts.views import View
 
 DETAILS = """\
@@ -43,9 +44,10 @@ refused or a file cannot be read, and 2 for a wrong command line."""
 def run(given: argparse.Namespace) -> int:
     program = finding.chosen(options.program_choice(given), "coverage")
     programs, covered = defaultdict[str, Steps](Steps), Covered(SourceFile)
-    for path in given.lists:
-        add_list(program, path.absolute(), programs)
-    inputs = counts_of_inputs(given.lists)
+    read = {path.absolute(): lists.read_list(str(path)) for path in given.lists}
+    for path, file in read.items():
+        add_list(program, path, file, programs)
+    inputs = counts_of_inputs(read.values())
     for path, steps in programs.items():
         coverage.add_program(covered, path, steps)
     shown = {path: covered[path] for path in sorted(covered) if given.sdk or not path.startswith(finding.sdk_prefix())}
@@ -61,29 +63,28 @@ def run(given: argparse.Namespace) -> int:
     return Status.DONE
 
 
-def counts_of_inputs(paths: Sequence[Path]) -> Counter[str]:
+def counts_of_inputs(read: Collection[ListFile]) -> Counter[str]:
     """How many calls of the lists have each input that one of them has a shape of; all others have no name."""
     view = View()
-    for path in paths:
-        view.inputs = lists.read_view(str(path)).inputs | view.inputs
+    for file in read:
+        view.inputs = file.view.inputs | view.inputs
     counts = Counter[str](dict.fromkeys(view.inputs, 0))
-    for path in paths:
-        counts.update(view.name_of_input(call.data) for call in lists.read_block(str(path), {}).calls)
+    for file in read:
+        counts.update(view.name_of_input(call.data) for call in file.calls)
     return counts
 
 
-def add_list(program: Program, path: Path, programs: defaultdict[str, Steps]) -> None:
+def add_list(program: Program, path: Path, file: ListFile, programs: defaultdict[str, Steps]) -> None:
     """Replays each call of a list, and adds it to the steps of its program."""
-    block = lists.read_block(str(path), {})
     folder = path.parent
-    with running.temporary_file(block.text(), ".block") as made:
-        refusal = program.run(["seq", made], folder).refusal
-        if refusal:
+    for block, run in zip(file.blocks, running.in_turn(program, file.blocks, folder)):
+        if refusal := run.printed.refusal:
             refused = running.refused_path(program, block.paths(), refusal, folder)
             raise UserError(f"{path}{f', {refused}' if refused else ''}: {refusal}")
-        for number, call in enumerate(block.calls):
-            file = os.path.abspath(folder / block.programs[call.program].path)
-            programs[file].add(CallOf(program.path, made, number, folder))
+        with running.temporary_file(run.text, ".block") as made:
+            for number, call in enumerate(block.calls):
+                steps = programs[os.path.abspath(folder / block.programs[call.program].path)]
+                steps.add(CallOf(program.path, made, number, folder))
 
 
 COMMAND = Command(

@@ -10,11 +10,11 @@ from rvstm_tools.errors import MisuseError, Status, UserError
 from rvstm_tools.options import Command, argument
 from rvstm_tools.programs import finding
 from rvstm_tools.sessions import typed
-from rvstm_tools.sessions.clients import FIRST_KEY, Client
+from rvstm_tools.sessions.clients import FIRST_KEY, Client, read_frames
 from rvstm_tools.sessions.processes import LONGEST_FRAME, Session, Settings
 from rvstm_tools.sessions.replays import Replay
 from rvstm_tools.sessions.requests import Word
-from rvstm_tools.texts import words
+from rvstm_tools.texts import lists, words
 from rvstm_tools.texts.views import View
 
 SETTING = options.number(0, 9_999_999_999, "a setting")
@@ -60,7 +60,7 @@ def list_of(word: str) -> Asked:
 
 
 def frame_of(path: Path) -> Asked:
-    return Asked(f"frame {path}", lambda client: client.run(Word.FRAME, path))
+    return Asked(f"frame {path}", lambda client: client.run(Word.FRAME, read_frames(path)))
 
 
 def dump_of(word: str) -> Asked:
@@ -85,7 +85,7 @@ def run(given: argparse.Namespace) -> int:
     with Session(program.path, settings_of(given)) as session:
         client = Client(session, View())
         for path in given.shapes:
-            client.take_list(path)
+            client.take_list(path, lists.read_list(str(path)))
         status = answer_all(client, given)
         ended = session.end()
     if ended.status:

@@ -24,8 +24,8 @@ A test is a list of a block (`rvstm-tools block --help`), with what is expected 
     storage
     expect key:bob u64:8
 
-`rvstm seq` runs all calls of a list in one block, in the folder of the list, from which paths start. As many lists run at once as
---jobs says. A line `storage DUMP` before the calls begins with the storage of a file: what `rvstm chain` answered to `dump`, or a
+`rvstm seq` runs the calls of a list in one block, or in several that lines `block` part, in the folder of the list, from which paths
+start. As many lists run at once as --jobs says. A line `storage DUMP` before the calls begins with the storage of a file: what `rvstm chain` answered to `dump`, or a
 result.
 
     expect returned BYTES..     the call returns, with this output; without BYTES with any, and with "" with an empty one
@@ -38,9 +38,9 @@ result.
     expect KEY gone             the call removes the key
     expect KEY add N            the call adds N in all to the key, and neither writes nor removes it
     expect no other write       other lines after the call name each key that it writes, removes or adds to
-    expect same by N workers    `rvstm run` with N workers prints what `rvstm seq` prints for the block, here or at the end
+    expect same by N workers    `rvstm run` with N workers prints what `rvstm seq` prints for the block; at the end for each block
     storage                     begins the last part of a list, after which there are only lines `expect`:
-    expect KEY BYTES..          after the block the storage has this value at the key
+    expect KEY BYTES..          after the last block the storage has this value at the key
     expect KEY gone             it does not have the key
     expect no other key         other lines of this part name each key that it has
 

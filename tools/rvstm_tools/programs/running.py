@@ -6,11 +6,15 @@ import tempfile
 from collections.abc import Iterable, Iterator, Sequence
 from contextlib import contextmanager
 from dataclasses import dataclass
+from functools import cached_property
 from pathlib import Path
 from typing import Protocol
 
 from rvstm_tools.errors import UserError
-from rvstm_tools.texts import blocks
+from rvstm_tools.texts import blocks, results
+from rvstm_tools.texts.blocks import Block
+from rvstm_tools.texts.keys import Storage
+from rvstm_tools.texts.results import Result
 
 OF_A_PROGRAM_FILE = re.compile("rvstm: (elf|file) ")
 OF_A_LINE = re.compile("rvstm: block ([0-9]+) ")
@@ -62,6 +66,30 @@ def temporary_file(text: str, suffix: str) -> Iterator[str]:
 def run_block(runner: Runner, command: str, text: str, folder: Path, *options: str) -> Printed:
     with temporary_file(text, ".block") as path:
         return runner.run([command, path, *options], folder)
+
+
+@dataclass
+class InTurn:
+    """A block of a list that was run over what the blocks before it left: its text, and what `seq` printed."""
+
+    text: str
+    printed: Printed
+
+    @cached_property
+    def result(self) -> Result:
+        return results.result_of(self.printed.text)
+
+
+def in_turn(runner: Runner, of_list: Iterable[Block], folder: Path, paths: Sequence[str] | None = None) -> Iterator[InTurn]:
+    """Runs the blocks of a list, until one is refused; by other programs if some are given."""
+    storage: Storage = {}
+    for block in of_list:
+        text = block.text(paths, storage)
+        run = InTurn(text, run_block(runner, "seq", text, folder))
+        yield run
+        if run.printed.refusal:
+            return
+        storage = run.result.storage
 
 
 def run_file(runner: Runner, command: str, path: str) -> str:

@@ -56,6 +56,8 @@ class TypedBlock:
         self.client.view.take_names(given)
         errors.warn("session", self.client.view.doubts(given))
         reader = self.reader or self._new()
+        if kind == "store" and reader.block.calls:
+            raise UserError("store: a call is above it; `run` runs the block, and its keys come before its calls")
         if kind == "call" and given[0] not in reader.block.programs:
             reader.take(Line("", 0, ["program", given[0], self.client.program_of(given[0])]))
         reader.take(Line("", 0, [kind, *given]))

@@ -15,6 +15,7 @@ from rvstm_tools.sessions.processes import Session
 from rvstm_tools.sessions.requests import Request, Word
 from rvstm_tools.texts import lists, results, tables, words
 from rvstm_tools.texts.keys import KEY_LENGTH, Key
+from rvstm_tools.texts.lists import ListFile
 from rvstm_tools.texts.views import View
 
 HASH = re.compile("[0-9a-f]{64}")
@@ -26,22 +27,21 @@ NONE = "      none"
 
 @dataclass(frozen=True)
 class FrameFile:
-    """A file of a frame: a list, or a block file whose programs are named by their paths or by their hashes."""
+    """A file of frames: a list, which has one or several, or a block file whose programs are named by their paths or by their hashes."""
 
     path: Path
+    frames: list[Named]
+    file: ListFile | None = None
 
-    @property
-    def is_list(self) -> bool:
-        return self.path.suffix == LISTS
 
-    def read(self) -> Named:
-        """The frame, and its programs. Paths of programs are taken from the folder of the file."""
-        if not self.is_list:
-            return frames.named(self.path.read_bytes(), self.path.parent)
-        block = lists.read_block(str(self.path), {})
-        for path in block.paths():
-            (self.path.parent / path).read_bytes()  # a program that is missing is an error of its own file
-        return frames.named(block.text().encode(), self.path.parent)
+def read_frames(path: Path) -> FrameFile:
+    """The frames of a file, and their programs. Paths of programs are taken from the folder of the file."""
+    if path.suffix != LISTS:
+        return FrameFile(path, [frames.named(path.read_bytes(), path.parent)])
+    file = lists.read_list(str(path))
+    for program in file.blocks[0].paths():
+        (path.parent / program).read_bytes()  # a program that is missing is an error of its own file
+    return FrameFile(path, [frames.named(block.text().encode(), path.parent) for block in file.blocks], file)
 
 
 class Client:
@@ -78,25 +78,25 @@ class Client:
 
     # ---- requests, each with the lines of its answer
 
-    def run(self, word: Word, path: Path) -> Iterator[str]:
-        """Hands in the programs of a frame, and runs or tries it."""
-        file = FrameFile(path)
-        named = file.read()
-        if file.is_list:
-            self.take_list(path)
-        for program in named.programs():
-            self.body(program)
-        return self.receipts(self.body(Request(word, (), named.block)))
+    def run(self, word: Word, file: FrameFile) -> Iterator[str]:
+        """Hands in the programs of frames, and runs or tries them one after another."""
+        count = len(file.frames)
+        if word is Word.TRY and count > 1:
+            raise UserError(f"{file.path}: only a list of one block can be tried, and this has {count}")
+        if file.file:
+            self.take_list(file.path, file.file)
+        for number, frame in enumerate(file.frames):
+            for program in frame.programs():
+                self.body(program)
+            lines = self.receipts(self.body(Request(word, (), frame.block)))
+            yield from [*([f"block {number}"] if count > 1 else []), *lines]
 
-    def take_list(self, path: Path) -> None:
+    def take_list(self, path: Path, file: ListFile) -> None:
         """Keeps what a list says of keys and values, its programs and its rules. Nothing of it is run."""
-        add_view(self.view, lists.read_view(str(path)))
-        for line in lists.lines_of(str(path)):
-            match line.words:
-                case ["program", name, file]:
-                    self.programs[name] = path.parent / file
-                case ["rules", "2" | "3" as rules]:
-                    self.rules = max(self.rules, int(rules))
+        block = file.blocks[0]
+        add_view(self.view, file.view)
+        self.programs |= {name: path.parent / program.path for name, program in block.programs.items()}
+        self.rules = max(self.rules, block.rules)
 
     def program_of(self, name: str) -> str:
         """The hash by which a frame names a program, which is handed in. `name` is that of a list or of a file, or the hash."""

@@ -6,7 +6,7 @@ from pathlib import Path
 
 from rvstm_tools.errors import UserError
 from rvstm_tools.sessions.answers import State
-from rvstm_tools.sessions.clients import Client, FrameFile
+from rvstm_tools.sessions.clients import Client, read_frames
 from rvstm_tools.sessions.requests import Request, Word
 
 OF_FRAMES = (".frame", ".block", ".list")
@@ -39,10 +39,13 @@ class Replay:
             client.body(Request(Word.PROGRAM, (), program.read_bytes()))
         for path in paths:
             wanted = None if is_write else digest_in(digest_file_of(path))
-            named = FrameFile(path).read()
-            for request in named.programs():
-                client.body(request)
-            answer = client.answer(named.frame()).said
+            file = read_frames(path)
+            if file.file:
+                client.take_list(path, file.file)
+            for named in file.frames:
+                for request in named.programs():
+                    client.body(request)
+                answer = client.answer(named.frame()).said
             digest = digest_of(client.state())
             if wanted is None:
                 digest_file_of(path).write_text(f"{digest}\n", encoding="ascii")

@@ -9,7 +9,7 @@ from typing import TextIO
 
 from rvstm_tools.errors import UserError
 from rvstm_tools.sessions import frames
-from rvstm_tools.sessions.clients import FIRST_KEY, HASH, MOST_KEYS, Client
+from rvstm_tools.sessions.clients import FIRST_KEY, HASH, MOST_KEYS, Client, read_frames
 from rvstm_tools.sessions.requests import Word
 from rvstm_tools.texts import lists, numbers, views, words
 from rvstm_tools.texts.keys import Key
@@ -69,9 +69,9 @@ def run_forget(client: Client, given: Sequence[str]) -> Iterator[str]:
 
 FORMS = (
     Form("frame", "FILE", "runs a list (NAME.list) or a block file over the storage, after it sends its programs",
-         lambda client, given: client.run(Word.FRAME, path_of(given[0])), "file"),
+         lambda client, given: client.run(Word.FRAME, read_frames(path_of(given[0]))), "file"),
     Form("try", "FILE", "the same, and keeps nothing of it but the programs",
-         lambda client, given: client.run(Word.TRY, path_of(given[0])), "file"),
+         lambda client, given: client.run(Word.TRY, read_frames(path_of(given[0]))), "file"),
     Form("call", "NAME GAS [WORD..]", "runs a block of this call, as a list has it; NAME is that of a program of a list or of a file",
          lambda client, given: client.typed.call(given), "name"),
     Form("store", "KEY [WORD..]", "runs a block that gives the key this value", lambda client, given: client.typed.store(given), "key"),

@@ -5,18 +5,17 @@ from pathlib import Path
 
 from rvstm_tools.errors import UserError
 from rvstm_tools.texts import differences, expectations, lists
-from rvstm_tools.texts.blocks import Block, ProgramFile
+from rvstm_tools.texts.blocks import ProgramFile
 from rvstm_tools.texts.expectations import CallExpectation, Changes, CostsAtMost, Holds, StorageExpectation
 from rvstm_tools.texts.keys import Key
-from rvstm_tools.texts.lists import BlockReader, Line
-from rvstm_tools.texts.views import View
+from rvstm_tools.texts.lists import BlockReader, Line, ListFile
 
 
 @dataclass
 class CallPart:
     """The lines `expect` after a call, by their numbers."""
 
-    call: int  # its number in the block
+    call: int  # its number in the list
     expectations: dict[int, CallExpectation] = field(default_factory=dict)
 
     def keys(self) -> frozenset[Key]:
@@ -39,11 +38,9 @@ class StoragePart:
 @dataclass
 class ListedTest:
     path: Path
-    block: Block
+    file: ListFile
     calls: list[CallPart]
     storage: StoragePart | None
-    view: View  # what the list says of keys and values
-    lines: list[str]  # all lines of the file, with what ends them there
 
     def count(self) -> int:
         """How many lines `expect` there are."""
@@ -51,11 +48,11 @@ class ListedTest:
         return after_calls + (len(self.storage.expectations) if self.storage else 0)
 
     def shown_line(self, number: int) -> str:
-        return differences.cut(self.lines[number - 1].strip())
+        return differences.cut(self.file.lines[number - 1].strip())
 
     def programs_by(self, variant: str) -> list[ProgramFile]:
         """The programs of the list, each PROGRAM.elf replaced by PROGRAM-VARIANT.elf if there is a variant and this file."""
-        return [self._program_by(variant, program) for program in self.block.programs.values()]
+        return [self._program_by(variant, program) for program in self.file.blocks[0].programs.values()]
 
     def _program_by(self, variant: str, program: ProgramFile) -> ProgramFile:
         other = f"{program.path.removesuffix('.elf')}-{variant}.elf"
@@ -92,7 +89,7 @@ class ListedTestReader:
             part.expectations[line.number] = expectations.of_call(given)
 
     def _part_of_last_call(self) -> CallPart:
-        last = len(self.blocks.block.calls) - 1
+        last = len(self.blocks.file.calls) - 1
         if last < 0:
             raise UserError("expect: no call is above it")
         if not self.calls or self.calls[-1].call != last:
@@ -102,10 +99,5 @@ class ListedTestReader:
 
 def read_test(path: Path) -> ListedTest:
     reader = ListedTestReader()
-    for line in lists.lines_of(str(path)):
-        with lists.placed(str(path), line.number):
-            reader.take(line)
-    with open(path, encoding="utf-8", newline="") as file:
-        lines = list(file)
-    view = lists.read_view(str(path))
-    return ListedTest(path, reader.blocks.block, reader.calls, reader.storage, view, lines)
+    lists.hand_on(str(path), reader.take, reader.blocks.view)
+    return ListedTest(path, reader.blocks.file, reader.calls, reader.storage)

@@ -25,7 +25,7 @@ class Sums:
     def add(self, run: Tried) -> None:
         self.tests += 1
         self.failed += run.missed > 0
-        self.calls += len(run.test.block.calls)
+        self.calls += len(run.test.file.calls)
         self.expectations += run.test.count()
         self.not_met += run.missed
 
@@ -51,7 +51,7 @@ def counted(number: int, what: str) -> str:
 def lines_of_run(run: Tried) -> Iterator[str]:
     test, missed = run.test, run.missed
     of = f"{missed} of {test.count()} not met" if missed else f"{test.count()}"
-    calls = counted(len(test.block.calls), "call")
+    calls = counted(len(test.file.calls), "call")
     yield f"{'failed' if missed else 'passed'}  {run.planned.name()}: {calls}, expectations: {of}"
     yield from lines_of_failure(run)
 
@@ -68,7 +68,7 @@ def lines_of_misses(test: ListedTest, misses: Sequence[Miss]) -> Iterator[str]:
         of_part = list(group)
         part = of_part[0].part
         if isinstance(part, CallPart):
-            line = test.block.calls[part.call].line
+            line = test.file.calls[part.call].line
             yield f"    line {line}, call {part.call}: {test.shown_line(line)}"
         else:
             yield "    storage"
@@ -97,7 +97,7 @@ def lines_of_gas(differences: Sequence[GasDifference], table: str, within: float
 
 def json_of_run(run: Tried) -> str:
     row: Object = {"kind": "test", "list": f"{run.test.path}", "variant": run.planned.variant, "passed": not run.missed}
-    row |= {"calls": len(run.test.block.calls), "expectations": run.test.count(), "seconds": round(run.seconds, 3)}
+    row |= {"calls": len(run.test.file.calls), "expectations": run.test.count(), "seconds": round(run.seconds, 3)}
     row |= {"refusal": run.refusal, "gas": list(run.gas), "misses": [object_of_miss(run.test, miss) for miss in run.misses]}
     return json.dumps(row)
 

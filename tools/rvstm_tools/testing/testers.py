@@ -63,7 +63,7 @@ class Tester:
             return Tried(plan, run.refusal, [], [], {}, time.monotonic() - begun)
         most_gas = run.gas()
         misses = [miss for miss in run.misses() if not (self.is_update and miss.line in most_gas)]
-        gas = [receipt.gas for receipt in run.result.receipts]
+        gas = [receipt.gas for receipt in run.receipts]
         return Tried(plan, "", misses, gas, most_gas, time.monotonic() - begun)
 
 
@@ -86,10 +86,10 @@ def updated(tried: Sequence[Tried]) -> Iterator[str]:
 
 def update(test: ListedTest, most_gas: Mapping[int, int]) -> bool:
     """Writes the gas that came into the lines `gas at most` of a list. All other bytes of the file stay. Whether it changed."""
-    lines = list(test.lines)
+    lines = list(test.file.lines)
     for number, gas in most_gas.items():
         lines[number - 1] = MOST_GAS.sub(rf"\g<1>{gas}", lines[number - 1], count=1)
-    if lines == test.lines:
+    if lines == test.file.lines:
         return False
     with open(test.path, "w", encoding="utf-8", newline="") as file:
         file.writelines(lines)

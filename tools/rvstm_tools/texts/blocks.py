@@ -52,6 +52,8 @@ class CallLine(NamedTuple):
 
 @dataclass
 class Block:
+    """A block. Its storage is put over what the blocks of the list before it left."""
+
     storage: Storage = field(default_factory=dict)
     rules: Rules = Rules.ONE
     programs: dict[str, ProgramFile] = field(default_factory=dict)  # by their names, in the order of the list
@@ -64,11 +66,11 @@ class Block:
         """The length of the longest value of the storage; 0 if there is none."""
         return max(map(len, self.storage.values()), default=0)
 
-    def text(self, paths: Sequence[str] | None = None) -> str:
-        """The block file, with other paths of the programs if some are given."""
+    def text(self, paths: Sequence[str] | None = None, before: Storage | None = None) -> str:
+        """The block file, with other paths of the programs if some are given, and over a storage."""
         numbers = {name: number for number, name in enumerate(self.programs)}
         calls = [CallLine(numbers[call.program], call.gas, call.data) for call in self.calls]
-        return text(self.paths() if paths is None else paths, self.storage, calls, self.rules)
+        return text(self.paths() if paths is None else paths, (before or {}) | self.storage, calls, self.rules)
 
 
 def field_of(data: bytes) -> str:

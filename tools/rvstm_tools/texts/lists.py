@@ -1,10 +1,10 @@
-"""Lists: blocks as people write them, a line for each program, key and call (`rvstm-tools block --help`)."""
+"""Lists: blocks as people write them, a line for each program, key and call (`rvstm-tools block --help`). A file is read once."""
 
 import os
 import re
 from collections.abc import Callable, Iterator
 from contextlib import contextmanager
-from dataclasses import dataclass
+from dataclasses import dataclass, field
 
 from rvstm_tools import errors
 from rvstm_tools.errors import UserError
@@ -15,6 +15,7 @@ from rvstm_tools.texts.views import View
 
 PATH = re.compile("[!-~]+")
 GAS = re.compile("[1-9][0-9]*")
+KINDS = "rules, program, shape, store, call, block, expect or storage"
 STORAGE = (
     "storage: with a path it comes once, before all lines `store` and `call`, and over no other result; without one it comes once, "
     "after the calls"
@@ -23,15 +24,39 @@ STORAGE = (
 
 @dataclass(frozen=True)
 class Line:
-    """A line of a list that has words: the file, its number from 1 on, and the words."""
+    """A line of a list: the file, its number from 1 on, its words, and its text with what ends it there."""
 
     path: str
     number: int
     words: list[str]
+    text: str = ""
 
     @property
     def kind(self) -> str:
-        return self.words[0]
+        return self.words[0] if self.words else ""
+
+
+@dataclass
+class ListFile:
+    """What a list says: its blocks one after another, what it says of keys and values, and the texts of its lines."""
+
+    blocks: list[Block]
+    view: View = field(default_factory=View)
+    lines: list[str] = field(default_factory=list)
+
+    @property
+    def calls(self) -> list[Call]:
+        """The calls of all blocks. Tools count them so."""
+        return [call for block in self.blocks for call in block.calls]
+
+    def place_of(self, number: int) -> tuple[int, int]:
+        """The number of the block of a call, and the number of the call there."""
+        at = number
+        for block_number, block in enumerate(self.blocks):
+            if 0 <= at < len(block.calls):
+                return block_number, at
+            at -= len(block.calls)
+        raise UserError(f"there is no call {number}; its {len(self.calls)} calls count from 0")
 
 
 def is_dump(line: Line) -> bool:
@@ -49,14 +74,12 @@ def placed(path: str, number: int) -> Iterator[None]:
 
 
 def lines_of(path: str) -> Iterator[Line]:
-    """The lines of a list that have words. They are read one by one, so that the first wrong line of all is reported."""
-    with open(path, encoding="utf-8", errors="surrogateescape") as file:
+    """The lines of a list. They are read one by one, so that the first wrong line of all is reported."""
+    with open(path, encoding="utf-8", errors="surrogateescape", newline="") as file:
         for number, text in enumerate(file, 1):
             with placed(path, number):
                 check_encoding(text)
-                found = words.words_of(text)
-            if found:
-                yield Line(path, number, found)
+                yield Line(path, number, words.words_of(text), text)
 
 
 def check_encoding(text: str) -> None:
@@ -67,11 +90,11 @@ def check_encoding(text: str) -> None:
 
 
 class BlockReader:
-    """Takes the lines of a list one after another, and makes their block, over a storage. It passes over the lines of a test."""
+    """Takes the lines of a list one after another, and makes their blocks, over a storage. It passes over the lines of a test."""
 
     def __init__(self, storage: Storage) -> None:
-        self.block = Block(storage)
-        self.view = View()  # the shapes of the list
+        self.file = ListFile([Block(storage)])
+        self.view = self.file.view
         self._stored: set[Key] = set()
         self._is_begun = False
         self._has_rules = False
@@ -81,20 +104,28 @@ class BlockReader:
             "program": self._take_program,
             "store": self._take_key,
             "call": self._take_call,
+            "block": self._take_next_block,
             "shape": lambda given, _: self.view.take_shape(given),
         }
 
+    @property
+    def block(self) -> Block:
+        return self.file.blocks[-1]
+
     def take(self, line: Line) -> None:
+        self.file.lines.append(line.text)
+        if line.kind != "shape":
+            self.view.take_names(line.words)
         if is_dump(line):
             self._take_dump(line)
         elif line.kind == "storage":
             self._is_after_storage = True
-        elif line.kind != "expect":
+        elif line.words and line.kind != "expect":
             self._take_block_line(line)
 
     def _take_dump(self, line: Line) -> None:
         """Takes the storage of a file for that before the block, and its rules if the list names none."""
-        if len(line.words) > 2 or self.block.storage or self.block.calls or self._is_after_storage:
+        if len(line.words) > 2 or self.block.storage or self.file.calls or len(self.file.blocks) > 1 or self._is_after_storage:
             raise UserError(STORAGE)
         dump = dumps.read_dump(os.path.join(os.path.dirname(line.path), words.name_of(line.words[1])))
         if dump.rules and not self._has_rules:
@@ -111,7 +142,7 @@ class BlockReader:
         if self._is_after_storage:
             raise UserError(f"{line.kind}: only lines `expect` may follow `storage`")
         if line.kind not in self._takers:
-            raise UserError(f"{line.kind}: not rules, program, shape, store, call, expect or storage")
+            raise UserError(f"{line.kind}: not {KINDS}")
         self._takers[line.kind](line.words[1:], line.number)
         self._is_begun = True
 
@@ -136,12 +167,20 @@ class BlockReader:
     def _take_key(self, given: list[str], _: int) -> None:
         if not given:
             raise UserError("store: a key and its value follow it")
+        if self.block.calls:
+            raise UserError("store: a call is above it; a line `block` begins the next block, and store lines come before its calls")
         key = words.key_of(given[0])
         if key in self._stored:
-            raise UserError(f"{given[0]}: another store line has this key")
+            raise UserError(f"{given[0]}: another store line of the block has this key")
         self._stored.add(key)
         rules = self.block.rules
         self.block.storage[key] = words.joined(given[1:], rules.longest_value, f"a value under rules {rules}")
+
+    def _take_next_block(self, given: list[str], _: int) -> None:
+        if given:
+            raise UserError("block: nothing follows it; it begins the next block")
+        self.file.blocks.append(Block({}, self.block.rules, self.block.programs))
+        self._stored = set()
 
     def _take_call(self, given: list[str], line: int) -> None:
         if len(given) < 2:
@@ -166,22 +205,16 @@ def gas_of(word: str) -> int:
     return gas
 
 
-def read_block(path: str, storage: Storage) -> Block:
-    reader = BlockReader(storage)
-    for line in lines_of(path):
-        with placed(path, line.number):
-            reader.take(line)
-    return reader.block
+def read_list(path: str, storage: Storage | None = None) -> ListFile:
+    """A list, over a storage if one is given."""
+    reader = BlockReader(storage or {})
+    hand_on(path, reader.take, reader.view)
+    return reader.file
 
 
-def read_view(path: str) -> View:
-    """What a list says of keys and values: its words that say keys of tables, and its shapes."""
-    view = View()
+def hand_on(path: str, take: Callable[[Line], None], view: View) -> None:
+    """Hands on the lines of a list to what fills a view. Words that say another key than the shapes of the list do are warnings."""
     for line in lines_of(path):
         with placed(path, line.number):
-            if line.kind == "shape":
-                view.take_shape(line.words[1:])
-            else:
-                view.take_names(line.words)
+            take(line)
     errors.warn(path, view.doubts(view.names.values()))
-    return view
