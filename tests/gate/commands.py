@@ -237,9 +237,20 @@ def test_over_a_result(run: Run) -> None:
     call = f"call counter 1000 {KEY}\nexpect {KEY} u32:4\n"
     written(place / "one.list", f"storage result\nprogram counter {COUNTER}/counter.elf\n{call}")
     tool(run, "test", ".", "--gas", "gas.txt", "--write", folder=place).done()
-    holds((place / "gas.txt").read_text(encoding="utf-8").endswith("  639     0  one.list\n"), "another table", "the gas of the call")
+    table = (place / "gas.txt").read_text(encoding="utf-8")
+    holds(table.endswith(f" 639\tone.list\t0\t\tcall counter 1000 {KEY}\n"), table, "the gas of the call")
+    again = call.replace("u32:4", "u32:5")
+    written(place / "one.list", f"storage result\nprogram counter {COUNTER}/counter.elf\nshape input count key\n{call.replace(KEY, 'key:1')}{again}")
+    shaped = tool(run, "test", ".", "--gas", "gas.txt", "--write", folder=place).done()
+    holds("    one.list, count: 2 calls, least 639, mean 639, most 639\n" in shaped, shaped, "least, mean and most")
+    text = (place / "one.list").read_text(encoding="utf-8")
+    written(place / "one.list", text.replace("call", "call counter 999 key:2\ncall", 1))
+    more = tool(run, "test", ".", "--gas", "gas.txt", folder=place)
+    same((more.status, more.out.splitlines()[1:3]), (1, [
+        "1 call of gas.txt differs by more than 0 percent", "    one.list, block 0, count: call counter 999 key:2: 639, and not in the table"]))
+    written(place / "one.list", text)
     done = tool(run, "test", ".", "--gas", "gas.txt", "--json", "--junit", "tests.xml", folder=place).done()
-    sums = {"kind": "sums", "tests": 1, "failed": 0, "calls": 1, "expectations": 1, "not_met": 0}
+    sums = {"kind": "sums", "tests": 1, "failed": 0, "calls": 2, "expectations": 2, "not_met": 0}
     same(json.loads(done.splitlines()[-1]), sums)
     holds('tests="2" failures="0"' in (place / "tests.xml").read_text(encoding="utf-8"), "another file", "two tests without a failure")
 

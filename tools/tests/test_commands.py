@@ -17,6 +17,7 @@ from rvstm_tools.options import Command
 from tests.helpers import InFolder, called
 
 LAUNCHER = Path(__file__).resolve().parents[1] / "rvstm-tools"
+CALL = 'call a 9 "hi"'
 LIST = "program a a.elf\nstore key:1 u8:7\ncall a 9 \"hi\"\nexpect returned \"hi\"\n"
 BLOCK = f"rvblock 1\nprogram 0 a.elf\nstore {'0' * 63}1 07\ncall 0 9 6869\n"
 
@@ -126,25 +127,27 @@ class Test(InFolder):
         path, table = self.write("a.list", LIST), self.folder / "gas"
         words = ("test", "--program", self.program(), path, "--gas", str(table))
         self.assertEqual(called(*words, "--write")[0], 0)
-        self.assertEqual(table.read_text(encoding="utf-8").splitlines()[1:], ["       5     0  a.list"])
+        self.assertEqual(table.read_text(encoding="utf-8").splitlines()[1:], [f"       5\ta.list\t0\t\t{CALL}"])
         self.assertEqual(called(*words)[0], 0)
+        name, row_of = f"a.list, block 0: {CALL}", f"{{}}\ta.list\t0\t\t{CALL}".format
         for row, within, line in (
-            ("4 0 a.list", "24.9", "a.list, call 0: 4 -> 5, 25.0 percent more"),
-            ("4 0 a.list", "25", None),
-            ("10 0 a.list", "0", "a.list, call 0: 10 -> 5, 50.0 percent less"),
-            ("0 0 a.list", "100", "a.list, call 0: 0 -> 5 more"),
-            ("", "0", "a.list, call 0: 5, and not in the table"),
-            ("5 0 a.list\n7 1 a.list", "0", "a.list, call 1: 7 in the table, and not in the list"),
-            ("# 5\n5 0 a.list\n7 0 b.list", "0", None),
+            (row_of(4), "24.9", f"{name}: 4 -> 5, 25.0 percent more"),
+            (row_of(4), "25", None),
+            (row_of(10), "0", f"{name}: 10 -> 5, 50.0 percent less"),
+            (row_of(0), "100", f"{name}: 0 -> 5 more"),
+            ("", "0", f"{name}: 5, and not in the table"),
+            (f"{row_of(5)}\n7\ta.list\t1\topen\tcall b 1", "0", "a.list, block 1, open: call b 1: 7 in the table, and not in the list"),
+            (f"# 5\n{row_of(5)}\n7\tb.list\t0\t\tcall", "0", None),
         ):
             with self.subTest(row):
                 table.write_text(f"{row}\n", encoding="utf-8")
                 status, output, _ = called(*words, "--within", within)
                 said = [f"1 call of {table} differs by more than {float(within):g} percent", f"    {line}"] if line else []
+                said += ["gas by input", "    a.list, other inputs: 1 call, least 5, mean 5, most 5"]
                 self.assertEqual((status, output.splitlines()[1:-1]), (int(line is not None), said))
-        table.write_text("nothing\n", encoding="utf-8")
-        message = f"test: {table}, line 1: a row has the gas, the number of the call and the list\n"
-        self.assertEqual(called(*words), (2, "", message))
+        table.write_text("5 0 a.list\n", encoding="utf-8")
+        message = "a row has the gas, the list, the block, the input and the call, with tabs between; --write makes the table again"
+        self.assertEqual(called(*words), (2, "", f"test: {table}, line 1: {message}\n"))
 
     def test_a_table_is_not_written_if_a_test_fails(self) -> None:
         path, table = self.write("a.list", LIST.replace('"hi"', '"ho"')), self.folder / "gas"

@@ -52,8 +52,10 @@ piece around the first byte that differs is printed. A key of a table is printed
 `shape` by its fields, with the name of the first one that differs.
 With --json an object of JSON is printed in place of each such line, with the gas of all calls, and one for the sums.
 
---gas FILE compares the gas of each call with its row in FILE: the gas, the number of the call, and the list. It prints calls that
-differ by more than --within percent, and those that only FILE or only the lists have. --write makes FILE again, if all tests pass.
+--gas FILE compares the gas of each call with its row in FILE: the gas, the list, the block, the name of the input by the lines
+`shape input`, and the text of the call. So a new call changes no other row. It prints calls that differ by more than --within
+percent, those that only FILE or only the lists have, and for each input of a list the least, mean and most gas. --write makes FILE
+again, if all tests pass.
 
 The status is 0 if all tests pass, 1 if one fails or gas differs, and 2 if a list, FILE or the command line is wrong or there is no
 rvstm; then no test is run."""
@@ -100,10 +102,12 @@ def ended(given: argparse.Namespace, tried: Sequence[Tried], table: GasTable | N
         differences = list(table.differences(rows, tried, given.within))
     if given.junit:
         junit.write(given.junit, tried, differences, f"{table.path}" if table and not given.write else "")
+    inputs = table.inputs_of(tried) if table else []
     if given.json:
-        lines = [*map(reports.json_of_gas, differences), reports.json_of_sums(sums)]
+        lines = [*map(reports.json_of_gas, differences), *map(reports.json_of_input, inputs), reports.json_of_sums(sums)]
     else:
-        lines = [*notes, *reports.lines_of_gas(differences, f"{given.gas}", given.within), f"{sums}"]
+        gas = reports.lines_of_gas(differences, f"{given.gas}", given.within)
+        lines = [*notes, *gas, *reports.lines_of_inputs(inputs), f"{sums}"]
     for line in lines:
         print(line)
     return Status.FAILED if sums.failed or differences else Status.DONE

@@ -5,7 +5,7 @@ import json
 from collections.abc import Iterable, Iterator, Sequence
 from dataclasses import asdict, dataclass
 
-from rvstm_tools.testing.gastables import GasDifference
+from rvstm_tools.testing.gastables import GasDifference, GasOfInput
 from rvstm_tools.testing.listed import CallPart, ListedTest
 from rvstm_tools.testing.runs import Miss
 from rvstm_tools.testing.testers import Tried
@@ -92,6 +92,12 @@ def lines_of_gas(differences: Sequence[GasDifference], table: str, within: float
     yield from (f"    {difference.said()}" for difference in differences)
 
 
+def lines_of_inputs(inputs: Sequence[GasOfInput]) -> Iterator[str]:
+    if inputs:
+        yield "gas by input"
+    yield from (f"    {one.said()}" for one in inputs)
+
+
 # ---- JSON
 
 
@@ -114,8 +120,14 @@ def object_of_miss(test: ListedTest, miss: Miss) -> Object:
 
 def json_of_gas(difference: GasDifference) -> str:
     """A difference of gas as an object of JSON; `was` or `gas` is null if the table or the list does not have the call."""
-    row: Object = {"kind": "gas", "list": difference.of.list, "call": difference.of.call}
+    of = difference.of
+    row: Object = {"kind": "gas", "list": of.list, "block": of.block, "input": of.input, "call": of.text}
     return json.dumps(row | {"was": difference.was, "gas": difference.gas})
+
+
+def json_of_input(of: GasOfInput) -> str:
+    row: Object = {"kind": "input", "list": of.list, "input": of.input, "calls": len(of.gas)}
+    return json.dumps(row | {"least": min(of.gas), "mean": of.mean, "most": max(of.gas)})
 
 
 def json_of_sums(sums: Sums) -> str:
