@@ -7,7 +7,7 @@ _rvstm_tools() {
     fi
     case ${COMP_WORDS[1]} in
     block) options="--help --out" ;;
-    conflicts) options="--help --program --preview --list --svg" ;;
+    conflicts) options="--help --program --preview --list --block --svg" ;;
     coverage) options="--help --program --preview --lcov --sdk" ;;
     example) options="--help" ;;
     explore) options="--help --program --preview --seed --jobs --calls --seconds --length --strict --out --folder --replace" ;;

@@ -25,6 +25,11 @@ BUGS = {
 
 PARTS = {"votes.c": ("#include", "parts.h", '#include "parts.h"\n'), "src/main.rs": ("use contract", "src/parts.rs", 'include!("parts.rs");\n')}
 """Of each source before which text it is cut, the file that has the rest then, and the line that takes it in."""
+ENDS = {
+    "votes.c": ('REVERT("unknown request")', 'REVERT("no request")'),
+    "src/main.rs": ('return Err("unknown request")', 'panic!("no request")'),
+}
+"""Of each source a line at which a call reverts, and what is put there."""
 SECOND = {"votes.c": "second.c", "src/main.rs": "src/bin/second.rs"}
 
 
@@ -61,9 +66,13 @@ def made_again(folder: Path, source: str, more: dict[str, str]) -> None:
     path.write_text(head + line, encoding="utf-8")
     written(folder / parts, begin + rest)
     same(command(["make", "-s"], folder, more=more).done().splitlines()[-1], PASSED)
-    written(folder / parts, (begin + rest).replace("unknown request", "no request"))
+    right, wrong = ENDS[source]
+    written(folder / parts, (begin + rest).replace(right, wrong))
     failed = command(["make", "-s"], folder, more=more)
     same((failed.status, failed.out.splitlines()[-1]), (2, "1 test: 0 passed, 1 failed; 4 calls, 12 expectations, 1 not met"))
+    number = (begin + rest).partition(right)[0].count("\n") + 1
+    ended = f"        ended   reverted at {Path(parts).name}:{number} in "
+    holds(f"\n{ended}" in failed.out, failed.out, ended)
     path.write_text(text, encoding="utf-8")
     second = folder / SECOND[source]
     second.parent.mkdir(exist_ok=True)
@@ -72,6 +81,16 @@ def made_again(folder: Path, source: str, more: dict[str, str]) -> None:
     written(folder / "second.list", votes.replace("program votes votes.elf", "program votes second.elf"))
     both = command(["make", "-s"], folder, more=more).done().splitlines()
     same(both[-1], "2 tests: 2 passed, 0 failed; 8 calls, 24 expectations, 0 not met")
+
+
+def too_long(run: Run) -> None:
+    """A value that is too long for the rules: the test says so, with the line and its size."""
+    written(run.place / "long.c", '#include "contract.h"\nvoid contract(const u8 *input, u32 length) {\n    storage_write(input, input, 88);\n}\n')
+    written(run.place / "long.list", "program long long.elf\ncall long 900 key:a\nexpect returned\n")
+    command(["make", "-s", "-f", TOP / "sdk/Makefile", "long.elf", "long.lines.elf"], run.place).done()
+    came = tool(run, "test", "long.list", folder=run.place).out
+    wanted = "        ended   bad-length at long.c:3 in contract, gas N: a WRITE of 88 bytes: at most 64 under rules 1\n"
+    holds(wanted in re.sub(r"gas \d+:", "gas N:", came), came, wanted)
 
 
 def with_symbol(program: bytes, name: bytes, header_size: int = SECTION_SIZE, sections: int = 4) -> bytes:
@@ -110,6 +129,7 @@ def cases() -> list[Case]:
     needs = (*CONTRACTS, Tool.LLVM)
     return [
         Case("programs of strangers", programs_of_strangers),
+        Case("a value that is too long", too_long, needs, cost=2),
         Case("a new contract in C", partial(new_contract, source="votes.c"), needs, cost=5),
         Case("a new contract in Rust", partial(new_contract, source="src/main.rs", options=("--rust",)), (Tool.LLVM, Tool.MAKE), seconds=300, cost=20),
     ]

@@ -69,6 +69,8 @@ failed  PATH: 3 calls, expectations: 1 of 7 not met
         line 6: expect returned u64:9
         wanted  returned  0900000000000000  9
         came    returned  0800000000000000  8
+        ended   returned at PC, gas N
+        more    rvstm-tools trace PATH --call 1
 1 test: 0 passed, 1 failed; 3 calls, 7 expectations, 1 not met
 """
 NEW_STATE = "rules 1\nheight 0\nkeys 0\nprograms 0\nframe-limit 67108864\nframe-gas none\nbrief 0\n"
@@ -221,7 +223,8 @@ def test_that_fails(run: Run) -> None:
     """A list of which one expectation is not met, as the page of contracts has it, and one whose program is refused."""
     path = written(run.place / "votes.list", VOTES.replace("tally.elf", f"{EXAMPLES}/tally/tally.elf"))
     came = tool(run, "test", path)
-    same((came.status, came.out, came.errors), (1, VOTES_TESTED.replace("PATH", str(path)), ""))
+    out = re.sub(r"returned at [0-9a-f]{8}, gas \d+", "returned at PC, gas N", came.out)
+    same((came.status, out, came.errors), (1, VOTES_TESTED.replace("PATH", str(path)), ""))
     written(run.place / "a.elf", "no program")
     path = written(run.place / "no.list", 'program a a.elf\nstore key:1 u8:7\ncall a 9 "hi"\nexpect returned "hi"\n')
     came = tool(run, "test", path)
@@ -268,6 +271,11 @@ def picture(run: Run) -> None:
     made = run.place / "waits.svg"
     tool(run, "conflicts", "counter.block", "--svg", made, folder=COUNTER).done()
     same(xml.etree.ElementTree.parse(made).getroot().tag, "{http://www.w3.org/2000/svg}svg")
+    tool(run, "conflicts", LOCK / "later.list", "--block", "2", "--svg", made, folder=run.place).done()
+    holds("later.list: 2 calls" in made.read_text(encoding="utf-8"), "another picture", "two calls of the third block")
+    for words in ((), ("--block", "3")):
+        several = tool(run, "conflicts", "later.list", "--svg", made, *words, folder=LOCK)
+        same((several.status, several.errors), (1, "conflicts: later.list: it has 3 blocks; --block N names one, from 0\n"))
 
 
 def schedule(run: Run) -> None:
@@ -284,6 +292,11 @@ def trace(run: Run) -> None:
     """The storage calls and the gas of a call."""
     wanted = "call 2 of token.block: reverted, 91 steps, gas 352 of 5000, pc 00010450\n..\n"
     printed(tool(run, "trace", "token.block", "--call", "2", folder=TOKEN).done(), wanted)
+    printed(tool(run, "trace", TOKEN / "token.list", "--call", "2", folder=run.place).done(), wanted.replace("block", "list"))
+    later = tool(run, "trace", LOCK / "later.list", "--call", "3", folder=run.place).done()
+    holds(later.startswith("call 3 of later.list: returned, ") and "\nopen(gate)" not in later, later, "the call of the third block")
+    none = tool(run, "trace", "later.list", "--call", "5", folder=LOCK)
+    same((none.status, none.errors), (1, "trace: later.list: there is no call 5; its 5 calls count from 0\n"))
 
 
 def coverage(run: Run) -> None:
@@ -304,7 +317,9 @@ def gdb(run: Run) -> None:
     """A packet of gdb's protocol: why the call stops, which it does at its first instruction, by signal 5."""
     done = tool(run, "gdb", "counter.block", "--call", "0", folder=COUNTER, data="+$?#3f")
     trapped = f"{signal.SIGTRAP:02x}"
-    holds(bool(re.match(rf"\+\$[ST]{trapped}.*#[0-9a-f]{{2}}", done.out)), done.out, f"+$S{trapped}#.. or +$T{trapped}..#..")
+    listed = tool(run, "gdb", LOCK / "later.list", "--call", "4", folder=run.place, data="+$?#3f")
+    for out in (done.out, listed.out):
+        holds(bool(re.match(rf"\+\$[ST]{trapped}.*#[0-9a-f]{{2}}", out)), out, f"+$S{trapped}#.. or +$T{trapped}..#..")
 
 
 def verify(run: Run) -> None:
@@ -393,7 +408,7 @@ def typed_blocks(run: Run) -> None:
     one, other, several = BLOCKS
     typed = f"{one}{other}block\n{several}get key:node.clock\nrun\nstate\n"
     came = command([*tool_words("session"), "--store", path, "--shapes", "lock.list"], folder, typed, {"RVSTM": str(run.program)}).done()
-    shown = re.findall(r'^ +(?:\d  (\w+) +\d+  \w+  (?:\w+  )?|("node.clock"|height):? )(.*)$', came, re.M)
+    shown = re.findall(r'^ +(?:\d  (\w+) +\d+  \w+  (?:\w+  )?|("node.clock"|height):? )(.*?)(?:  [0-9a-f]{9,})?$', came, re.M)
     clock, ends = ("", '"node.clock"', "seconds 1000"), [("returned", "", "-"), ("returned", "", "1000"), ("reverted", "", '"the name has no lock"')]
     same(shown, [clock, ends[0], clock, *ends[1:], ("", "height", "3")], came)
     lists = [written(run.place / f"{number}.list", f"program lock {folder}/lock.elf\n{text}") for number, text in enumerate(BLOCKS)]

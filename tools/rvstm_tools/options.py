@@ -103,8 +103,8 @@ def program_choice(given: argparse.Namespace) -> ProgramChoice:
 
 LIST = argument("--list", metavar="LIST", help="a list: keys are printed by its words table: and row:, values by its lines shape")
 CALL = (
-    argument("file", metavar="FILE", help="a block file; it and its programs are taken from the current folder"),
-    argument("--call", type=int, required=True, metavar="N", help="the number of the call, from 0"),
+    argument("file", metavar="FILE", help="a block file, whose programs are taken from the current folder, or a list"),
+    argument("--call", type=int, required=True, metavar="N", help="the number of the call, from 0; in a list through all of its blocks"),
 )
 SEED = argument("--seed", type=int, default=1, metavar="N", help="another number draws other things (1)")
 JOBS = argument(
@@ -112,5 +112,5 @@ JOBS = argument(
 )
 
 
-def view(given: argparse.Namespace) -> View:
-    return lists.read_list(given.list).view if given.list is not None else View()
+def view(given: argparse.Namespace) -> View | None:
+    return None if given.list is None else lists.read_list(given.list).view

@@ -14,13 +14,13 @@ class Shown(unittest.TestCase):
         cases = {
             b"": "-",
             b"\0": "00  0",
-            b"A": '41  65  "A"',
+            b"A": '"A"  41  65',
             b"\x2c\1": "2c01  300",
-            b"abc": '616263  "abc"',
+            b"abc": '"abc"  616263',
             b"\1\0\0\0\0\0\0\x80": "0100000000000080  9223372036854775809",
             b"a\nb": "610a62",
             b"\x7f\x7f\x7f": "7f7f7f",
-            b' "~': '20227e  " "~"',
+            b' "~': '" "~"  20227e',
         }
         for data, wanted in cases.items():
             with self.subTest(data):
@@ -47,7 +47,7 @@ class Shown(unittest.TestCase):
 
 class OfBytes(unittest.TestCase):
     def test_short_ones_are_in_full(self) -> None:
-        self.assertEqual(differences.of_bytes(b"no", b""), Difference('6e6f  28526  "no"', "-"))
+        self.assertEqual(differences.of_bytes(b"no", b""), Difference('"no"  6e6f  28526', "-"))
         self.assertEqual(differences.of_bytes(bytes(40), bytes(39)), Difference("00" * 40, "00" * 39))
 
     def test_of_long_ones_a_piece_is_around_the_place(self) -> None:
@@ -59,7 +59,7 @@ class OfBytes(unittest.TestCase):
 
     def test_one_is_the_beginning_of_the_other(self) -> None:
         found = differences.of_bytes(b"x" * 41, b"x" * 40)
-        self.assertEqual(found, Difference('..7878787878  "..xxxxx"  (41 bytes)', '..78787878  "..xxxx"  (40 bytes)', "at byte 40"))
+        self.assertEqual(found, Difference('"..xxxxx"  ..7878787878  (41 bytes)', '"..xxxx"  ..78787878  (40 bytes)', "at byte 40"))
 
     def test_they_part_at_the_beginning(self) -> None:
         found = differences.of_bytes(b"a" + bytes(40), b"")

@@ -102,7 +102,7 @@ class AfterACall(unittest.TestCase):
 
     def test_missed(self) -> None:
         missed: list[tuple[Expectation[Receipt], Receipt, Difference]] = [
-            (EndsBy(End.RETURNED), receipt(End.REVERTED, b"no"), Difference("returned", 'reverted  6e6f  28526  "no"')),
+            (EndsBy(End.RETURNED), receipt(End.REVERTED, b"no"), Difference("returned", 'reverted  "no"  6e6f  28526')),
             (EndsBy(End.RETURNED, b""), receipt(End.ILLEGAL), Difference("returned  -", "trapped illegal")),
             (EndsBy(End.RETURNED, b""), receipt(output=b"\1"), Difference("returned  -", "returned  01  1")),
             (EndsBy(End.OUT_OF_GAS), receipt(), Difference("out-of-gas", "returned  -")),

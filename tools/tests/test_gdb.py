@@ -103,7 +103,7 @@ class Moves(Replayed):
 
     def test_to_the_end_and_back(self) -> None:
         self.assertEqual(self.ask("c"), stop(0x1000C, 60, "replaylog:end;"))
-        self.assertEqual(self.shown, ['call 0 of a.block: returned 6869  26984  "hi", 61 steps, gas 639\n'])
+        self.assertEqual(self.shown, ['call 0 of a.block: returned "hi"  6869  26984, 61 steps, gas 639\n'])
         self.assertEqual(self.ask("s"), stop(0x1000C, 60, "replaylog:end;"))
         self.assertEqual(self.ask("bc"), stop(0x10000, 0, "replaylog:begin;"))
 
@@ -174,7 +174,7 @@ class Questions(Replayed):
         self.assertEqual(self.ask("m100000,0"), "")
 
     def test_commands(self) -> None:
-        self.assertEqual(self.monitor("end"), 'call 0 of a.block: returned 6869  26984  "hi", 61 steps, gas 639\n')
+        self.assertEqual(self.monitor("end"), 'call 0 of a.block: returned "hi"  6869  26984, 61 steps, gas 639\n')
         self.assertEqual(self.monitor("go 7"), "moment 7 of 60, pc 00010004\n")
         self.assertEqual(self.monitor("go 99"), "moment 60 of 60, pc 0001000c\n")
         self.assertEqual(self.monitor("value key:a"), '"a": 05  5\n')

@@ -76,7 +76,7 @@ class Replayed(InFolder):
         self.assertEqual(read.text(View()), 'READ "a" up to 64 bytes: 0a0b0c')
         self.assertEqual(read.text(View({Key(b"a".ljust(32, b"\0")): "table:t:a"})), "READ table:t:a up to 64 bytes: 0a0b0c")
         self.assertEqual((read.moment, read.pc, read.gas, read.cost, read.answer), (1, 0x10010, 1, 200, 3))
-        self.assertEqual(back.text(View()), 'RETURN 6869  26984  "hi"')
+        self.assertEqual(back.text(View()), 'RETURN "hi"  6869  26984')
         self.assertEqual((back.moment, back.gas), (5, GAS - 12))
 
     def test_what_a_read_copies_costs_under_later_rules(self) -> None:
@@ -110,7 +110,7 @@ class Replayed(InFolder):
             "    step  gas before      gas  pc        call",
             '       1           1      200  00010010  READ "a" up to 64 bytes: 0a0b0c',
             f"{'':41}start > vote",
-            f'       5         208       12  00010008  RETURN 6869  26984  "hi"',
+            f'       5         208       12  00010008  RETURN "hi"  6869  26984',
             f"{'':41}start a.c:8",
         ])
         self.assertEqual(list(traces.sum_lines(traces.bars_of(replay, places, "call 0"))), [
@@ -169,7 +169,7 @@ class Lines(unittest.TestCase):
             (0, None, 0, None, "READ 00 up to 9 bytes: no answer"), (0, None, 0, 2**32 - 1, "READ 00 up to 9 bytes: absent"),
             (0, None, 0, 2**32 - 2, "READ 00 up to 9 bytes: longer"), (0, None, 0, 5, "READ 00 up to 9 bytes: outside memory"),
             (1, b"", 0, None, "WRITE 00: -"), (1, None, 0, None, "WRITE 00: outside memory"), (2, None, 0, None, "REMOVE 00"),
-            (5, None, 2**64 - 1, None, "ADD 00: +18446744073709551615"), (4, b"no", 0, None, 'REVERT 6e6f  28526  "no"'),
+            (5, None, 2**64 - 1, None, "ADD 00: +18446744073709551615"), (4, b"no", 0, None, 'REVERT "no"  6e6f  28526'),
             (6, None, 0, None, "ECALL 6"), (2**32 - 1, None, 0, None, "ECALL 4294967295"),
         ):
             with self.subTest(text):

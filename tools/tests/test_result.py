@@ -28,13 +28,13 @@ end
 TABLE = """\
 call  end                   gas  pc        output
    0  returned              639  00010034  07000000  7
-      wrote "alice": 6869  26984  "hi"
+      wrote "alice": "hi"  6869  26984
       wrote 00: +18446744073709551615
    1  out-of-gas       10000000  00010000  -
-   2  reverted               12  0001ffff  6e6f21  "no!"
+   2  reverted               12  0001ffff  "no!"  6e6f21
       wrote 00: gone
 storage
-      "alice": 6869  26984  "hi"
+      "alice": "hi"  6869  26984
       ffffffffffffffffffffffffffffffffffffffffffffffffffffffffffffffff: -
 """
 ROWS_OF_REGISTERS = """\

@@ -8,16 +8,18 @@ from unittest import mock
 
 from rvstm_tools.errors import UserError
 from rvstm_tools.programs.running import Printed
-from rvstm_tools.testing import listed, reports, testers
+from rvstm_tools.testing import causes, listed, reports, testers
 from rvstm_tools.testing.listed import CallPart, ListedTest, StoragePart
 from rvstm_tools.testing.testers import Tester
+from rvstm_tools.texts.blocks import Rules
 from rvstm_tools.texts.expectations import CostsAtMost, EndsBy, Holds
 from rvstm_tools.texts.keys import numbered_key
 from rvstm_tools.texts.lists import STORAGE
-from rvstm_tools.texts.results import End
+from rvstm_tools.texts.results import End, Receipt
 from tests.helpers import FakeProgram, InFolder
 
 KEY = "0" * 63 + "1"
+ENDED = ["        ended   returned at 00010000, gas 5", "        more    rvstm-tools trace a.list --call 0"]
 BEGIN = "program a a.elf\ncall a 9\n"
 
 
@@ -96,7 +98,7 @@ class Running(InFolderWithProgram):
             "        came    returned  07  7",
             "        line 5: expect no other write",
             "        wanted  no other write",
-            f"        came    {KEY}: 01  1",
+            f"        came    {KEY}: 01  1", *ENDED,
             "    storage",
             "        line 7: expect key:1 gone",
             "        wanted  gone",
@@ -112,7 +114,8 @@ class Running(InFolderWithProgram):
         said = self.tried(content, program)
         self.assertEqual(said[0], "failed  a.list: 2 calls, expectations: 2 of 5 not met")
         self.assertEqual(said[1:4], ["    line 6, call 1: call a 8", "        line 7: expect gas at most 5", "        wanted  gas at most 5"])
-        self.assertEqual(said[5:8], ["    storage", "        line 10: expect key:1 u8:1", "        wanted  01  1"])
+        self.assertEqual(said[5:7], ["        ended   returned at 00010000, gas 6", "        more    rvstm-tools trace a.list --call 1"])
+        self.assertEqual(said[7:10], ["    storage", "        line 10: expect key:1 u8:1", "        wanted  01  1"])
         second = f"rvblock 1\nprogram 0 a.elf\nstore {KEY} 01\nstore {KEY[:-1]}2 02\ncall 0 8 -\n"
         self.assertEqual(program.blocks, ["rvblock 1\nprogram 0 a.elf\ncall 0 9 -\n", second])
         refused = FakeProgram([Printed(result()), Printed("", "rvstm: seq Memory 1")])
@@ -127,8 +130,23 @@ class Running(InFolderWithProgram):
             "        came    call 0 returned gas 6 pc 00010000 out 07",
             "        line 4: expect same by 3 workers",
             "        wanted  `rvstm seq` prints  call 0 returned gas 5 pc 00010000 out 07",
-            "        came    rvstm: run Memory 5",
+            "        came    rvstm: run Memory 5", *ENDED,
         ])
+
+    def test_sizes_that_are_too_large(self) -> None:
+        """By the registers of the call: a7 is the number, and a1 or a2 the length."""
+        for rules, end, number, second, third, wanted in (
+            (1, End.BAD_LENGTH, 1, 0, 88, "a WRITE of 88 bytes: at most 64 under rules 1"),
+            (2, End.BAD_LENGTH, 0, 0, 300, "a READ of up to 300 bytes: at most 256 under rules 2"),
+            (1, End.BAD_LENGTH, 4, 257, 0, "a REVERT of 257 bytes: at most 256"),
+            (2, End.UNKNOWN_CALL, 5, 0, 0, "the storage call ADD, under rules 2"),
+            (3, End.UNKNOWN_CALL, 6, 0, 0, "the storage call 6, under rules 3"),
+            (1, End.TOO_MANY_WRITES, 1, 0, 8, "a key more than 256, the most that a call changes"),
+            (1, End.RETURNED, 3, 8, 0, ""),
+        ):
+            registers = [0] * 32
+            registers[11], registers[12], registers[17] = second, third, number
+            self.assertEqual(causes.size_of(Receipt(0, end, 5, 0, b"", tuple(registers)), Rules(rules)), wanted)
 
     def test_a_refused_program_is_told_with_its_line(self) -> None:
         said = self.tried(f"# one\n{BEGIN}expect returned\n", FakeProgram(Printed("", "rvstm: elf BadMagic 2")))

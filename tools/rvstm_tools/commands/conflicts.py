@@ -6,10 +6,11 @@ from rvstm_tools.errors import Status
 from rvstm_tools.options import Command, argument
 from rvstm_tools.pictures.waits import Picture
 from rvstm_tools.programs import finding, running
+from rvstm_tools.programs.blockfiles import of_block
 from rvstm_tools.texts import conflicts
 
 DETAILS = """\
-`rvstm conflicts` finds the waits. FILE and its programs are taken from the current folder.
+`rvstm conflicts` finds the waits. Programs of a block file are taken from the current folder, those of a list from its folder.
 
 A call is a bar, as wide as its gas. It is right of all calls that it waits for, and a line leads to it from each of them.
 The lines of the keys with the most waits have colours, which are explained below them. The calls of the longest path are
@@ -23,8 +24,10 @@ The status is 0 if the picture is drawn, 1 if the block is refused or a file can
 def run(given: argparse.Namespace) -> int:
     view = options.view(given)
     program = finding.chosen(options.program_choice(given), "conflicts")
-    found = conflicts.conflicts_of(running.run_file(program, "conflicts", given.file))
-    given.svg.write_text(Picture(Path(given.file).name, found, view).svg(), encoding="ascii", errors="xmlcharrefreplace")
+    with of_block(program, given.file, given.block, view) as block:
+        found = conflicts.conflicts_of(running.run_file(program, "conflicts", block.path, block.folder))
+    picture = Picture(Path(given.file).name, found, block.view).svg()
+    given.svg.write_text(picture, encoding="ascii", errors="xmlcharrefreplace")
     return Status.DONE
 
 
@@ -36,7 +39,8 @@ COMMAND = Command(
     arguments=(
         options.add_program,
         options.LIST,
-        argument("file", metavar="FILE", help="a block file"),
+        argument("file", metavar="FILE", help="a block file, or a list"),
+        argument("--block", type=options.number(0, 2**63 - 1), metavar="N", help="the block of a list that has several, from 0"),
         argument("--svg", type=Path, required=True, metavar="OUT", help="a file for the picture"),
     ),
 )

@@ -8,7 +8,7 @@ from rvstm_tools import options
 from rvstm_tools.debugging import coverage
 from rvstm_tools.debugging.coverage import Covered, SourceFile, Steps
 from rvstm_tools.debugging.sessions import CallOf
-from rvstm_tools.errors import Status, UserError
+from rvstm_tools.errors import Status
 from rvstm_tools.options import Command, argument
 from rvstm_tools.programs import finding, running
 from rvstm_tools.programs.running import Program
@@ -78,9 +78,7 @@ def add_list(program: Program, path: Path, file: ListFile, programs: defaultdict
     """Replays each call of a list, and adds it to the steps of its program."""
     folder = path.parent
     for block, run in zip(file.blocks, running.in_turn(program, file.blocks, folder)):
-        if refusal := run.printed.refusal:
-            refused = running.refused_path(program, block.paths(), refusal, folder)
-            raise UserError(f"{path}{f', {refused}' if refused else ''}: {refusal}")
+        running.check_of_list(program, path, block, run)
         with running.temporary_file(run.text, ".block") as made:
             for number, call in enumerate(block.calls):
                 steps = programs[os.path.abspath(folder / block.programs[call.program].path)]

@@ -9,6 +9,8 @@ from rvstm_tools.debugging.sessions import CallOf
 from rvstm_tools.errors import Status, UserError
 from rvstm_tools.options import Command
 from rvstm_tools.programs import finding, running
+from rvstm_tools.programs.blockfiles import GivenBlock, of_call
+from rvstm_tools.programs.running import Program
 
 DETAILS = """\
 It speaks gdb's remote protocol over standard input and output, and drives sessions of `rvstm debug`. gdb starts it:
@@ -45,20 +47,23 @@ command line."""
 
 def run(given: argparse.Namespace) -> int:
     program = finding.chosen(options.program_choice(given), "gdb")
-    view = options.view(given)
+    with of_call(program, given.file, given.call, options.view(given)) as block:
+        serve(program, block)
+    return Status.DONE
 
+
+def serve(program: Program, block: GivenBlock) -> None:
     def open_call(hear: Callable[[], None]) -> Call:
         try:
-            return Call(CallOf(program.path, given.file, given.call), view, hear)
+            return Call(CallOf(program.path, block.path, block.call, block.folder), block.view, hear)
         except UserError as error:
-            raise UserError(running.placed_refusal(program, given.file, str(error))) from error
+            raise UserError(running.placed_refusal(program, block.path, str(error))) from error
 
     server = Server(Wire(), open_call)
     try:
         server.serve()
     finally:
         server.close()
-    return Status.DONE
 
 
 COMMAND = Command(

@@ -7,6 +7,7 @@ from rvstm_tools import options
 from rvstm_tools.errors import Status
 from rvstm_tools.options import Command, argument
 from rvstm_tools.texts import objects, result_schema, results, tables
+from rvstm_tools.texts.views import View
 
 DETAILS = """\
 It reads a result from standard input, as rvstm prints it: each call, what it wrote, and the storage.
@@ -22,7 +23,7 @@ def run(given: argparse.Namespace) -> int:
     if given.schema:
         print(json.dumps(result_schema.SCHEMA, indent=2))
         return Status.DONE
-    view = options.view(given)
+    view = options.view(given) or View()
     if isinstance(sys.stdin, io.TextIOWrapper):
         sys.stdin.reconfigure(encoding="ascii", errors="backslashreplace")
     items = results.items_of(sys.stdin)

@@ -12,7 +12,8 @@ from rvstm_tools.debugging import charges
 from rvstm_tools.options import Command, argument
 from rvstm_tools.pictures import flames
 from rvstm_tools.programs import finding, running
-from rvstm_tools.programs.running import Runner
+from rvstm_tools.programs.blockfiles import GivenBlock, of_call
+from rvstm_tools.programs.running import Program
 from rvstm_tools.texts import blockfiles, results
 from rvstm_tools.texts.results import Receipt
 
@@ -21,9 +22,9 @@ It prints the storage calls of the call, and its gas by function. `rvstm debug` 
 
 For each storage call it prints its step, the gas before it, its own gas, its address, what it is given and what it answers. The
 line below has the functions that it is in, the innermost last, each with its line of the source. Then it prints the gas of each
-function: of its own instructions, most first, and with all that it calls. A storage call counts as a function. With --list, keys,
-values and the input of the call are shown by the words and the lines `shape` of the list. --svg draws the gas as a flame graph: a
-bar is as wide as the gas of the function with all that it calls, and is on the bar of its caller.
+function: of its own instructions, most first, and with all that it calls. A storage call counts as a function. Of a list, or
+with --list, keys, values and the input of the call are shown by the words and the lines `shape`. --svg draws the gas as a flame
+graph: a bar is as wide as the gas of the function with all that it calls, and is on the bar of its caller.
 
 Functions and lines come from ELF, the program with its symbols and the lines of its source, which the SDK makes:
 
@@ -41,12 +42,18 @@ printed, 1 if the block is refused or a file cannot be read, and 2 for a wrong c
 
 def run(given: argparse.Namespace) -> int:
     program = finding.chosen(options.program_choice(given), "trace")
-    view = options.view(given)
-    receipt = receipt_of(program, given.file, given.call)
-    head = blockfiles.head_of_call(given.file, given.call)
-    replay = Replay(CallOf(program.path, given.file, given.call), head.rules)
+    with of_call(program, given.file, given.call, options.view(given)) as block:
+        trace(given, program, block)
+    return Status.DONE
+
+
+def trace(given: argparse.Namespace, program: Program, block: GivenBlock) -> None:
+    view = block.view
+    receipt = receipt_of(program, block)
+    head = blockfiles.head_of_call(block.path, block.call)
+    replay = Replay(CallOf(program.path, block.path, block.call, block.folder), head.rules)
     replay.end_by(receipt, head.limit)
-    places = Places(head.program, given.lines, replay.addresses())
+    places = Places(str(block.folder / head.program), given.lines, replay.addresses())
     title = f"call {given.call} of {os.path.basename(given.file)}"
     root = traces.bars_of(replay, places, title)
     for line in (
@@ -58,14 +65,13 @@ def run(given: argparse.Namespace) -> int:
     if given.svg:
         picture = flames.svg(root, f"{title}: {receipt.end}, {receipt.gas:,} gas", charges.NAMES)
         given.svg.write_text(picture, encoding="utf-8")
-    return Status.DONE
 
 
-def receipt_of(runner: Runner, file: str, number: int) -> Receipt:
-    receipts = results.result_of(running.run_file(runner, "seq", file)).receipts
-    if number not in range(len(receipts)):
-        raise UserError(f"{file}: there is no call {number}; its {len(receipts)} calls count from 0")
-    return receipts[number]
+def receipt_of(program: Program, block: GivenBlock) -> Receipt:
+    receipts = results.result_of(running.run_file(program, "seq", block.path, block.folder)).receipts
+    if block.call not in range(len(receipts)):
+        raise UserError(f"{block.path}: there is no call {block.call}; its {len(receipts)} calls count from 0")
+    return receipts[block.call]
 
 
 COMMAND = Command(

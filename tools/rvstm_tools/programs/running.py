@@ -92,9 +92,16 @@ def in_turn(runner: Runner, of_list: Iterable[Block], folder: Path, paths: Seque
         storage = run.result.storage
 
 
-def run_file(runner: Runner, command: str, path: str) -> str:
+def check_of_list(runner: Runner, path: Path | str, block: Block, run: InTurn) -> None:
+    """Refuses a block of a list that rvstm refuses, with the program that it is for."""
+    if refusal := run.printed.refusal:
+        program = refused_path(runner, block.paths(), refusal, Path(path).parent)
+        raise UserError(f"{path}{f', {program}' if program else ''}: {refusal}")
+
+
+def run_file(runner: Runner, command: str, path: str, folder: Path = Path()) -> str:
     """What a command of rvstm prints for a block file. A refusal names the line and the program that it is for."""
-    printed = runner.run([command, path], Path())
+    printed = runner.run([command, path], folder)
     if printed.refusal:
         raise UserError(placed_refusal(runner, path, printed.refusal))
     return printed.text

@@ -19,7 +19,6 @@ from rvstm_tools.texts.lists import ListFile
 from rvstm_tools.texts.views import View
 
 HASH = re.compile("[0-9a-f]{64}")
-LISTS = ".list"  # How the name of a list ends. Every other file of a frame is a block file.
 MOST_KEYS = 1024  # of one answer to `list`
 FIRST_KEY = Key(bytes(KEY_LENGTH))
 NONE = "      none"
@@ -36,7 +35,7 @@ class FrameFile:
 
 def read_frames(path: Path) -> FrameFile:
     """The frames of a file, and their programs. Paths of programs are taken from the folder of the file."""
-    if path.suffix != LISTS:
+    if not lists.is_list(path):
         return FrameFile(path, [frames.named(path.read_bytes(), path.parent)])
     file = lists.read_list(str(path))
     for program in file.blocks[0].paths():

@@ -2,6 +2,7 @@
 
 import itertools
 import json
+import shlex
 from collections.abc import Iterable, Iterator, Sequence
 from dataclasses import asdict, dataclass
 
@@ -59,12 +60,13 @@ def lines_of_run(run: Tried) -> Iterator[str]:
 def lines_of_failure(run: Tried) -> Iterator[str]:
     if run.refusal:
         yield f"        {run.refusal}"
-    yield from lines_of_misses(run.test, run.misses)
+    yield from lines_of_misses(run)
 
 
-def lines_of_misses(test: ListedTest, misses: Sequence[Miss]) -> Iterator[str]:
-    """The lines of some misses, those of a part below its call or `storage`."""
-    for _, group in itertools.groupby(misses, key=lambda miss: id(miss.part)):
+def lines_of_misses(run: Tried) -> Iterator[str]:
+    """The lines of the misses of a run, those of a part below its call or `storage`. Below them is how the call ended."""
+    test = run.test
+    for _, group in itertools.groupby(run.misses, key=lambda miss: id(miss.part)):
         of_part = list(group)
         part = of_part[0].part
         if isinstance(part, CallPart):
@@ -74,6 +76,10 @@ def lines_of_misses(test: ListedTest, misses: Sequence[Miss]) -> Iterator[str]:
             yield "    storage"
         for miss in of_part:
             yield from lines_of_miss(test, miss)
+        if isinstance(part, CallPart):
+            yield f"        ended   {run.ends[part.call]}"
+            if not run.planned.variant:
+                yield f"        more    rvstm-tools trace {shlex.quote(str(test.path))} --call {part.call}"
 
 
 def lines_of_miss(test: ListedTest, miss: Miss) -> Iterator[str]:
@@ -104,16 +110,16 @@ def lines_of_inputs(inputs: Sequence[GasOfInput]) -> Iterator[str]:
 def json_of_run(run: Tried) -> str:
     row: Object = {"kind": "test", "list": f"{run.test.path}", "variant": run.planned.variant, "passed": not run.missed}
     row |= {"calls": len(run.test.file.calls), "expectations": run.test.count(), "seconds": round(run.seconds, 3)}
-    row |= {"refusal": run.refusal, "gas": list(run.gas), "misses": [object_of_miss(run.test, miss) for miss in run.misses]}
+    row |= {"refusal": run.refusal, "gas": list(run.gas), "misses": [object_of_miss(run, miss) for miss in run.misses]}
     return json.dumps(row)
 
 
-def object_of_miss(test: ListedTest, miss: Miss) -> Object:
-    """A line that is not met as an object. `call` is the number of the call, null after `storage`."""
+def object_of_miss(run: Tried, miss: Miss) -> Object:
+    """A line that is not met as an object. `call` is the number of the call, and `ended` how it did; both are null after `storage`."""
     call = miss.part.call if isinstance(miss.part, CallPart) else None
     difference = miss.difference
     return {
-        "line": miss.line, "call": call, "expected": test.shown_line(miss.line),
+        "line": miss.line, "call": call, "ended": None if call is None else run.ends[call], "expected": run.test.shown_line(miss.line),
         "wanted": difference.wanted, "came": difference.came, "place": difference.place,
     }
 

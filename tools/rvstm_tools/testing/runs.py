@@ -2,14 +2,15 @@
 
 import functools
 import itertools
-from collections.abc import Iterator, Mapping, Sequence
+from collections.abc import Iterable, Iterator, Mapping, Sequence
 from dataclasses import dataclass
 from functools import cached_property
 from typing import TypeVar
 
 from rvstm_tools.errors import UserError
 from rvstm_tools.programs import running
-from rvstm_tools.programs.running import InTurn, Runner
+from rvstm_tools.programs.running import InTurn, Program, Runner
+from rvstm_tools.testing import causes
 from rvstm_tools.testing.listed import CallPart, ListedTest, StoragePart
 from rvstm_tools.texts.blocks import ProgramFile
 from rvstm_tools.texts.differences import Difference
@@ -61,6 +62,22 @@ class Run:
     def gas(self) -> dict[int, int]:
         """For each line `gas at most`, what gas its call cost."""
         return {number: self.receipts[part.call].gas for part in self.test.calls for number in part.gas_lines()}
+
+    def ends(self, misses: Iterable[Miss]) -> dict[int, str]:
+        """How the calls ended whose lines are not met."""
+        numbers = dict.fromkeys(miss.part.call for miss in misses if isinstance(miss.part, CallPart))
+        return {number: self._end_of(number) for number in numbers}
+
+    def _end_of(self, number: int) -> str:
+        at, in_block = self.test.file.place_of(number)
+        block, receipt = self.test.file.blocks[at], self.receipts[number]
+        paths = dict(zip(block.programs, self.programs, strict=True))
+        place = ""
+        if isinstance(self.runner, Program):
+            path = paths[block.calls[in_block].program].path
+            place = causes.place_of(self.runner.path, self.blocks[at], in_block, self.folder, path)
+        size = causes.size_of(receipt, block.rules)
+        return f"{receipt.end} at {place or f'{receipt.pc:08x}'}, gas {receipt.gas}{size and ': '}{size}"
 
     def _misses_of(
         self, part: CallPart | StoragePart, expectations: Mapping[int, Expectation[Subject]], subject: Subject,

@@ -30,6 +30,7 @@ class Tried:
     gas: Sequence[int]  # of each call, if it ran
     most_gas: Mapping[int, int]  # for each line `gas at most` what came
     seconds: float
+    ends: Mapping[int, str]  # how the calls ended whose lines are not met
 
     @property
     def test(self) -> ListedTest:
@@ -60,11 +61,11 @@ class Tester:
         begun = time.monotonic()
         run = Run(self.runner, plan.test, plan.test.programs_by(plan.variant))
         if run.refusal:
-            return Tried(plan, run.refusal, [], [], {}, time.monotonic() - begun)
+            return Tried(plan, run.refusal, [], [], {}, time.monotonic() - begun, {})
         most_gas = run.gas()
         misses = [miss for miss in run.misses() if not (self.is_update and miss.line in most_gas)]
         gas = [receipt.gas for receipt in run.receipts]
-        return Tried(plan, "", misses, gas, most_gas, time.monotonic() - begun)
+        return Tried(plan, "", misses, gas, most_gas, time.monotonic() - begun, run.ends(misses))
 
 
 def plans_of(test: ListedTest, variants: Sequence[str]) -> list[Planned]:

@@ -11,6 +11,7 @@ LONGEST_INPUT = 4096
 MOST_GAS = 10_000_000
 MOST_PROGRAMS = 64
 MOST_CALLS = 1024
+MOST_KEYS = 256  # that a call changes
 
 
 class Rules(enum.IntEnum):

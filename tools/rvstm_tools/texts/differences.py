@@ -40,10 +40,8 @@ def piece_of_bytes(data: bytes, place: int) -> str:
     start = max(0, place - BYTES_BEFORE)
     part = data[start : start + PIECE_BYTES]
     before, after = dots(start, start + PIECE_BYTES, len(data))
-    words = [f"{before}{part.hex()}{after}"]
-    if part and shown.is_printable(part):
-        words.append(f'"{before}{part.decode()}{after}"')
-    return "  ".join([*words, f"({len(data)} bytes)"])
+    text = [f'"{before}{part.decode()}{after}"'] if part and shown.is_printable(part) else []
+    return "  ".join([*text, f"{before}{part.hex()}{after}", f"({len(data)} bytes)"])
 
 
 def piece_of_text(text: str, place: int) -> str:

@@ -5,6 +5,7 @@ import re
 from collections.abc import Callable, Iterator
 from contextlib import contextmanager
 from dataclasses import dataclass, field
+from pathlib import Path
 
 from rvstm_tools import errors
 from rvstm_tools.errors import UserError
@@ -13,6 +14,7 @@ from rvstm_tools.texts.blocks import Block, Call, ProgramFile, Rules
 from rvstm_tools.texts.keys import Key, Storage
 from rvstm_tools.texts.views import View
 
+LISTS = ".list"  # how the name of a list ends
 PATH = re.compile("[!-~]+")
 GAS = re.compile("[1-9][0-9]*")
 KINDS = "rules, program, shape, store, call, block, expect or storage"
@@ -62,6 +64,20 @@ class ListFile:
 def is_dump(line: Line) -> bool:
     """Whether a line names the file of the storage before the block."""
     return line.kind == "storage" and len(line.words) > 1
+
+
+def is_list(path: Path | str) -> bool:
+    """Whether a file is a list, by its name. Every other file that may be in its place is a block file."""
+    return str(path).endswith(LISTS)
+
+
+@contextmanager
+def named(path: str) -> Iterator[None]:
+    """Says of what is wrong within it in which file that is."""
+    try:
+        yield
+    except UserError as error:
+        raise UserError(f"{path}: {error}") from error
 
 
 @contextmanager

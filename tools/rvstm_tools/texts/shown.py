@@ -16,14 +16,13 @@ def is_name(data: bytes) -> bool:
 
 
 def shown_bytes(data: bytes) -> str:
-    """Bytes in hex, and after it the number or the text that they may be."""
+    """Bytes as a text, if they may be one, in hex, and as a number, if they may be one."""
     if not data:
         return "-"
-    words = [data.hex()]
+    words = [f'"{data.decode()}"'] if is_printable(data) else []
+    words.append(data.hex())
     if len(data) in NUMBER_SIZES:
         words.append(str(int.from_bytes(data, "little")))
-    if is_printable(data):
-        words.append(f'"{data.decode()}"')
     return "  ".join(words)
 
 
