@@ -95,7 +95,8 @@ def lists(run: Run) -> None:
 
 def described(run: Run, name: str, program: str) -> None:
     """A description, with the program of one compiler: nothing is broken."""
-    words = ("--seconds", "1", "--jobs", "1", "--seed", str(run.setting.seed % 1000), "--replace", f"{name}={EXAMPLES / program}")
+    limit = ("--calls", "100") if name in SLOW else ("--seconds", "1")  # so that some call returns
+    words = (*limit, "--jobs", "1", "--seed", str(run.setting.seed % 1000), "--replace", f"{name}={EXAMPLES / program}")
     done = tool(run, "explore", EXAMPLES / name / f"{name}.explore", *words).done()
     same(done.splitlines()[-1], "nothing is broken")
 
@@ -128,6 +129,20 @@ def modelled(run: Run) -> None:
     same(len(re.findall("^call ", found.read_text(encoding="utf-8"), re.M)), 2, "calls that are left")
     again = tool(run, "explore", EXPLORED / "bank.explore", *words).out.splitlines()[0]
     holds(again.startswith(f"still broken by the calls of {found}: line 8: method deposit: "), again, "what was found before")
+
+
+def reached_later(run: Run) -> None:
+    """Random calls reach the last claim of a payment, whose end has come, and leave a test of two blocks."""
+    rule = "returned balance[who] == before.balance[who] + number(output)\n"
+    text = (EXAMPLES / "vault/vault.explore").read_text(encoding="utf-8").replace("vault.elf", f"{EXAMPLES}/vault/vault.elf")
+    same(text.count(rule), 1, rule)
+    path = written(run.place / "late.explore", text.replace(rule, f"{rule}returned number(output) == 0 or (who, place) in left\n"))
+    found = run.place / "found.list"
+    same(tool(run, "explore", path, "--out", found, "--jobs", "2", "--seed", "1").status, 1, "explore")
+    lines = found.read_text(encoding="utf-8").splitlines()
+    kinds = [line.split()[0] for line in lines if line.startswith(("call ", "block"))]
+    same(kinds, ["call", "block", "call"], "what is left")
+    same(tool(run, "test", found).status, 0, "the list as a test")
 
 
 def traced(run: Run, name: str) -> None:
@@ -307,6 +322,7 @@ def cases() -> list[Case]:
     found += [Case(f"example {name} from its list", partial(block_of_list, name=name)) for name in listed]
     found += [Case(f"example {name} traced", partial(traced, name=name), cost=4, needs_speed=name in SLOW) for name in listed]
     found += [Case(f"description {name} with {program}", partial(described, name=name, program=program), cost=2) for name, program in programs]
+    found.append(Case("a deadline that random calls reach", reached_later, cost=5))
     found.append(Case("description tally with tally-rust", partial(described, name="tally", program="tally-rust/tally-rust.elf"), cost=2))
     found += [Case(f"planted bug {name} found", partial(planted, name=name), cost=3, needs_speed=PLANTED[name][0] in SLOW) for name in PLANTED]
     found += [Case(f"contract {name} built again", partial(rebuilt, name=name, program=f"{name}.elf"), CONTRACTS) for name in clang]

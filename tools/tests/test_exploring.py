@@ -15,7 +15,7 @@ from rvstm_tools import errors
 from rvstm_tools.errors import UserError
 from rvstm_tools.exploring import expressions, foundlists, runs, saved, shortening, storages
 from rvstm_tools.exploring.comparing import Data, MistakeError, Name
-from rvstm_tools.exploring.descriptions import Description
+from rvstm_tools.exploring.descriptions import WRONG_TIME, Description
 from rvstm_tools.exploring.expressions import Raised, Rule
 from rvstm_tools.exploring.places import AnyBytes, DrawnBytes, Numbers, Span, Words
 from rvstm_tools.exploring.progress import Progress
@@ -73,7 +73,7 @@ class OfDescriptions(InFolder):
                          b"alice".ljust(32, b"\0") + b"b".ljust(32, b"\0") + b"\xff")
 
     def test_messages(self) -> None:
-        kinds = "not rules, program, shape, store, draw, let, model, always, call, method, returned, reverted, holds, may-end or storage"
+        kinds = "not rules, program, shape, store, time, draw, let, model, always, call, method, returned, reverted, holds, may-end or storage"
         words_of_call = "call: a program's name, the gas and the input follow it, and no line `storage` is above it"
         for text, line, message in (
             ("nonsense\n", 1, f"nonsense: {kinds}"),
@@ -91,6 +91,13 @@ class OfDescriptions(InFolder):
             ("draw a 18446744073709551616\n", 1, "18446744073709551616: a number is at most 18446744073709551615"),
             (f"draw a {'9' * 5000}\n", 1, f"{'9' * 5000}: a number is at most 18446744073709551615"),
             ("draw a bytes:0..4097\n", 1, "bytes:0..4097: a number is at most 4096"),
+            ("time key:a u64:1\n", 1, WRONG_TIME),
+            ("time key:a 01 5\n", 1, WRONG_TIME),
+            ("time key:a u64:1 x\n", 1, WRONG_TIME),
+            ("time key:a u64:1 5\ntime key:b u64:1 5\n", 2, WRONG_TIME),
+            (f"{CALL}time key:a u64:1 5\n", 6, WRONG_TIME),
+            ("store key:a 01\ntime key:a u64:1 5\n", 2, "key:a: another store line of the block has this key"),
+            ("time key:a u8:256 5\n", 1, "u8:256: a number of 8 bits is at most 255"),
             ("let\n", 1, "let: NAME = EXPRESSION follows it"),
             ("let a\n", 1, "let: NAME = EXPRESSION follows it"),
             ("let a = \n", 1, "not an expression of Python: invalid syntax"),
@@ -126,6 +133,17 @@ class OfDescriptions(InFolder):
             self.assertTrue(str(caught.exception).startswith(f"{path}, line {line}: "), str(caught.exception))
             if message is not None:
                 self.assertEqual(str(caught.exception), f"{path}, line {line}: {message}")
+
+    def test_time(self) -> None:
+        """It is a store line at first. The time before calls that are left out passes before the next one; it never wraps."""
+        found = self.description(CALL.replace("draw some", "time key:a u8:9 0..3 50\ndraw some"))
+        assert found.time
+        self.assertEqual((found.stores, found.blocks.block.storage), (["store key:a u8:9"], {A: b"\t"}))
+        self.assertEqual((found.time.after(9, 50), found.time.after(250, 6), found.time.less(51)[:4]), (59, 255, [0, 3, 50, 50]))
+        calls = [Call(found.kinds[0], {"some": number}, step) for number, step in enumerate((None, 3, None, 50, 2), 1)]
+        self.assertEqual([len(block) for block in runs.blocks_of(calls)], [1, 2, 1, 1])
+        self.assertEqual([(call.values["some"], call.step) for call in runs.left(calls, [0, 2, 4])], [(1, None), (3, 3), (5, 52)])
+        self.assertEqual(saved.restored(found, saved.saved(calls)), calls)
 
     def test_no_call(self) -> None:
         path = self.write("a.explore", BEGIN)

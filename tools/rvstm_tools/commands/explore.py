@@ -26,6 +26,8 @@ A description is a list (`rvstm-tools block --help`) whose calls have places, wi
 
     rules, program, store,    as in a list; paths start from the folder of the description
     shape
+    time KEY FIRST STEPS..    the time that the node writes at a key: a first value, such as u64:1000, and what is added before each
+                              further block, as numbers and ranges; read it as u64(KEY)
     storage DUMP              as in a list: the storage that each sequence begins with, under the lines store
     draw NAME VALUES..        what may be in a place {NAME}: some words, or numbers and ranges FIRST..LAST of them, or
                               bytes:FIRST..LAST, so many bytes in hex, or keys:N or accounts:N, one of N keys or accounts that
@@ -78,7 +80,8 @@ exception is a mistake of the model.
 **A description is a program, and so is a model: both do whatever Python does. Run only those that you trust.**
 
 Each sequence begins with the storage of the description, and has --length calls. Each process has one session of `rvstm chain`,
-and runs blocks of one to sixteen calls. Half of the numbers come from anywhere in a range. The others are an end of it, or are in
+and runs blocks of one to sixteen calls. With a line `time` a list that it writes has lines `block`; without it the blocks make no
+difference. Half of the numbers come from anywhere in a range. The others are an end of it, or are in
 the storage or in an output, or differ by one from such a number. One seed always makes the same calls, on every machine.
 
 The first sequence that breaks something is printed as `broken by`, and written to --out. Then it is shortened: calls are left out,

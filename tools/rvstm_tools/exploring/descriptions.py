@@ -5,6 +5,7 @@ import re
 from collections.abc import Iterable, Mapping
 from dataclasses import dataclass, field
 from pathlib import Path
+from random import Random
 from types import CodeType
 
 from rvstm_tools import errors
@@ -12,8 +13,9 @@ from rvstm_tools.errors import UserError
 from rvstm_tools.exploring import expressions, places, storages
 from rvstm_tools.exploring.expressions import MODEL, OF_BEFORE, OF_CALLS, OF_STORAGE, Rule
 from rvstm_tools.exploring.models import ModelClass
-from rvstm_tools.exploring.places import Place, Value, Words
+from rvstm_tools.exploring.places import Numbers, Place, Value, Words
 from rvstm_tools.texts import blocks, lists, words
+from rvstm_tools.texts.keys import Key
 from rvstm_tools.texts.lists import BlockReader, Line
 from rvstm_tools.texts.results import TRAPS, End
 
@@ -21,7 +23,12 @@ PLACE = re.compile(r"\{(?:([A-Za-z_]\w*)=)?([A-Za-z_]\w*)\}")
 ANY_PLACE, BRACES = re.compile(r"\{[A-Za-z_]\w*\}"), re.compile("[{}]")
 LET = re.compile(r"([A-Za-z_]\w*)\s*=\s*(.*)")
 OTHER_ENDS = (End.OUT_OF_GAS, *TRAPS)
-KINDS = "rules, program, shape, store, draw, let, model, always, call, method, returned, reverted, holds, may-end or storage"
+FIRST_TIME = re.compile("u(8|16|32|64):[0-9]+")
+WRONG_TIME = (
+    "time: a key, a first value such as u64:1000, and the seconds that may pass before a block, as numbers or ranges, follow it, once and "
+    "before all calls"
+)
+KINDS = "rules, program, shape, store, time, draw, let, model, always, call, method, returned, reverted, holds, may-end or storage"
 OF_BLOCKS = ("rules", "program", "shape", "store")
 OF_RULES = ("always", "returned", "reverted", "holds")
 
@@ -30,6 +37,33 @@ OF_RULES = ("always", "returned", "reverted", "holds")
 class Method:
     line: int
     name: str
+
+
+@dataclass(frozen=True)
+class Time:
+    """The time that a node writes before each block: its key, by a word and by its bytes, the first value, and what is added to it."""
+
+    word: str
+    key: Key
+    bits: int
+    first: int
+    steps: Numbers
+
+    def drawn(self, random: Random) -> int:
+        step = self.steps.drawn(random, [])
+        assert isinstance(step, int)
+        return step
+
+    def less(self, step: int) -> list[int]:
+        """Steps that are less than one, which may be the sum of several: the ends of the ranges, and those nearer to it."""
+        ends = sorted(end for end in self.steps.samples() if isinstance(end, int) and end < step)
+        return ends + [less for less in self.steps.simpler(step) if isinstance(less, int)]
+
+    def after(self, time: int, step: int) -> int:
+        return min(time + step, (1 << self.bits) - 1)
+
+    def store_words(self, time: int) -> list[str]:
+        return ["store", self.word, f"u{self.bits}:{time}"]
 
 
 @dataclass
@@ -79,6 +113,7 @@ class Description:
         self.dump: str | None = None  # the file of the storage that they are put over
         self.folder = Path(os.path.abspath(path)).parent  # where paths are taken from
         self.model: ModelClass | None = None
+        self.time: Time | None = None
         self.is_over = False
         with open(path, encoding="utf-8", errors="surrogateescape") as file:
             for number, text in enumerate(file, 1):
@@ -118,7 +153,7 @@ class Description:
     def _take_words(self, line: Line, text: str) -> None:
         takers = {
             "draw": self._take_draw, "may-end": self._take_ends, "model": self._take_model, "method": self._take_method,
-            "storage": self._take_storage,
+            "storage": self._take_storage, "time": self._take_time,
         }
         if line.kind in OF_BLOCKS:
             self.blocks.take(line)
@@ -220,6 +255,15 @@ class Description:
         name = words.name_of(line.words[1])
         self.model.check_method(name, kind.places)
         kind.method = Method(line.number, name)
+
+    def _take_time(self, line: Line) -> None:
+        found = FIRST_TIME.fullmatch(line.words[2]) if len(line.words) > 3 else None
+        steps = places.place_of("time", line.words[3:]) if found else None
+        if not found or not isinstance(steps, Numbers) or self.time or self.kinds:
+            raise UserError(WRONG_TIME)
+        word, first = line.words[1:3]
+        self.time = Time(word, words.key_of(word), int(found[1]), int.from_bytes(words.bytes_of(first), "little"), steps)
+        self._take_words(Line(line.path, line.number, ["store", word, first]), f"store {word} {first}")
 
     def _take_storage(self, line: Line) -> None:
         if lists.is_dump(line) and not self.kinds:

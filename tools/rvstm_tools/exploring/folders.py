@@ -62,10 +62,12 @@ class Folder:
         new.replace(self.path / STATE)
 
 
-def saved_call_of(line: object, values: dict[str, object]) -> SavedCall:
+def saved_call_of(line: object, values: dict[str, object], step: object = None) -> SavedCall:
     if type(line) is not int or not all(isinstance(word, str) for word in values.values()):
         raise TypeError("not a line and words")
-    return SavedCall(line, {name: f"{word}" for name, word in values.items()})
+    if step is not None and (type(step) is not int or step < 0):
+        raise TypeError("not a time that passes")
+    return SavedCall(line, {name: f"{word}" for name, word in values.items()}, step)
 
 
 def state_of(path: Path) -> State:

@@ -65,7 +65,11 @@ def list_lines(description: Description, view: View, finding: Finding, limits: L
     if description.dump is not None:
         yield f"storage {os.path.relpath(description.dump, folder)}"
     yield from [*description.shapes, *description.stores]
+    time = description.time.first if description.time else 0
     for call, outcome in zip(finding.calls, finding.outcomes, strict=True):
+        if description.time and call.step is not None:
+            time = description.time.after(time, call.step)
+            yield from ["", "block", " ".join(description.time.store_words(time))]
         meaning = view.input(call.kind.data(call.values))
         yield from ["", *([f"# {meaning}"] if meaning else []), call.words(), *expect_lines(outcome, view)]
     yield from [f"# {change}" for change in finding.broken.changes]

@@ -5,9 +5,10 @@ call is left out, the storage has other numbers then, and such a number has to b
 """
 
 from collections.abc import Sequence
+from dataclasses import replace
 from typing import NamedTuple
 
-from rvstm_tools.exploring import storages
+from rvstm_tools.exploring import runs, storages
 from rvstm_tools.exploring.places import DISTANCES, Numbers, Value
 from rvstm_tools.exploring.runs import Call, Finding, Run
 from rvstm_tools.texts import words
@@ -44,18 +45,17 @@ class Moving:
     def without(self, left_out: int) -> Sequence[Call] | None:
         """The calls without one, if a number after it is moved. They are run one by one to see what the storage has then."""
         before = self._numbers()
+        kept = [at for at in range(len(self.calls)) if at != left_out]
         made: list[Call] = []
         numbers: FromSources = {}
         is_broken = bool(self.run.begin())
-        for at, call in enumerate(self.calls):
-            if at == left_out:
-                continue
-            made.append(Call(call.kind, {name: self._moved_value(call, name, before[at], numbers) for name in call.values}))
+        for at, call in zip(kept, runs.left(self.calls, kept), strict=True):
+            moved = {name: self._moved_value(call, name, before[at], numbers) for name in call.values}
+            made.append(replace(call, values=moved))
             if not is_broken:
                 is_broken = bool(self.run.go_on(made[-1:]))
                 numbers = add(numbers, at, self.run.outcomes[-1], self.run)
-        plain = [call for at, call in enumerate(self.calls) if at != left_out]
-        return made if made != plain else None
+        return made if made != runs.left(self.calls, kept) else None
 
     def _numbers(self) -> list[FromSources]:
         """The numbers before each call, in the sequence as it is."""

@@ -1,8 +1,8 @@
 """Runs of sequences of random calls in one session of `rvstm chain`, and what they break."""
 
 import collections
-from collections.abc import Callable, Iterable, Mapping, Sequence
-from dataclasses import dataclass
+from collections.abc import Callable, Iterable, Iterator, Mapping, Sequence
+from dataclasses import dataclass, replace
 from pathlib import Path
 from random import Random
 from types import SimpleNamespace
@@ -21,6 +21,7 @@ from rvstm_tools.sessions.answers import Kind as AnswerKind
 from rvstm_tools.sessions.processes import Session, Settings
 from rvstm_tools.sessions.requests import Request, Word
 from rvstm_tools.texts import blocks, results, words
+from rvstm_tools.texts.keys import Storage
 from rvstm_tools.texts.results import ENDS_WITH_OUTPUT, End, Receipt
 
 MOST_SEEN = 64  # numbers of the storage and of outputs that are kept to draw from
@@ -28,8 +29,11 @@ MOST_SEEN = 64  # numbers of the storage and of outputs that are kept to draw fr
 
 @dataclass
 class Call:
+    """A call. If time passes before it, it begins the next block."""
+
     kind: Kind
     values: dict[str, Value]
+    step: int | None = None  # how much time passes before it
 
     def words(self) -> str:
         return " ".join(["call", self.kind.program, str(self.kind.gas), *filter(None, self.kind.words_with(self.values))])
@@ -66,6 +70,28 @@ class Finding:
 def drawn_call(random: Random, kinds: Sequence[Kind], seen: Sequence[int]) -> Call:
     kind = kinds[random.randrange(len(kinds))]
     return Call(kind, {name: place.drawn(random, seen) for name, place in kind.places.items()})
+
+
+def left(calls: Sequence[Call], kept: Iterable[int]) -> list[Call]:
+    """Some of the calls. The time that passes before one that is left out passes before the next one."""
+    found, at = [], 0
+    for number in kept:
+        steps = [call.step for call in calls[at : number + 1] if call.step is not None]
+        found.append(replace(calls[number], step=sum(steps) if steps else None))
+        at = number + 1
+    return found
+
+
+def blocks_of(calls: Iterable[Call]) -> Iterator[list[Call]]:
+    """The calls by their blocks, of which no frame has too many calls."""
+    block: list[Call] = []
+    for call in calls:
+        if block and (call.step is not None or len(block) == blocks.MOST_CALLS):
+            yield block
+            block = []
+        block.append(call)
+    if block:
+        yield block
 
 
 class Run:
@@ -124,6 +150,7 @@ class Run:
         self.ask(self.first, self.description.path)
         self.storage.begin(self.description.blocks.block.storage)
         self.done, self.outcomes = 0, []
+        self.time = self.description.time.first if self.description.time else 0
         self.seen.clear()
         if self.description.model:
             self.model = self.description.model.begin(self.view)
@@ -136,7 +163,10 @@ class Run:
 
     def go_on(self, calls: Sequence[Call]) -> Broken | None:
         """Runs calls as one block. Returns what the first one breaks that breaks something."""
-        text = self.head + "".join(map(self._line_of, calls))
+        broken = self._pass_time(calls[0].step)
+        if broken:
+            return broken
+        text = self.head + frames.store_lines(self.written).decode() + "".join(map(self._line_of, calls))
         body = self.ask(Request(Word.FRAME, (), text.encode()), self.description.path)
         outcomes = results.result_of(body.decode()).receipts
         for call, outcome in zip(calls, outcomes, strict=True):
@@ -148,6 +178,18 @@ class Run:
             self.done += 1
         return None
 
+    def _pass_time(self, step: int | None) -> Broken | None:
+        """Writes the time before a block, as its node does. Returns a line `let` that cannot be computed then."""
+        self.written: Storage = {}
+        if step is None or not self.description.time:
+            return None
+        time = self.description.time
+        self.time = time.after(self.time, step)
+        self.written[time.key] = self.time.to_bytes(time.bits // 8, "little")
+        self.storage.data |= self.written
+        self._see(self.written.values())
+        return self._compute()
+
     def end(self) -> Broken | None:
         """What the storage after a sequence breaks. Its last call counts as the one that breaks it."""
         self.done = max(0, self.done - 1)
@@ -156,8 +198,8 @@ class Run:
     def finding_of(self, calls: Sequence[Call]) -> Finding | None:
         """What a whole sequence breaks, with the calls up to the one that does."""
         broken = self.begin()
-        for first in range(0, len(calls), blocks.MOST_CALLS):
-            broken = broken or self.go_on(calls[first : first + blocks.MOST_CALLS])
+        for block in blocks_of(calls):
+            broken = broken or self.go_on(block)
         if not broken and calls:
             broken = self.end()
         return Finding(list(calls[: broken.at + 1]), self.outcomes[: broken.at + 1], broken) if broken else None

@@ -14,10 +14,11 @@ from rvstm_tools.texts import numbers, words
 class SavedCall:
     line: int
     values: dict[str, str]
+    step: int | None = None  # how much time passes before it
 
 
 def saved(calls: Iterable[Call]) -> list[SavedCall]:
-    return [SavedCall(call.kind.line, {name: f"{value}" for name, value in call.values.items()}) for call in calls]
+    return [SavedCall(call.kind.line, {name: f"{value}" for name, value in call.values.items()}, call.step) for call in calls]
 
 
 def restored(description: Description, calls: Sequence[SavedCall]) -> list[Call]:
@@ -28,7 +29,7 @@ def restored(description: Description, calls: Sequence[SavedCall]) -> list[Call]
         kind = kinds.get(call.line)
         if kind is None or kind.places.keys() != call.values.keys():
             raise UserError(f"line {call.line} of {description.path} is not the call that was kept: another folder is needed")
-        found.append(Call(kind, {name: value_of(kind.places[name], word) for name, word in call.values.items()}))
+        found.append(Call(kind, {name: value_of(kind.places[name], word) for name, word in call.values.items()}, call.step))
     return found
 
 

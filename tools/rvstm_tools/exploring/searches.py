@@ -91,6 +91,8 @@ class Sequence:
             count = min(1 + self.choice.randrange(MOST_AT_ONCE), self.most - len(self.calls))
             seen = list(self.run.seen)
             part = [runs.drawn_call(self.choice, self.run.description.kinds, seen) for _ in range(count)]
+            if self.run.description.time and self.calls:
+                part[0].step = self.run.description.time.drawn(self.choice)
             self.calls += part
             broken = self.run.go_on(part)
         return broken or self.run.end()

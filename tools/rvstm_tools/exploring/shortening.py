@@ -2,7 +2,8 @@
 
 import itertools
 import time
-from collections.abc import Callable, Iterator, Sequence
+from collections.abc import Callable, Container, Iterator, Sequence
+from dataclasses import replace
 from random import Random
 
 from rvstm_tools.exploring import runs
@@ -80,7 +81,7 @@ class Shorter:
         while size:
             first = 0
             while first < len(self.calls):
-                if not self.takes([*self.calls[:first], *self.calls[first + size :]]):
+                if not self.takes(self._without(range(first, first + size))):
                     first += size
             size //= 2
         while len(self.calls) <= MOST_FOR_PAIRS and self.leave_out_two():
@@ -89,7 +90,10 @@ class Shorter:
     def leave_out_two(self) -> bool:
         calls = self.calls
         pairs = [{one, other} for one in range(len(calls)) for other in range(one)]
-        return any(self.takes([call for at, call in enumerate(calls) if at not in pair]) for pair in pairs)
+        return any(self.takes(self._without(pair)) for pair in pairs)
+
+    def _without(self, numbers: Container[int]) -> list[Call]:
+        return runs.left(self.calls, [at for at in range(len(self.calls)) if at not in numbers])
 
     def leave_out_one_and_change(self) -> bool:
         """Whether a call could be left out if numbers of other calls, which may depend on it, are changed with it."""
@@ -105,7 +109,7 @@ class Shorter:
             yield moved
         if len(self.calls) > MOST_FOR_SUMS:
             return
-        rest = [*self.calls[:at], *self.calls[at + 1 :]]
+        rest = self._without([at])
         amounts = {value for value in self.calls[at].values.values() if isinstance(value, int) and value}
         for other, call in enumerate(rest):
             for name, place in call.kind.places.items():
@@ -135,6 +139,8 @@ class Shorter:
             broken = self.run.begin()
             while not broken and len(calls) < count:
                 calls.append(runs.drawn_call(random, self.run.description.kinds, list(self.run.seen)))
+                if self.run.description.time and len(calls) > 1 and random.randrange(2):
+                    calls[-1].step = self.run.description.time.drawn(random)
                 broken = self.run.go_on(calls[-1:])
             broken = broken or self.run.end()
         except MistakeError:
@@ -146,6 +152,8 @@ class Shorter:
 
     def make_simpler(self) -> bool:
         """Whether a value of a call became simpler, a word in all calls, or numbers of several calls together."""
+        if self.pass_less_time():
+            return True
         for at, call in enumerate(self.calls):
             for name, place in call.kind.places.items():
                 for value in place.simpler(call.values[name]):
@@ -154,11 +162,21 @@ class Shorter:
         words = (place for place in self.run.description.places.values() if isinstance(place, Words))
         return any(self.rename(place) for place in words) or self.lower_together()
 
+    def pass_less_time(self) -> bool:
+        """Whether a call could be in the block before it, or less time pass before its own."""
+        for at, call in enumerate(self.calls):
+            time, step = self.run.description.time, call.step
+            if time and step is not None:
+                for less in (None, *time.less(step)):
+                    if self.takes([*self.calls[:at], replace(call, step=less), *self.calls[at + 1 :]]):
+                        return True
+        return False
+
     def rename(self, place: Words) -> bool:
         """Whether a simpler word could be put in place of another one in all calls."""
         for old in place.words:
             for new in place.simpler(old):
-                calls = [Call(call.kind, renamed(call, place, old, new)) for call in self.calls]
+                calls = [replace(call, values=renamed(call, place, old, new)) for call in self.calls]
                 if calls != list(self.calls) and self.takes(calls):
                     return True
         return False
@@ -185,7 +203,7 @@ class Shorter:
 
 
 def with_value(calls: Sequence[Call], at: int, name: str, value: Value) -> list[Call]:
-    changed = Call(calls[at].kind, {**calls[at].values, name: value})
+    changed = replace(calls[at], values={**calls[at].values, name: value})
     return [*calls[:at], changed, *calls[at + 1 :]]
 
 
