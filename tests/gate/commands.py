@@ -386,6 +386,10 @@ def session(run: Run) -> None:
     """A list as a frame, and what the session in the file has then."""
     path = run.place / "ledger"
     tool(run, "session", "--store", path, "counter.list", folder=COUNTER).done()
+    later = written(run.place / "later.list", (LOCK / "later.list").read_text(encoding="utf-8").replace("lock.elf", f"{LOCK}/lock.elf"))
+    tool(run, "session", later).done()
+    late = tool(run, "session", written(later, later.read_text(encoding="utf-8").replace("u64:60", "u64:61")))
+    holds(late.status == 1 and "\n        wanted  returned  3d00000000000000  61\n" in late.out, late.out, "the line that is not met")
     came = tool(run, "session", "--store", path, "--get", "key:1", "--last", folder=COUNTER).done()
     same(came.splitlines()[1].split(), [f"{1:064x}:", "03000000", "3"])
     same(came.count("  returned  "), 3, "calls of the last frame")

@@ -5,7 +5,6 @@ import io
 import os
 import re
 import sys
-import re
 import unittest
 from pathlib import Path
 from unittest import mock
@@ -216,6 +215,22 @@ class OfTypedLines(WithChain):
     def test_bytes_that_are_no_text(self) -> None:
         with mock.patch("sys.stdin", io.TextIOWrapper(io.BytesIO(b"get \xff\nget key:bob\n"), encoding="utf-8")):
             self.assertEqual(called("session"), (1, '      "bob": 0500000000000000  5\n', "session: not UTF-8\n"))
+
+    def test_lines_that_are_not_met(self) -> None:
+        """A frame compares the lines of its list; one that is tried changes no storage, so only those of its calls are compared."""
+        path = self.write("b.list", f"{LIST}expect gas at most 8\nstorage\nexpect key:bob u64:6\n")
+        missed, keys = (f"line {number}: expect" for number in (6, 8))
+        for word, wanted in ("frame", [missed, keys]), ("try", [missed]):
+            status, output, faults = called_with(f"{word} {path}\n", "session")
+            self.assertEqual((status, re.findall("line [0-9]+: expect", output), faults), (1, wanted, ""))
+
+    def test_blocks_of_a_list(self) -> None:
+        """Each is a frame. Only a list of one block can be tried."""
+        path = self.write("b.list", "program a a.elf\nstore key:1 01\nblock\nstore key:1 02\n")
+        status, output, faults = called_with(f"frame {path}\ntry {path}\n", "session")
+        self.assertEqual((status, faults), (1, f"session: {path}: only a list of one block can be tried, and this has 2\n"))
+        self.assertEqual([line for line in output.splitlines() if line.startswith("block")], ["block 0", "block 1"])
+        self.assertEqual([line for line in self.logged() if line.startswith("store")], [f"store {'0' * 63}1 01", f"store {'0' * 63}1 02"])
 
     def test_a_session_that_does_not_begin(self) -> None:
         self.program.write_text("#!/bin/sh\necho rvstm: store Busy 1 >&2\nexit 1\n", encoding="utf-8")

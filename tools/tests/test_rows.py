@@ -182,6 +182,7 @@ class InTools(InFolder):
         path = self.write("a.list", text)
         wanted = (0, "".join(f"warning: {path}: {line}\n" for line in said.values()))
         self.assertEqual(called_with("end\n", "result", "--list", path)[::2], wanted)
+        self.assertEqual(called("block", path)[::2], wanted)
         description = self.write("a.explore", f"program x x.elf\n{text}call x 9\n")
         self.assertIn(f"warning: {description}: {said['row:acct:alice']}\n", called("explore", description, "--program", "/bin/false")[2])
 

@@ -10,7 +10,7 @@ from rvstm_tools.errors import MisuseError, Status, UserError
 from rvstm_tools.options import Command, argument
 from rvstm_tools.programs import finding
 from rvstm_tools.sessions import typed
-from rvstm_tools.sessions.clients import FIRST_KEY, Client, read_frames
+from rvstm_tools.sessions.clients import FIRST_KEY, Client, FrameFile, read_frames
 from rvstm_tools.sessions.processes import LONGEST_FRAME, Session, Settings
 from rvstm_tools.sessions.replays import Replay
 from rvstm_tools.sessions.requests import Word
@@ -19,9 +19,10 @@ from rvstm_tools.texts.views import View
 
 SETTING = options.number(0, 9_999_999_999, "a setting")
 DETAILS = f"""\
-It starts `rvstm chain`, and sends the programs of each LIST (`rvstm-tools block --help`). Then it runs a frame for each LIST,
-over the storage that the ones before it left, and prints the result as a table. A line `store` of a LIST sets its key again each
-time; lines `expect` are for `rvstm-tools test`. After the lists it does what the options ask for, in their order. Put the lists
+It starts `rvstm chain`, and sends the programs of each LIST (`rvstm-tools block --help`). Then it runs a frame for each block of a
+LIST, over the storage that the ones before it left, and prints the result as a table. A line `store` of a LIST sets its key again
+each time. Lines `expect` that are not met are printed below (`rvstm-tools test --help`); what they say of all keys is of the storage
+of the session. After the lists it does what the options ask for, in their order. Put the lists
 first. Keys and values are printed by the words and shapes of all lists.
 
 A block file may be in place of a LIST. Its programs are named by their paths, or by the SHA-256 of their files.
@@ -38,7 +39,7 @@ With --store the session is kept in a file, and continues from it: `rvstm-tools 
 --shapes LIST its values are shown by their fields, and typed calls name the programs of LIST.
 Without it the session is in memory, and ends with this command. A FILE belongs to the settings that it was made with.
 
-The status is 0 if all is done, 1 if a request is refused or a digest differs, and 2 for a wrong command line."""
+The status is 0 if all is done, 1 if a request is refused, a line is not met or a digest differs, and 2 for a wrong command line."""
 
 
 @dataclass(frozen=True)
@@ -59,8 +60,8 @@ def list_of(word: str) -> Asked:
     return Asked(f"list {word}".rstrip(), lambda client: client.list(key))
 
 
-def frame_of(path: Path) -> Asked:
-    return Asked(f"frame {path}", lambda client: client.run(Word.FRAME, read_frames(path)))
+def frame_of(file: FrameFile) -> Asked:
+    return Asked(f"frame {file.path}", lambda client: client.run(Word.FRAME, file))
 
 
 def dump_of(word: str) -> Asked:
@@ -99,16 +100,12 @@ def answer_all(client: Client, given: argparse.Namespace) -> int:
     if given.replay:
         for line in Replay(given.replay).sent(client, is_write=given.write):
             print(line, flush=True)
-    for path in given.lists:
-        try:
-            show(client, frame_of(path))
-        except UserError as error:
-            if f"{error}".startswith(f"{path}, line "):
-                raise
-            raise UserError(f"{path}: {error}") from error
+    for file in list(map(read_frames, given.lists)):  # all are read first: a wrong line ends it before a frame
+        with lists.named(str(file.path)):
+            show(client, frame_of(file))
     for asked in given.asked:
         show(client, asked)
-    return Status.DONE
+    return Status.FAILED if client.missed else Status.DONE
 
 
 def show(client: Client, asked: Asked) -> None:
@@ -140,7 +137,7 @@ def answer_typed(client: Client) -> int:
                 return Status.FAILED
     if client.typed.size():
         raise UserError("the last block was not run: `run` is missing")
-    return status
+    return Status.FAILED if client.missed and not is_terminal else status
 
 
 COMMAND = Command(

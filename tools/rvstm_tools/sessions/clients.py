@@ -2,7 +2,7 @@
 
 import re
 from collections.abc import Iterator
-from dataclasses import dataclass
+from dataclasses import dataclass, replace
 from pathlib import Path
 
 from rvstm_tools import errors
@@ -13,9 +13,12 @@ from rvstm_tools.sessions.blocks import TypedBlock
 from rvstm_tools.sessions.frames import Named
 from rvstm_tools.sessions.processes import Session
 from rvstm_tools.sessions.requests import Request, Word
+from rvstm_tools.testing import listed, reports, runs
+from rvstm_tools.testing.listed import ListedTest
 from rvstm_tools.texts import lists, results, tables, words
-from rvstm_tools.texts.keys import KEY_LENGTH, Key
+from rvstm_tools.texts.keys import KEY_LENGTH, Key, Storage
 from rvstm_tools.texts.lists import ListFile
+from rvstm_tools.texts.results import Receipt
 from rvstm_tools.texts.views import View
 
 HASH = re.compile("[0-9a-f]{64}")
@@ -30,17 +33,17 @@ class FrameFile:
 
     path: Path
     frames: list[Named]
-    file: ListFile | None = None
+    test: ListedTest | None = None  # of a list
 
 
 def read_frames(path: Path) -> FrameFile:
     """The frames of a file, and their programs. Paths of programs are taken from the folder of the file."""
     if not lists.is_list(path):
         return FrameFile(path, [frames.named(path.read_bytes(), path.parent)])
-    file = lists.read_list(str(path))
-    for program in file.blocks[0].paths():
+    test = listed.read_test(path)
+    for program in test.file.blocks[0].paths():
         (path.parent / program).read_bytes()  # a program that is missing is an error of its own file
-    return FrameFile(path, [frames.named(block.text().encode(), path.parent) for block in file.blocks], file)
+    return FrameFile(path, [frames.named(block.text().encode(), path.parent) for block in test.file.blocks], test)
 
 
 class Client:
@@ -51,6 +54,8 @@ class Client:
         self.programs: dict[str, Path] = {}  # the files of programs by the names that calls give them
         self.rules = 1  # the highest of the lists that were read
         self.typed = TypedBlock(self)
+        self.made: list[Receipt] = []  # what came of the calls of the last file of frames
+        self.missed = 0  # how many lines `expect` of lists were not met
 
     def answer(self, request: Request) -> Answer:
         """The answer to a request. A session that ended before it is an error, with what it said."""
@@ -78,17 +83,25 @@ class Client:
     # ---- requests, each with the lines of its answer
 
     def run(self, word: Word, file: FrameFile) -> Iterator[str]:
-        """Hands in the programs of frames, and runs or tries them one after another."""
-        count = len(file.frames)
+        """Hands in the programs of frames, and runs or tries them one after another. Last come the lines `expect` that are not met."""
+        count, self.made = len(file.frames), []
         if word is Word.TRY and count > 1:
             raise UserError(f"{file.path}: only a list of one block can be tried, and this has {count}")
-        if file.file:
-            self.take_list(file.path, file.file)
+        if file.test:
+            self.take_list(file.path, file.test.file)
         for number, frame in enumerate(file.frames):
             for program in frame.programs():
                 self.body(program)
             lines = self.receipts(self.body(Request(word, (), frame.block)))
             yield from [*([f"block {number}"] if count > 1 else []), *lines]
+        if file.test:
+            yield from self._lines_of_misses(replace(file.test, storage=None) if word is Word.TRY else file.test)
+
+    def _lines_of_misses(self, test: ListedTest) -> Iterator[str]:
+        """Compares what came of the calls of a list with its lines `expect`. `same by N workers` is always met."""
+        misses = list(runs.misses_of(test, self.made, self.storage, lambda part, workers: None))
+        self.missed += len(misses)
+        return reports.lines_of_misses(test, misses, {}, "")
 
     def take_list(self, path: Path, file: ListFile) -> None:
         """Keeps what a list says of keys and values, its programs and its rules. Nothing of it is run."""
@@ -110,6 +123,7 @@ class Client:
         for item in items:
             if isinstance(item, results.Receipt):
                 self.keys |= item.changes.keys()
+                self.made.append(item)
         return tables.table_lines(items, self.view, has_registers=False)
 
     def last(self) -> Iterator[str]:
@@ -142,6 +156,9 @@ class Client:
             return self.rows(body)
         out.write_bytes(body)
         return iter([f"      {body.count(b'store '):,} keys written to {out}"])
+
+    def storage(self) -> Storage:
+        return frames.stored_in(self.body(Request(Word.DUMP)))
 
     def lines(self, word: Word) -> Iterator[str]:
         return iter([f"      {line}" for line in self.body(Request(word)).decode().splitlines()] or [NONE])

@@ -30,8 +30,8 @@ class Replay:
         return found
 
     def sent(self, client: Client, *, is_write: bool) -> Iterator[str]:
-        """Sends all frames to a new session. The lines say what each was answered. The first digest that differs is an error; with `is_write` the
-        digests are written in place of that."""
+        """Sends all frames to a new session. The lines say what each was answered. The first digest that differs is an error; with
+        `is_write` the digests are written in place of that."""
         paths = self.frames()
         if height := client.state().height:
             raise UserError(f"the session is at height {height}: a replay begins a new one")
@@ -40,8 +40,8 @@ class Replay:
         for path in paths:
             wanted = None if is_write else digest_in(digest_file_of(path))
             file = read_frames(path)
-            if file.file:
-                client.take_list(path, file.file)
+            if file.test:
+                client.take_list(path, file.test.file)
             for named in file.frames:
                 for request in named.programs():
                     client.body(request)

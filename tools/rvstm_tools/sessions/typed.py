@@ -68,7 +68,7 @@ def run_forget(client: Client, given: Sequence[str]) -> Iterator[str]:
 
 
 FORMS = (
-    Form("frame", "FILE", "runs a list (NAME.list) or a block file over the storage, after it sends its programs",
+    Form("frame", "FILE", "runs a list (NAME.list) or a block file, after it sends its programs, and compares its lines `expect`",
          lambda client, given: client.run(Word.FRAME, read_frames(path_of(given[0]))), "file"),
     Form("try", "FILE", "the same, and keeps nothing of it but the programs",
          lambda client, given: client.run(Word.TRY, read_frames(path_of(given[0]))), "file"),

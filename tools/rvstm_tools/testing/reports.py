@@ -3,7 +3,7 @@
 import itertools
 import json
 import shlex
-from collections.abc import Iterable, Iterator, Sequence
+from collections.abc import Iterable, Iterator, Mapping, Sequence
 from dataclasses import asdict, dataclass
 
 from rvstm_tools.testing.gastables import GasDifference, GasOfInput
@@ -60,13 +60,14 @@ def lines_of_run(run: Tried) -> Iterator[str]:
 def lines_of_failure(run: Tried) -> Iterator[str]:
     if run.refusal:
         yield f"        {run.refusal}"
-    yield from lines_of_misses(run)
+    more = "" if run.planned.variant else f"rvstm-tools trace {shlex.quote(str(run.test.path))} --call "
+    yield from lines_of_misses(run.test, run.misses, run.ends, more)
 
 
-def lines_of_misses(run: Tried) -> Iterator[str]:
-    """The lines of the misses of a run, those of a part below its call or `storage`. Below them is how the call ended."""
-    test = run.test
-    for _, group in itertools.groupby(run.misses, key=lambda miss: id(miss.part)):
+def lines_of_misses(test: ListedTest, misses: Iterable[Miss], ends: Mapping[int, str], more: str) -> Iterator[str]:
+    """The lines of some misses, those of a part below its call or `storage`. Below them is how the call ended, if that is known, and
+    the command that shows more."""
+    for _, group in itertools.groupby(misses, key=lambda miss: id(miss.part)):
         of_part = list(group)
         part = of_part[0].part
         if isinstance(part, CallPart):
@@ -76,10 +77,10 @@ def lines_of_misses(run: Tried) -> Iterator[str]:
             yield "    storage"
         for miss in of_part:
             yield from lines_of_miss(test, miss)
-        if isinstance(part, CallPart):
-            yield f"        ended   {run.ends[part.call]}"
-            if not run.planned.variant:
-                yield f"        more    rvstm-tools trace {shlex.quote(str(test.path))} --call {part.call}"
+        if isinstance(part, CallPart) and part.call in ends:
+            yield f"        ended   {ends[part.call]}"
+            if more:
+                yield f"        more    {more}{part.call}"
 
 
 def lines_of_miss(test: ListedTest, miss: Miss) -> Iterator[str]:

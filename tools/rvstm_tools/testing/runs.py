@@ -2,7 +2,7 @@
 
 import functools
 import itertools
-from collections.abc import Iterable, Iterator, Mapping, Sequence
+from collections.abc import Callable, Iterable, Iterator, Mapping, Sequence
 from dataclasses import dataclass
 from functools import cached_property
 from typing import TypeVar
@@ -15,6 +15,7 @@ from rvstm_tools.testing.listed import CallPart, ListedTest, StoragePart
 from rvstm_tools.texts.blocks import ProgramFile
 from rvstm_tools.texts.differences import Difference
 from rvstm_tools.texts.expectations import Expectation, LineDifference, Scene
+from rvstm_tools.texts.keys import Storage
 from rvstm_tools.texts.results import Receipt
 
 NO_LINE = "no line"
@@ -29,6 +30,26 @@ class Miss:
     part: CallPart | StoragePart
     line: int
     difference: Difference
+
+
+Part = CallPart | StoragePart
+
+
+def misses_of(
+    test: ListedTest, receipts: Sequence[Receipt], storage: Callable[[], Storage], difference: Callable[[Part, int], LineDifference | None],
+) -> Iterator[Miss]:
+    """The lines of a test that are not met by some receipts, and by the storage after them."""
+
+    def of(part: Part, expectations: Mapping[int, Expectation[Subject]], subject: Subject) -> Iterator[Miss]:
+        scene = Scene(part.keys(), test.file.view, functools.partial(difference, part))
+        for line, expectation in expectations.items():
+            if missed := expectation.miss(subject, scene):
+                yield Miss(part, line, missed)
+
+    for part in test.calls:
+        yield from of(part, part.expectations, receipts[part.call])
+    if test.storage:
+        yield from of(test.storage, test.storage.expectations, storage())
 
 
 class Run:
@@ -54,10 +75,7 @@ class Run:
         return [receipt for run in self.blocks for receipt in run.result.receipts]
 
     def misses(self) -> list[Miss]:
-        found = [miss for part in self.test.calls for miss in self._misses_of(part, part.expectations, self.receipts[part.call])]
-        if self.test.storage:
-            found += self._misses_of(self.test.storage, self.test.storage.expectations, self.blocks[-1].result.storage)
-        return found
+        return list(misses_of(self.test, self.receipts, lambda: self.blocks[-1].result.storage, self._difference_at))
 
     def gas(self) -> dict[int, int]:
         """For each line `gas at most`, what gas its call cost."""
@@ -79,15 +97,8 @@ class Run:
         size = causes.size_of(receipt, block.rules)
         return f"{receipt.end} at {place or f'{receipt.pc:08x}'}, gas {receipt.gas}{size and ': '}{size}"
 
-    def _misses_of(
-        self, part: CallPart | StoragePart, expectations: Mapping[int, Expectation[Subject]], subject: Subject,
-    ) -> Iterator[Miss]:
-        blocks = [self.blocks[self.test.file.place_of(part.call)[0]]] if isinstance(part, CallPart) else self.blocks
-        scene = Scene(part.keys(), self.test.file.view, functools.partial(self.difference, blocks))
-        for line, expectation in expectations.items():
-            difference = expectation.miss(subject, scene)
-            if difference:
-                yield Miss(part, line, difference)
+    def _difference_at(self, part: Part, workers: int) -> LineDifference | None:
+        return self.difference([self.blocks[self.test.file.place_of(part.call)[0]]] if isinstance(part, CallPart) else self.blocks, workers)
 
     def difference(self, blocks: Sequence[InTurn], workers: int) -> LineDifference | None:
         """The first line of the blocks in order that a run by workers has not, and what that has there; None if it has all."""
