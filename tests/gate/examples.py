@@ -134,7 +134,7 @@ def modelled(run: Run) -> None:
 def reached_later(run: Run) -> None:
     """Random calls reach the last claim of a payment, whose end has come, and leave a test of two blocks."""
     rule = "returned balance[who] == before.balance[who] + number(output)\n"
-    text = (EXAMPLES / "vault/vault.explore").read_text(encoding="utf-8").replace("vault.elf", f"{EXAMPLES}/vault/vault.elf")
+    text = (EXAMPLES / "vault/vault.explore").read_text(encoding="utf-8").replace("include ", f"include {EXAMPLES}/vault/")
     same(text.count(rule), 1, rule)
     path = written(run.place / "late.explore", text.replace(rule, f"{rule}returned number(output) == 0 or (who, place) in left\n"))
     found = run.place / "found.list"

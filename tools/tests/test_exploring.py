@@ -73,7 +73,7 @@ class OfDescriptions(InFolder):
                          b"alice".ljust(32, b"\0") + b"b".ljust(32, b"\0") + b"\xff")
 
     def test_messages(self) -> None:
-        kinds = "not rules, program, shape, store, time, draw, let, model, always, call, method, returned, reverted, holds, may-end or storage"
+        kinds = "not rules, include, program, shape, store, time, draw, let, model, always, call, method, returned, reverted, holds, may-end or storage"
         words_of_call = "call: a program's name, the gas and the input follow it, and no line `storage` is above it"
         for text, line, message in (
             ("nonsense\n", 1, f"nonsense: {kinds}"),
@@ -133,6 +133,14 @@ class OfDescriptions(InFolder):
             self.assertTrue(str(caught.exception).startswith(f"{path}, line {line}: "), str(caught.exception))
             if message is not None:
                 self.assertEqual(str(caught.exception), f"{path}, line {line}: {message}")
+
+    def test_a_file_that_is_included(self) -> None:
+        """A finding has its lines in the place of the line, so that --replace can name another program."""
+        (self.folder / "other").mkdir()
+        self.write("other/all", "rules 3\nprogram echo echo.elf\nshape key:a number:u8\nstore key:a u8:7\n")
+        found = self.description(f"include other/all\n{CALL.partition(chr(10))[2]}")
+        self.assertEqual((found.programs, found.stores), ({"echo": f"{self.folder}/other/echo.elf"}, ["store key:a u8:7"]))
+        self.assertEqual((found.shapes, found.blocks.block.rules), (["shape key:a number:u8"], 3))
 
     def test_time(self) -> None:
         """It is a store line at first. The time before calls that are left out passes before the next one; it never wraps."""

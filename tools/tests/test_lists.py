@@ -32,6 +32,17 @@ class Reading(InFolder):
                 found.place_of(number)
             self.assertEqual(str(caught.exception), f"there is no call {number}; its 3 calls count from 0")
 
+    def test_a_file_that_is_included(self) -> None:
+        """Its lines are in the place of the line, and its paths start from its folder."""
+        (self.folder / "other").mkdir()
+        self.write("other/d.dump", f"rvblock 1\nstore {numbered_key(3).hex()} 03\n")
+        self.write("other/all", "rules 2 # its rules\n\nprogram a ../b/a.elf\nshape key:1 number:u8\nstorage d.dump\nstore key:1 01\n")
+        found = lists.read_list(self.write("a.list", "# first\ninclude other/all\nstore key:2 02\ncall a 5\n"))
+        (block,) = found.blocks
+        self.assertEqual((block.rules, block.programs), (2, {"a": ProgramFile("b/a.elf", 2)}))
+        self.assertEqual(block.storage, {numbered_key(number): bytes([number]) for number in (1, 2, 3)})
+        self.assertEqual((found.view.value(numbered_key(1), b"\7"), len(found.lines)), ("number 7", 4))
+
     def test_store_lines_are_put_over_the_storage(self) -> None:
         path = self.write("a.list", "store key:1 01\nstore key:2 02\n")
         block = lists.read_list(path, {numbered_key(2): b"old", numbered_key(3): b"kept"}).blocks[0]
@@ -65,8 +76,8 @@ class Messages(InFolder):
         self.assertEqual(str(caught.exception), f"{path}, line {line}: {message}")
 
     def test_kinds(self) -> None:
-        self.check("prog a b\n", 1, "prog: not rules, program, shape, store, call, block, expect or storage")
-        self.check('"call" a\n', 1, '"call": not rules, program, shape, store, call, block, expect or storage')
+        self.check("prog a b\n", 1, "prog: not rules, include, program, shape, store, call, block, expect or storage")
+        self.check('"call" a\n', 1, '"call": not rules, include, program, shape, store, call, block, expect or storage')
         self.check("storage\nstore 00 00\n", 2, "store: only lines `expect` may follow `storage`")
         self.check("storage\n\nnonsense\n", 3, "nonsense: only lines `expect` may follow `storage`")
 
@@ -95,6 +106,14 @@ class Messages(InFolder):
         self.check("store key:a 00\nstore 61 01\n", 2, "61: another store line of the block has this key")
         self.check("program a b\ncall a 5\nstore 61 01\n", 3, "store: a call is above it; a line `block` begins the next block, and store lines "
                    "come before its calls")
+        self.check("include\n", 1, "include: the path of a file follows it")
+        other = self.write("other", "program a b\nstore key:a\nstore key:a 01\n")
+        self.check("include other\n", 1, f"{other}, line 3: key:a: another store line of the block has this key")
+        self.check("program a b\ninclude other\n", 2, f"{other}, line 1: a: another program line has this name")
+        for kind in ("call", "block", "expect", "include", "storage", "what"):
+            self.write("other", f"# first\n{kind}\n")
+            self.check("include other\n", 1, f"{other}, line 2: {kind}: a file that is included has only lines rules, program, shape, store "
+                       "and storage DUMP")
         self.check("block 2\n", 1, "block: nothing follows it; it begins the next block")
         self.check("block\nstore key:a 00\nstore 61 01\n", 3, "61: another store line of the block has this key")
         self.check("block\nstorage a.dump\n", 2, lists.STORAGE)
@@ -117,7 +136,7 @@ class Messages(InFolder):
     def test_hostile_bytes(self) -> None:
         self.check(b"program a b\n# \xff\n", 2, "not UTF-8")
         self.check(b"\xfe\xff\0r\0u\0l\0e\0s", 1, "not UTF-8")
-        self.check(b"\x7fELF\x01\x01\x01\0", 1, "\x7fELF\1\1\1\0: not rules, program, shape, store, call, block, expect or storage")
+        self.check(b"\x7fELF\x01\x01\x01\0", 1, "\x7fELF\1\1\1\0: not rules, include, program, shape, store, call, block, expect or storage")
         self.check("store " + "0" * 99_999, 1, "0" * 99_999 + ': not bytes in hex, "text", u8:N .. u64:N, i8:N .. i64:N, '
                    "key:text, key:N, account:name, row:TABLE:name, table:TAG:text or hex:BYTES")
 

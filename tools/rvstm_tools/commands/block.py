@@ -19,6 +19,7 @@ LIST has a line for each program, key and call; # at the beginning of a word beg
 
     rules N                   the rules of the block, 1, 2 or 3; the line may be left out, and comes before all others
     program NAME PATH         a program, and the path of its file from the folder in which rvstm runs
+    include FILE              the lines rules, program, shape, store and storage DUMP of another file; its paths start from its folder
     storage DUMP              the storage before the block: a file that `rvstm chain` answered to `dump`, or a result. Its path
                               starts from the folder of LIST, and lines `store` are put over it
     store KEY BYTES..         a key of the storage before the block, and its value

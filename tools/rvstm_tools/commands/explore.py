@@ -25,7 +25,7 @@ A description is a list (`rvstm-tools block --help`) whose calls have places, wi
     may-end out-of-gas
 
     rules, program, store,    as in a list; paths start from the folder of the description
-    shape
+    shape, include
     time KEY FIRST STEPS..    the time that the node writes at a key: a first value, such as u64:1000, and what is added before each
                               further block, as numbers and ranges; read it as u64(KEY)
     storage DUMP              as in a list: the storage that each sequence begins with, under the lines store

@@ -28,7 +28,7 @@ WRONG_TIME = (
     "time: a key, a first value such as u64:1000, and the seconds that may pass before a block, as numbers or ranges, follow it, once and "
     "before all calls"
 )
-KINDS = "rules, program, shape, store, time, draw, let, model, always, call, method, returned, reverted, holds, may-end or storage"
+KINDS = "rules, include, program, shape, store, time, draw, let, model, always, call, method, returned, reverted, holds, may-end or storage"
 OF_BLOCKS = ("rules", "program", "shape", "store")
 OF_RULES = ("always", "returned", "reverted", "holds")
 
@@ -159,6 +159,8 @@ class Description:
             self.blocks.take(line)
             if line.kind in ("store", "shape"):
                 (self.stores if line.kind == "store" else self.shapes).append(text)
+        elif line.kind == "include":
+            lists.take_included(line, lambda other: self._take_words(other, other.text))
         elif line.kind == "call":
             self._take_call(line, text)
         elif line.kind in takers:

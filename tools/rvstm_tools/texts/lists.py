@@ -17,7 +17,8 @@ from rvstm_tools.texts.views import View
 LISTS = ".list"  # how the name of a list ends
 PATH = re.compile("[!-~]+")
 GAS = re.compile("[1-9][0-9]*")
-KINDS = "rules, program, shape, store, call, block, expect or storage"
+KINDS = "rules, include, program, shape, store, call, block, expect or storage"
+INCLUDED = ("rules", "program", "shape", "store")  # the lines of a file that is included, and `storage DUMP`
 STORAGE = (
     "storage: with a path it comes once, before all lines `store` and `call`, and over no other result; without one it comes once, "
     "after the calls"
@@ -98,6 +99,23 @@ def lines_of(path: str) -> Iterator[Line]:
                 yield Line(path, number, words.words_of(text), text)
 
 
+def take_included(line: Line, take: Callable[[Line], None]) -> None:
+    """Takes the lines of the file that a line `include` names, as if they were in its place. Their paths start from that file's folder,
+    and are handed on as those from the folder of the line."""
+    if len(line.words) != 2:
+        raise UserError("include: the path of a file follows it")
+    name = words.name_of(line.words[1])
+    path = os.path.join(os.path.dirname(line.path), name)
+    for other in filter(lambda other: other.words, lines_of(path)):
+        with placed(path, other.number):
+            if other.kind not in INCLUDED and not is_dump(other):
+                raise UserError(f"{other.kind}: a file that is included has only lines {', '.join(INCLUDED)} and storage DUMP")
+            *first, last = other.words
+            if other.kind in ("program", "storage"):
+                last = os.path.normpath(os.path.join(os.path.dirname(name), last))
+            take(Line(line.path, line.number, [*first, last], other.text.strip()))
+
+
 def check_encoding(text: str) -> None:
     try:
         text.encode()
@@ -130,6 +148,12 @@ class BlockReader:
 
     def take(self, line: Line) -> None:
         self.file.lines.append(line.text)
+        if line.kind == "include":
+            take_included(line, self._take)
+        else:
+            self._take(line)
+
+    def _take(self, line: Line) -> None:
         if line.kind != "shape":
             self.view.take_names(line.words)
         if is_dump(line):
