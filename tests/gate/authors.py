@@ -81,6 +81,10 @@ def made_again(folder: Path, source: str, more: dict[str, str]) -> None:
     written(folder / "second.list", votes.replace("program votes votes.elf", "program votes second.elf"))
     both = command(["make", "-s"], folder, more=more).done().splitlines()
     same(both[-1], "2 tests: 2 passed, 0 failed; 8 calls, 24 expectations, 0 not met")
+    second.unlink()
+    stale = command(["make", "-s", "-n"], folder, more=more).errors
+    holds("no source here makes" in stale and "second.elf" in stale, stale, "a program without a source")
+    written(second, text)
 
 
 def too_long(run: Run) -> None:

@@ -141,6 +141,7 @@ class OfDescriptions(InFolder):
         found = self.description(f"include other/all\n{CALL.partition(chr(10))[2]}")
         self.assertEqual((found.programs, found.stores), ({"echo": f"{self.folder}/other/echo.elf"}, ["store key:a u8:7"]))
         self.assertEqual((found.shapes, found.blocks.block.rules), (["shape key:a number:u8"], 3))
+        self.assertEqual(found.files, [found.path, f"{self.folder}/other/all"])
 
     def test_time(self) -> None:
         """It is a store line at first. The time before calls that are left out passes before the next one; it never wraps."""
@@ -292,7 +293,7 @@ class OfStorage(unittest.TestCase):
         for name, texts in {account: ("bob", "account:bob", account.hex()), key: ("a", "key:a", A.hex(), "hex:61")}.items():
             for text in texts:
                 self.assertTrue(name == text and text == name and not name != text and name in ["c", text], text)
-            self.assertTrue(name != "c" and name == bytes(name) and hash(name) == hash(bytes(name)))
+            self.assertTrue(name != "c" and name == bytes(name) and {texts[0]: True}[f"{name}"] and name in {texts[0]} and name not in {"c"})
         for data, text, message in (
             (account, "key:bob", "the account is compared with 'key:bob', which has 32 bytes in place of 20"),
             (account, "7", "the account is compared with '7': account:7: an account has a name, and this is a number"),

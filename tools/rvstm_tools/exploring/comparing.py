@@ -3,7 +3,7 @@
 from typing import SupportsIndex, overload
 
 from rvstm_tools.errors import UserError
-from rvstm_tools.texts import keys, words
+from rvstm_tools.texts import keys, views, words
 
 
 class MistakeError(UserError):
@@ -19,7 +19,8 @@ class Data(bytes):
     def __ne__(self, other: object) -> bool:
         return not self == other
 
-    __hash__ = bytes.__hash__
+    def __hash__(self) -> int:
+        return bytes.__hash__(self)
 
     @overload
     def __getitem__(self, place: SupportsIndex) -> int: ...
@@ -35,7 +36,16 @@ class Data(bytes):
 
 
 class Name(Data):
-    """An account or a key. It equals the words that say it: `alice`, `account:alice`, or its bytes in hex."""
+    """An account or a key. It equals the words that say it: `alice`, `account:alice`, or its bytes in hex. As a text it is its name or
+    this hex, and a set or a dict of such texts has it."""
+
+    def __format__(self, _: str) -> str:
+        return views.text_of(self) or self.hex()
+
+    def __hash__(self) -> int:
+        return hash(f"{self}")
+
+    __eq__ = Data.__eq__  # which would be lost beside another hash
 
     def bytes_of(self, text: str) -> bytes:
         is_key = len(self) == keys.KEY_LENGTH

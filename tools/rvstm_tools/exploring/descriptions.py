@@ -115,6 +115,7 @@ class Description:
         self.model: ModelClass | None = None
         self.time: Time | None = None
         self.is_over = False
+        self.files = [path]  # that it consists of
         with open(path, encoding="utf-8", errors="surrogateescape") as file:
             for number, text in enumerate(file, 1):
                 with lists.placed(path, number):
@@ -161,6 +162,7 @@ class Description:
                 (self.stores if line.kind == "store" else self.shapes).append(text)
         elif line.kind == "include":
             lists.take_included(line, lambda other: self._take_words(other, other.text))
+            self.files.append(str(self.folder / line.words[1]))
         elif line.kind == "call":
             self._take_call(line, text)
         elif line.kind in takers:

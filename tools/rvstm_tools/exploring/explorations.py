@@ -56,7 +56,7 @@ class Exploration:
 
     def _search(self) -> Status:
         """Searches, and prints what came of it. If it is interrupted, that is what came so far."""
-        search = Search(self.limits, self.progress.of_search)
+        search = Search(self.limits, self.progress.watch())
         is_interrupted = False
         try:
             search.search(self.plan.rvstm, self.description, self.plan.jobs)

@@ -33,7 +33,7 @@ class Folder:
 
     def __init__(self, path: Path, description: Description) -> None:
         self.path = path
-        self.description = digest_of(Path(description.path).read_bytes())
+        self.description = digest_of(*(Path(file).read_bytes() for file in description.files))
         self.programs = digest_of(*(Path(file).read_bytes() for file in description.programs.values()))
         path.mkdir(parents=True, exist_ok=True)
 

@@ -3,6 +3,7 @@
 import shutil
 import sys
 import time
+from collections.abc import Callable
 from pathlib import Path
 from typing import TextIO
 
@@ -27,12 +28,15 @@ class Progress:
         self.reached: Reached | None = None
         self.last = -EACH
 
+    def watch(self) -> Callable[[Search, list[Sample]], None] | None:
+        """What sees a search, if that is of use: on a terminal, or if the lines of the programs are known."""
+        self.reached = Reached(self.rvstm, self.description)
+        return self.of_search if self.is_shown or not self.reached.lack else None
+
     def of_search(self, search: Search, samples: list[Sample]) -> None:
         """Replays the samples beside the search, and says how far it is."""
-        if self.reached is None:
-            self.reached = Reached(self.rvstm, self.description)
-        if self.is_shown or not self.reached.lack:
-            self.reached.add(samples)
+        assert self.reached
+        self.reached.add(samples)
         if not self._is_due():
             return
         found = search.found

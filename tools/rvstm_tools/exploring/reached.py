@@ -83,9 +83,10 @@ class Reached:
         self.replayed = 0  # how many samples
         self.is_ended = False
         self.thread = threading.Thread(target=self._replay_all, daemon=True)
-        self.thread.start()
 
     def add(self, samples: Iterable[Sample]) -> None:
+        if self.thread.ident is None:
+            self.thread.start()  # not before, since a process that forks has no other thread
         for sample in samples:
             if sample.way not in self.ways:
                 self.ways.add(sample.way)
@@ -110,7 +111,8 @@ class Reached:
             yield f"which branches no call reached is not known: {self.lack}"
             return
         self.samples.put(None)
-        self.thread.join(seconds)
+        if self.thread.ident is not None:
+            self.thread.join(seconds)
         if self.thread.is_alive():
             yield f"reached by {self.replayed} of {len(self.ways)} calls that ended each in another way:"
         covered = Covered(SourceFile)
