@@ -69,7 +69,7 @@ failed  PATH: 3 calls, expectations: 1 of 7 not met
         line 6: expect returned u64:9
         wanted  returned  0900000000000000  9
         came    returned  0800000000000000  8
-        ended   returned at PC, gas N
+        ended   returned, gas N
         more    rvstm-tools trace PATH --call 1
 1 test: 0 passed, 1 failed; 3 calls, 7 expectations, 1 not met
 """
@@ -223,7 +223,7 @@ def test_that_fails(run: Run) -> None:
     """A list of which one expectation is not met, as the page of contracts has it, and one whose program is refused."""
     path = written(run.place / "votes.list", VOTES.replace("tally.elf", f"{EXAMPLES}/tally/tally.elf"))
     came = tool(run, "test", path)
-    out = re.sub(r"returned at [0-9a-f]{8}, gas \d+", "returned at PC, gas N", came.out)
+    out = re.sub(r"returned, gas \d+", "returned, gas N", came.out)
     same((came.status, out, came.errors), (1, VOTES_TESTED.replace("PATH", str(path)), ""))
     written(run.place / "a.elf", "no program")
     path = written(run.place / "no.list", 'program a a.elf\nstore key:1 u8:7\ncall a 9 "hi"\nexpect returned "hi"\n')

@@ -103,7 +103,7 @@ class Test(InFolder):
         rows = [json.loads(line) for line in output.splitlines()]
         self.assertEqual(status, 1)
         self.assertEqual([row["misses"] for row in rows[:2]], [[
-            {"line": 5, "call": 0, "ended": "returned at 00010000, gas 5", "expected": "expect gas at most 4", "wanted": "gas at most 4", "came": "gas 5", "place": ""},
+            {"line": 5, "call": 0, "ended": "returned, gas 5", "expected": "expect gas at most 4", "wanted": "gas at most 4", "came": "gas 5", "place": ""},
             {"line": 7, "call": None, "ended": None, "expected": "expect key:1 u8:7", "wanted": "07  7", "came": "gone", "place": ""},
         ], []])
         self.assertEqual([row["gas"] for row in rows[:2]], [[5], [5]])

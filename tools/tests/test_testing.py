@@ -19,7 +19,7 @@ from rvstm_tools.texts.results import End, Receipt
 from tests.helpers import FakeProgram, InFolder
 
 KEY = "0" * 63 + "1"
-ENDED = ["        ended   returned at 00010000, gas 5", "        more    rvstm-tools trace a.list --call 0"]
+ENDED = ["        ended   returned, gas 5", "        more    rvstm-tools trace a.list --call 0"]
 BEGIN = "program a a.elf\ncall a 9\n"
 
 
@@ -114,7 +114,7 @@ class Running(InFolderWithProgram):
         said = self.tried(content, program)
         self.assertEqual(said[0], "failed  a.list: 2 calls, expectations: 2 of 5 not met")
         self.assertEqual(said[1:4], ["    line 6, call 1: call a 8", "        line 7: expect gas at most 5", "        wanted  gas at most 5"])
-        self.assertEqual(said[5:7], ["        ended   returned at 00010000, gas 6", "        more    rvstm-tools trace a.list --call 1"])
+        self.assertEqual(said[5:7], ["        ended   returned, gas 6", "        more    rvstm-tools trace a.list --call 1"])
         self.assertEqual(said[7:10], ["    storage", "        line 10: expect key:1 u8:1", "        wanted  01  1"])
         second = f"rvblock 1\nprogram 0 a.elf\nstore {KEY} 01\nstore {KEY[:-1]}2 02\ncall 0 8 -\n"
         self.assertEqual(program.blocks, ["rvblock 1\nprogram 0 a.elf\ncall 0 9 -\n", second])

@@ -16,7 +16,7 @@ from rvstm_tools.texts.blocks import ProgramFile
 from rvstm_tools.texts.differences import Difference
 from rvstm_tools.texts.expectations import Expectation, LineDifference, Scene
 from rvstm_tools.texts.keys import Storage
-from rvstm_tools.texts.results import Receipt
+from rvstm_tools.texts.results import End, Receipt
 
 NO_LINE = "no line"
 
@@ -89,13 +89,13 @@ class Run:
     def _end_of(self, number: int) -> str:
         at, in_block = self.test.file.place_of(number)
         block, receipt = self.test.file.blocks[at], self.receipts[number]
-        paths = dict(zip(block.programs, self.programs, strict=True))
-        place = ""
+        if receipt.end is End.RETURNED:
+            return f"returned, gas {receipt.gas}"
+        place, size = f"{receipt.pc:08x}", causes.size_of(receipt, block.rules)
         if isinstance(self.runner, Program):
-            path = paths[block.calls[in_block].program].path
-            place = causes.place_of(self.runner.path, self.blocks[at], in_block, self.folder, path)
-        size = causes.size_of(receipt, block.rules)
-        return f"{receipt.end} at {place or f'{receipt.pc:08x}'}, gas {receipt.gas}{size and ': '}{size}"
+            path = dict(zip(block.programs, self.programs, strict=True))[block.calls[in_block].program].path
+            place = causes.place_of(self.runner.path, self.blocks[at], in_block, self.folder, path) or place
+        return f"{receipt.end} at {place}, gas {receipt.gas}{size and ': '}{size}"
 
     def _difference_at(self, part: Part, workers: int) -> LineDifference | None:
         return self.difference([self.blocks[self.test.file.place_of(part.call)[0]]] if isinstance(part, CallPart) else self.blocks, workers)
