@@ -81,8 +81,8 @@ exception is a mistake of the model.
 
 Each sequence begins with the storage of the description, and has --length calls. Each process has one session of `rvstm chain`,
 and runs blocks of one to sixteen calls. With a line `time` a list that it writes has lines `block`; without it the blocks make no
-difference. Half of the numbers come from anywhere in a range. The others are an end of it, or are in
-the storage or in an output, or differ by one from such a number. One seed always makes the same calls, on every machine.
+difference. Half of the numbers come from anywhere in a range. The others are an end of it, or are in the storage or in an output, or
+differ by one from such a number. One seed always makes the same calls, on every machine.
 
 The first sequence that breaks something is printed as `broken by`, and written to --out. Then it is shortened: calls are left out,
 alone or while numbers of other calls change with them, numbers, words and bytes are made simpler, and random sequences of one to

@@ -48,11 +48,10 @@ After a call, the last one too, KEY is compared with what this call writes, whic
 `storage` it is compared with what the storage has then. A call with no lines after it may end in any way.
 
 A line is printed for each test, below it each line that is not met, and at the end the sums. Below the lines of a call are its end,
-the line of the source at which it ended (if NAME.lines.elf is beside NAME.elf), a size that was too large, and the command that
-shows more. If bytes are too long for a line, the
-piece around the first byte that differs is printed. A key of a table is printed by the words of the list, and a value with a
-`shape` by its fields, with the name of the first one that differs.
-With --json an object of JSON is printed in place of each such line, with the gas of all calls, and one for the sums.
+the line of the source at which it ended, if NAME.lines.elf is beside NAME.elf, a size that was too large, and the command that shows
+more. If bytes are too long for a line, the piece around the first byte that differs is printed. A key of a table is printed by the
+words of the list, and a value with a `shape` by its fields, with the name of the first one that differs. With --json an object of
+JSON is printed in place of each such line, with the gas of all calls, and one for the sums.
 
 --gas FILE compares the gas of each call with its row in FILE: the gas, the list, the block, the name of the input by the lines
 `shape input`, and the text of the call. So a new call changes no other row. It prints calls that differ by more than --within
