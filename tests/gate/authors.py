@@ -40,6 +40,9 @@ def new_contract(run: Run, source: str, options: tuple[str, ...] = ()) -> None:
     if made.status and (NO_LIBRARIES in made.errors or " not found; " in made.errors):
         raise Lacks("Rust for the machine of contracts")
     same(made.done().splitlines()[-1], f"built {folder}/votes.elf; `make` in {folder} builds it again and runs its test")
+    if source == "votes.c":  # an editor finds the headers
+        flags = (folder / "compile_flags.txt").read_text(encoding="utf-8").splitlines()
+        same(command(["clang", "-fsyntax-only", *flags, source], folder).errors, "")
     more = {"RVSTM": str(run.program), "EXPLORE": "--seed 1 --strict --calls 100"}
     same(command(["make", "-s"], folder, more=more).done().splitlines()[-1], PASSED)
     made_again(folder, source, more)

@@ -253,6 +253,11 @@ def test_over_a_result(run: Run) -> None:
         "1 call of gas.txt differs by more than 0 percent", "    one.list, block 0, count: call counter 999 key:2: 639, and not in the table"]))
     written(place / "one.list", text)
     done = tool(run, "test", ".", "--gas", "gas.txt", "--json", "--junit", "tests.xml", folder=place).done()
+    words = ("--gas", place / "later.txt", "--write", "--json", "--junit", place / "later.xml")
+    later = tool(run, "test", LOCK / "later.list", *words).done().splitlines()
+    same([json.loads(later[0])[name] for name in ("calls", "expectations", "misses")], [5, 11, []])
+    rows = (place / "later.txt").read_text(encoding="utf-8").splitlines()[1:]
+    same([row.split("\t")[2] for row in rows], ["0", "0", "1", "2", "2"], "the blocks of the calls")
     sums = {"kind": "sums", "tests": 1, "failed": 0, "calls": 2, "expectations": 2, "not_met": 0}
     same(json.loads(done.splitlines()[-1]), sums)
     holds('tests="2" failures="0"' in (place / "tests.xml").read_text(encoding="utf-8"), "another file", "two tests without a failure")

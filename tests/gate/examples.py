@@ -197,6 +197,11 @@ def covered(run: Run) -> None:
     expected = (EXAMPLES / "covered/token.covered").read_text(encoding="utf-8")
     parts = [sorted(re.split(r"\n(?=\S)", text.rstrip())) for text in (came, expected)]
     same("\n".join(parts[0]), "\n".join(parts[1]))
+    for name in ("later.list", "vault.shapes"):
+        shutil.copy(EXAMPLES / "vault" / name, run.place)
+    made(run, EXAMPLES / "vault/vault.c", "vault.elf", "vault.lines.elf")
+    later = tool(run, "coverage", "later.list", folder=run.place).done()
+    holds(later.startswith("6 calls, ") and "\nvault.c: lines" in later, later, "the calls of four blocks")
     shown = re.findall(r"^[^ ].*: lines (\d+) of (\d+).*; branches (\d+) of (\d+)", both, re.M)
     info = (run.place / "info").read_text(encoding="utf-8")
     for at, word in enumerate(("LH", "LF", "BRH", "BRF")):

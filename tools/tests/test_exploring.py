@@ -737,6 +737,12 @@ done
         tool.chmod(0o755)
         with mock.patch("rvstm_tools.debugging.sources.address_tool", lambda: str(tool)):
             self.assertEqual(self.said("bank"), "1 of 2 lines reached")
+            slow = Path(self.write("slow", "#!/bin/sh\nexec sleep 1\n"))
+            slow.chmod(0o755)
+            reached = Reached(slow, Description(self.described()))
+            reached.add([Sample(Way(3, End.RETURNED, 0, 5), "bank", 100, b"", {})])
+            first, *_ = reached.covered(0.01)
+            self.assertEqual(first, "reached by 0 of 1 calls that ended each in another way:")
 
 
 class OfModels(OverBank):

@@ -25,8 +25,8 @@ A test is a list of a block (`rvstm-tools block --help`), with what is expected 
     expect key:bob u64:8
 
 `rvstm seq` runs the calls of a list in one block, or in several that lines `block` part, in the folder of the list, from which paths
-start. As many lists run at once as --jobs says. A line `storage DUMP` before the calls begins with the storage of a file: what `rvstm chain` answered to `dump`, or a
-result.
+start. As many lists run at once as --jobs says. A line `storage DUMP` before the calls begins with the storage of a file: what
+`rvstm chain` answered to `dump`, or a result.
 
     expect returned BYTES..     the call returns, with this output; without BYTES with any, and with "" with an empty one
     expect reverted BYTES..     the call reverts, in the same three ways
