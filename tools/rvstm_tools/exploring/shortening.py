@@ -163,13 +163,17 @@ class Shorter:
         return any(self.rename(place) for place in words) or self.lower_together()
 
     def pass_less_time(self) -> bool:
-        """Whether a call could be in the block before it, or less time pass before its own."""
+        """Whether a call could be in the block before it, less time pass before its own, or none before the first call."""
         for at, call in enumerate(self.calls):
             time, step = self.run.description.time, call.step
             if time and step is not None:
                 for less in (None, *time.less(step)):
                     if self.takes([*self.calls[:at], replace(call, step=less), *self.calls[at + 1 :]]):
                         return True
+        if len(self.calls) > 1 and self.calls[0].step is not None:
+            first, second, *others = self.calls
+            later = replace(second, step=(first.step or 0) + (second.step or 0))
+            return self.takes([replace(first, step=None), later, *others])
         return False
 
     def rename(self, place: Words) -> bool:
