@@ -302,6 +302,8 @@ def trace(run: Run) -> None:
     holds(later.startswith("call 3 of later.list: returned, ") and "\nopen(gate)" not in later, later, "the call of the third block")
     none = tool(run, "trace", "later.list", "--call", "5", folder=LOCK)
     same((none.status, none.errors), (1, "trace: later.list: there is no call 5; its 5 calls count from 0\n"))
+    tool(run, "trace", written(run.place / "wrong", "nonsense\n"), "--call", "0").refused(f"trace: {run.place}/wrong, line 1: nonsense: not "
+        "rules, include, program, shape, store, call, block, expect or storage")
 
 
 def coverage(run: Run) -> None:

@@ -40,8 +40,9 @@ def of_call(program: Program, path: str, call: int, view: View | None) -> Iterat
     if not is_list(path):
         yield GivenBlock(path, Path(), call, view or View())
         return
+    file = lists.read_list(path)
     with lists.named(path):
-        block, at = lists.read_list(path).place_of(call)
+        block, at = file.place_of(call)
     with of_block(program, path, block, view) as given:
         yield GivenBlock(given.path, given.folder, at, given.view)
 
