@@ -105,7 +105,7 @@ class Ledger:
         self.session.session.kill()
         self.fault = f"the engine failed: {reason}"
         with contextlib.suppress(OSError):
-            print(f"node: {calls.printable(self.fault)}", file=sys.stderr, flush=True)
+            print(f"node: {self.fault}", file=sys.stderr, flush=True)
         for one in self.waiting.values():
             one.receipt.set_exception(RefusedError(503, self.fault))
         self.waiting.clear()

@@ -402,11 +402,11 @@ exec PROGRAM "$@"
         self.assertNotIn("the engine failed", self.node.page())
 
     def test_what_an_engine_says(self) -> None:
-        """It reaches the terminal of the node without its escape sequences."""
+        """It reaches clients and the terminal of the node without its escape sequences."""
         (self.place / "says").write_bytes(b"\x1b[2Jno\nmore\n")
         (engine,) = self.node.engines()
         os.kill(engine, signal.SIGKILL)
-        self.assertEqual(self.node.post(self.node.payment(0)), (503, {"error": "the engine failed: \x1b[2Jno"}))
+        self.assertEqual(self.node.post(self.node.payment(0)), (503, {"error": "the engine failed: \\x1b[2Jno"}))
         self.node.process.kill()
         said = self.node.process.communicate()[1].splitlines()
         self.assertEqual(set(said), {"node: the engine failed: \\x1b[2Jno"})
