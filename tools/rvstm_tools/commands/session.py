@@ -37,7 +37,7 @@ its programs NAME.elf. The digest after each is compared with that in NAME.frame
 
 With --store the session is kept in a file, and continues from it: `rvstm-tools session --store FILE --state` reads it. With
 --shapes LIST its values are shown by their fields, and typed calls name the programs of LIST.
-Without it the session is in memory, and ends with this command. A FILE belongs to the settings that it was made with.
+Without --store the session is in memory, and ends with this command. A FILE belongs to the settings that it was made with.
 
 The status is 0 if all is done, 1 if a request is refused, a line is not met or a digest differs, and 2 for a wrong command line."""
 
