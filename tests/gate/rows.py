@@ -5,6 +5,7 @@ import re
 from collections.abc import Sequence
 from dataclasses import dataclass
 from functools import partial
+from typing import TypeVar
 
 from gate.calls import command, rvstm
 from gate.cases import TOP, Case, Run, holds, same
@@ -14,6 +15,7 @@ from gate.texts import Call, block, receipts, written
 
 MAKEFILE = TOP / "sdk/Makefile"
 FULL = 28
+Batched = TypeVar("Batched")
 NEEDS = {"clang": CONTRACTS, "gnu": (Tool.GCC, Tool.MAKE)}
 
 CONSTANT_LENGTHS = "\n".join(f"    case {n}: ROW_KEY(&keys[0], acct, BYTES(row, {n})); break;" for n in range(1, FULL))
@@ -101,7 +103,7 @@ def keys_by_model(run: Run, compiler: str) -> None:
     same(outputs[-1], key("acct", b"pot") + key("B", b"abcdefghijklmnopqrstuvwxyz0") + key("acct", number), "constants")
 
 
-def batches(calls: Sequence[Call]) -> list[Sequence[Call]]:
+def batches(calls: Sequence[Batched]) -> list[Sequence[Batched]]:
     """The calls of blocks, of which each has at most 1,000."""
     return [calls[at : at + 1000] for at in range(0, len(calls), 1000)]
 

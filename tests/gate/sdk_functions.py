@@ -15,14 +15,16 @@ from pathlib import Path
 
 from gate.calls import command, rvstm
 from gate.cases import TOP, Case, Lacks, Run, holds, same
-from gate.machine import CONTRACTS, Tool
+from gate.machine import Tool
+from gate.rows import MAKEFILE, NEEDS, batches
 from gate.texts import Call, block, receipts, written
 
-MAKEFILE, FUNCTIONS = TOP / "sdk/Makefile", TOP / "tests/gate/sdk_functions.c"
+FUNCTIONS = TOP / "tests/gate/sdk_functions.c"
 NUMBERS = (0, 1, 2, 9, 10, 2**16 - 1, 2**31, 2**32 - 1, 2**32, 2**63, 2**64 - 2, 2**64 - 1)
 LENGTHS = (0, 1, 55, 56, 57, 63, 64, 65, 119, 120, 128)
 TAGS = (b"", b"t", b"a.tag.of.23.bytes......", b"a tag of 64 bytes, which is as long as a block of the digest is..")
 TOO_LONG, TOO_SHORT = ("reverted", b"the input is too long"), ("reverted", b"the input is too short")
+PRODUCTS = 10_000
 MUL_DIV = 800  # gas: that of mul_div, which numbers.h gives, and what else such a call does
 Came = tuple[str, bytes]  # the end of a call and its output
 
@@ -90,11 +92,19 @@ def of_quotients(chance: random.Random) -> Iterator[Asked]:
         by = chance.getrandbits(chance.randint(1, 64)) | 1
         one = max(1, chance.getrandbits(chance.randint(1, 64)))
         edges.append((one, min((chance.choice((2**64 - 1, chance.getrandbits(48) << 16)) * by + chance.randrange(by)) // one, 2**64 - 1), by))
-    for one, other, by in edges:
-        for up in (0, 1):
-            quotient = (one * other + (by - 1) * up) // by if by else 0
-            wanted = returned(quotient) if by and quotient < 2**64 else ("reverted", b"the quotient is too large" if by else b"division by zero")
-            yield Asked(bytes([Of.PRODUCT, up, 0, 0]) + words(one, other, by), wanted)
+    yield from (product(*edge, up) for edge in edges for up in (0, 1))
+
+
+def product(one: int, other: int, by: int, up: int) -> Asked:
+    """A product of 128 bits that is divided, rounded down or up."""
+    quotient = (one * other + (by - 1) * up) // by if by else 0
+    wanted = returned(quotient) if by and quotient < 2**64 else ("reverted", b"the quotient is too large" if by else b"division by zero")
+    return Asked(bytes([Of.PRODUCT, up, 0, 0]) + words(one, other, by), wanted)
+
+
+def any_number(chance: random.Random) -> int:
+    """A number of 64 bits: one at an edge, or one of a random length."""
+    return chance.choice((*NUMBERS, 0xFFFF << 48, 1 << 48)) if chance.random() < 0.2 else chance.getrandbits(chance.randint(0, 64))
 
 
 def of_digests(chance: random.Random) -> Iterator[Asked]:
@@ -185,10 +195,8 @@ def differences(asked: Sequence[Asked], came: Sequence[Came]) -> None:
 
 def as_contracts(run: Run, compiler: str) -> None:
     """Each function, as a contract."""
-    asked = all_asked(run.setting.seed)
-    shutil.copy(FUNCTIONS, run.place / "functions.c")
-    command(["make", "-s", "-f", MAKEFILE, f"TOOLS={compiler}", "functions.elf"], run.place).done()
-    gas = differences_as_contracts(run, asked)
+    make_contract(run, compiler)
+    gas = differences_as_contracts(run, all_asked(run.setting.seed))
     dear = [used for data, used in gas.items() if data[0] == Of.PRODUCT and used > MUL_DIV]
     same(dear, [], f"the gas of mul_div above {MUL_DIV}")
     for kind, other in ((0, (0, 1)), (2, (1, 0))):
@@ -196,11 +204,24 @@ def as_contracts(run: Run, compiler: str) -> None:
         holds(at_words < at_bytes, f"{at_words} gas at multiples of 4 and {at_bytes} at others", "less by copies of words")
 
 
+def make_contract(run: Run, compiler: str) -> None:
+    shutil.copy(FUNCTIONS, run.place / "functions.c")
+    command(["make", "-s", "-f", MAKEFILE, f"TOOLS={compiler}", "functions.elf"], run.place).done()
+
+
+def many_products(run: Run, compiler: str) -> None:
+    """Products of random numbers, as a contract."""
+    make_contract(run, compiler)
+    chance = random.Random(run.setting.seed)
+    asked = [product(any_number(chance), any_number(chance), any_number(chance), number % 2) for number in range(PRODUCTS)]
+    differences_as_contracts(run, asked)
+
+
 def differences_as_contracts(run: Run, asked: Sequence[Asked]) -> dict[bytes, int]:
     """Ends the case if a call of functions.elf ends otherwise. The gas of each input."""
     gas = dict[bytes, int]()
-    for rules in (1, 2, 3):
-        part = [one for one in asked if one.rules == rules]
+    for part in (part for rules in (1, 2, 3) for part in batches([one for one in asked if one.rules == rules])):
+        rules = part[0].rules
         written(run.place / "all.block", block(["functions.elf"], [Call(data=one.data.hex()) for one in part], head=f"rvblock 2\ngas {rules}\n"))
         found = receipts(rvstm(run, "seq", "all.block", folder=run.place).done())
         differences(part, [(one.end, bytes.fromhex(one.output.replace("-", ""))) for one in found])
@@ -288,7 +309,9 @@ def rust_as_a_contract(run: Run) -> None:
 def cases() -> list[Case]:
     """All of them."""
     found = [Case("sdk: each function on this machine", on_this_machine, (Tool.CC, Tool.MAKE), cost=2)]
-    for compiler, needs in (("clang", CONTRACTS), ("gnu", (Tool.GCC, Tool.MAKE))):
+    for compiler, needs in NEEDS.items():
         found.append(Case(f"sdk: each function as a contract by {compiler}", partial(as_contracts, compiler=compiler), needs, cost=2))
+        name = f"sdk: {PRODUCTS:,} products as a contract by {compiler}"
+        found.append(Case(name, partial(many_products, compiler=compiler), needs, needs_speed=True, cost=3))
     found.append(Case("sdk: each function in Rust on this machine", rust_on_this_machine, (Tool.CARGO,), cost=6))
     return [*found, Case("sdk: each function in Rust as a contract", rust_as_a_contract, (Tool.CARGO, Tool.LLVM, Tool.LLD), cost=8)]
