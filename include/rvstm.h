@@ -1,17 +1,22 @@
 /**
  * @file
- * Sessions of blocks: block after block, in order, over a storage that is kept in memory, as `rvstm chain` runs them.
+ * Two ways to run blocks of calls inside a program.
  *
- * docs/embedding.md has examples, and says how to link. docs/formats.md (Sessions) says what each request does, and the bytes of
- * its answer.
+ *  - **Sessions** (rvstm_session): block after block, in order, over a storage that the library keeps in memory, as `rvstm chain`
+ *    runs them. Requests and answers are texts: docs/formats.md (Sessions) says what each request does, and the bytes of its answer.
+ *  - **Blocks over the caller's own storage** (rvstm_image, rvstm_block): the caller adds calls, and looks up each key that a call
+ *    asks for. The result is structs: what each call did, and what the block changes.
+ *
+ * docs/embedding.md has examples, and says how to link. Below, a handle is an rvstm_session, an rvstm_image or an rvstm_block.
  *
  * Nothing checks these duties of a caller:
  *
- *  1. All bytes of an rvstm_session are zero before it is opened, as `rvstm_session session = {0};` makes them. From then on only
+ *  1. All bytes of a handle are zero before it is opened, as `rvstm_session session = {0};` makes them. From then on only
  *     these functions read or change it. It may be moved; do not use its old place after that.
- *  2. Close a session that was opened once. Otherwise its memory is not freed.
- *  3. A session is used by one thread at a time, and never from a signal handler. Sessions are independent: two
- *     threads may use two.
+ *  2. Close a handle that was opened once. Otherwise its memory is not freed.
+ *  3. A handle is used by one thread at a time, and never from a signal handler. Another thread may use it later, if a lock, or
+ *     the start or the join of a thread, comes between. Handles are independent: two threads may use two. A block keeps what it
+ *     needs of an image, so the image may be used or closed while the block runs.
  *  4. A pointer is not NULL, even if its length is 0, and points to as many bytes as the length says. No other thread changes
  *     them during the call. A buffer that a call writes to overlaps none of its other arguments.
  *  5. malloc, realloc and free are those of one C library. They align a block to each power of two up to 16 that divides its
@@ -45,14 +50,25 @@ typedef struct {
 
 /** What a call returns. */
 enum rvstm_status {
-    RVSTM_DONE = 0,         /**< the call is done */
-    RVSTM_REFUSED = 1,      /**< the request is refused, by each node that got the same requests; rvstm_refusal() has the parts */
-    RVSTM_CLOSED = 2,       /**< the session was not opened, or is closed; nothing was done */
-    RVSTM_ALREADY_OPEN = 3, /**< the session is open; nothing was done */
-    RVSTM_FAILED = 4,       /**< this machine ran out of memory for the request; nothing changed, and you may send it again */
-    RVSTM_NO_MEMORY = 5,    /**< memory for the session ran out, and it is not open */
-    RVSTM_SHORT_BUFFER = 6, /**< the buffer is shorter than the answer; nothing was copied */
-    RVSTM_BAD_SETTINGS = 7  /**< a number of the settings is too great; nothing was opened */
+    RVSTM_DONE = 0,            /**< the call is done */
+    RVSTM_REFUSED = 1,         /**< the request is refused, on each machine that gets the same requests; the parts say why */
+    RVSTM_CLOSED = 2,          /**< a handle was not opened, or is closed; nothing was done */
+    RVSTM_ALREADY_OPEN = 3,    /**< the handle is open; nothing was done */
+    RVSTM_FAILED = 4,          /**< this machine ran out of memory for the request; nothing changed, and you may send it again */
+    RVSTM_NO_MEMORY = 5,       /**< memory for the handle ran out, and it is not open */
+    RVSTM_SHORT_BUFFER = 6,    /**< the buffer is shorter than the bytes; nothing was copied */
+    RVSTM_BAD_SETTINGS = 7,    /**< a number of the settings is too great; nothing was opened */
+    RVSTM_KEY = 8,             /**< a call asks for a key: look it up, and answer with rvstm_run_base() */
+    RVSTM_ENDED = 9,           /**< all calls of the block have ended, and its result can be read */
+    RVSTM_PAUSED = 10,         /**< this machine ran out of memory in mid-run; nothing is lost: call rvstm_run_go() again */
+    RVSTM_WRONG_STAGE = 11,    /**< the block is not at the stage of this call; nothing was done */
+    RVSTM_BAD_RULES = 12,      /**< the rules are not 1, 2 or 3; nothing was opened */
+    RVSTM_TOO_MANY_CALLS = 13, /**< the block has 1,024 calls; nothing was done */
+    RVSTM_BAD_GAS = 14,        /**< the gas limit is not 1 to 10,000,000; nothing was done */
+    RVSTM_LONG_INPUT = 15,     /**< the input has more than 4,096 bytes; nothing was done */
+    RVSTM_NOT_ASKED = 16,      /**< no key is asked for; nothing was done */
+    RVSTM_LONG_VALUE = 17,     /**< the value has more than 256 bytes; nothing was done */
+    RVSTM_NO_ENTRY = 18        /**< there is no entry of this index; nothing was copied */
 };
 
 /** The gas of a frame has no bound. */
@@ -286,6 +302,247 @@ uint32_t rvstm_refusal(rvstm_session *session, rvstm_refusal_parts *parts);
  * @retval RVSTM_CLOSED  it was not open
  */
 uint32_t rvstm_close(rvstm_session *session);
+
+/**
+ * @name Blocks over the caller's own storage
+ *
+ * A block goes through three stages:
+ *
+ *  1. **Calls**: rvstm_block_open(), then rvstm_calls_add() for each call, in block order.
+ *  2. **Run**: rvstm_run_go() runs the calls in order until one asks for a key (RVSTM_KEY). Look the key up in your storage, answer
+ *     with rvstm_run_base(), and call rvstm_run_go() again.
+ *  3. **Result**: after RVSTM_ENDED, rvstm_result_counts() and the other calls of that name copy what each call did and what the block
+ *     changes.
+ *
+ * A call that belongs to another stage returns RVSTM_WRONG_STAGE. A block asks for each key at most once: later calls see what
+ * earlier ones wrote, and what was answered. A key to which calls only add is asked for after the last call, because its change
+ * needs the number before the block.
+ *
+ * **What the result is.** For every storage that has, at each key that was asked for, what was answered: the receipts are those of
+ * running the calls one after another over that storage, and the changes lead from it to the storage after the last call. Nothing
+ * checks that the answers come from one storage.
+ */
+/**@{*/
+
+/** A program, which was loaded once, and which calls of any number of blocks may run. */
+typedef struct {
+    void *at;  /**< the library's own */
+    bool full; /**< the library's own */
+} rvstm_image;
+
+/** A block: its calls, then their run, then its result. */
+typedef struct {
+    void *at;  /**< the library's own */
+    bool full; /**< the library's own */
+} rvstm_block;
+
+/** A key of the storage. */
+typedef struct {
+    uint8_t bytes[32]; /**< its bytes */
+} rvstm_key;
+
+/** How a call ended. docs/contracts.md says when each comes. Only RVSTM_END_RETURNED keeps the call's writes. */
+enum rvstm_end {
+    RVSTM_END_RETURNED = 0,        /**< it returned */
+    RVSTM_END_REVERTED = 1,        /**< it reverted */
+    RVSTM_END_OUT_OF_GAS = 2,      /**< less gas was left than the next instruction, or the copy of a READ, costs */
+    RVSTM_END_ILLEGAL = 3,         /**< the word is no instruction */
+    RVSTM_END_MISALIGNED = 4,      /**< an address is not a multiple of the size */
+    RVSTM_END_MEMORY_FAULT = 5,    /**< a right to read or to write is missing */
+    RVSTM_END_FETCH_FAULT = 6,     /**< a right to execute is missing */
+    RVSTM_END_BREAKPOINT = 7,      /**< the instruction is EBREAK */
+    RVSTM_END_UNKNOWN_CALL = 8,    /**< there is no storage call of this number */
+    RVSTM_END_BAD_LENGTH = 9,      /**< a length is above its limit */
+    RVSTM_END_TOO_MANY_WRITES = 10 /**< a 257th key was written */
+};
+
+/** What a write does to its key. */
+enum rvstm_write_kind {
+    RVSTM_WRITE_VALUE = 0, /**< the key gets a value */
+    RVSTM_WRITE_GONE = 1,  /**< the key is removed */
+    RVSTM_WRITE_SUM = 2    /**< an amount is added to the key's number, modulo 2^64 */
+};
+
+/** What one call did. */
+typedef struct {
+    uint32_t end;           /**< an rvstm_end */
+    uint32_t gas;           /**< the gas that it used, at most its limit */
+    uint32_t pc;            /**< the address of the instruction that ended it */
+    uint32_t registers[32]; /**< the registers at its end, x0 to x31 */
+    uint32_t output_length; /**< the length of what it returned or reverted with, 0 to 256; 0 after any other end */
+    uint32_t writes;        /**< how many keys it wrote, 0 to 256; 0 unless it returned */
+} rvstm_receipt;
+
+/** One write of a call. */
+typedef struct {
+    uint64_t amount;    /**< the amount of a sum; otherwise 0 */
+    uint32_t kind;      /**< an rvstm_write_kind */
+    uint32_t length;    /**< the length of a value, 0 to 256; otherwise 0 */
+    uint8_t key[32];    /**< the key */
+    uint8_t value[256]; /**< the bytes of a value, and zeros after them */
+} rvstm_write;
+
+/** What the block leaves at one key. */
+typedef struct {
+    uint32_t length;    /**< the length of the value, 0 to 256; 0 if the key is removed */
+    bool present;       /**< whether the key has a value; false: it is removed. An empty value is not a removal */
+    uint8_t key[32];    /**< the key */
+    uint8_t value[256]; /**< the bytes of the value, and zeros after them */
+} rvstm_change;
+
+/** How many entries a result has. */
+typedef struct {
+    uint32_t receipts; /**< the number of calls, 0 to 1,024 */
+    uint32_t changes;  /**< the number of keys that the block writes */
+} rvstm_result_entries;
+
+/**
+ * Loads a program. It may be closed before the blocks that use it.
+ * @param image        one whose bytes are zero, or that was closed
+ * @param file         the bytes of the program's file
+ * @param file_length  their number
+ * @param parts        gets the parts of a refusal; zeros for any other status
+ * @retval RVSTM_DONE          it is open
+ * @retval RVSTM_REFUSED       the file has more than 131,072 bytes (file TooLong) or is no program (elf); it is not open
+ * @retval RVSTM_ALREADY_OPEN  it was open before
+ * @retval RVSTM_NO_MEMORY     it is not open
+ */
+uint32_t rvstm_image_open(rvstm_image *image, const uint8_t *file, size_t file_length, rvstm_refusal_parts *parts);
+
+/**
+ * Closes an image. Its memory is freed when the last block that uses it is closed.
+ * @param image  any
+ * @retval RVSTM_DONE    it is closed
+ * @retval RVSTM_CLOSED  it was not open
+ */
+uint32_t rvstm_image_close(rvstm_image *image);
+
+/**
+ * Opens a block without calls.
+ * @param block  one whose bytes are zero, or that was closed
+ * @param rules  1, 2 or 3: the rules of its calls
+ * @retval RVSTM_DONE          it is open
+ * @retval RVSTM_ALREADY_OPEN  it was open before
+ * @retval RVSTM_BAD_RULES     it is not open
+ * @retval RVSTM_NO_MEMORY     it is not open
+ */
+uint32_t rvstm_block_open(rvstm_block *block, uint32_t rules);
+
+/**
+ * Adds a call after the others. Takes memory for the call, and for an input of more than 64 bytes.
+ * @param block         an open one, before its run
+ * @param image         an open one
+ * @param gas           the gas limit, 1 to 10,000,000
+ * @param input         the bytes of the input
+ * @param input_length  their number, at most 4,096
+ * @retval RVSTM_DONE            the block has the call
+ * @retval RVSTM_CLOSED          the block or the image is not open
+ * @retval RVSTM_WRONG_STAGE     the run has begun
+ * @retval RVSTM_TOO_MANY_CALLS  the block has 1,024 calls
+ * @retval RVSTM_BAD_GAS         for the gas limit
+ * @retval RVSTM_LONG_INPUT      for the input
+ * @retval RVSTM_FAILED          the block is as it was
+ */
+uint32_t rvstm_calls_add(rvstm_block *block, rvstm_image *image, uint32_t gas, const uint8_t *input, size_t input_length);
+
+/**
+ * Begins the run, or continues it, until a call asks for a key whose value the library does not know, or until all calls have
+ * ended. Each call takes time in proportion to its gas limit at most, and memory for its pages, its answers and its writes.
+ * @param block  an open one
+ * @param key    gets the key at RVSTM_KEY; otherwise it stays
+ * @retval RVSTM_KEY     a call asks for the key; a second rvstm_run_go() without an answer returns the same key
+ * @retval RVSTM_ENDED   all calls have ended; so does a block without calls. A further rvstm_run_go() returns it again
+ * @retval RVSTM_PAUSED  memory ran out. The run is at the instruction that needed memory, and the next rvstm_run_go() tries it again,
+ *                       with the same result
+ * @retval RVSTM_CLOSED  the block is not open
+ */
+uint32_t rvstm_run_go(rvstm_block *block, rvstm_key *key);
+
+/**
+ * Answers the key that rvstm_run_go() returned: what the storage has there before the block.
+ * @param block         an open one
+ * @param present       whether the key has a value; if it has none, the bytes are not read
+ * @param value         the bytes of the value
+ * @param value_length  their number, at most 256, under any rules
+ * @retval RVSTM_DONE         the run may go on
+ * @retval RVSTM_NOT_ASKED    no key is asked for, or it was answered already
+ * @retval RVSTM_LONG_VALUE   the key is still asked for
+ * @retval RVSTM_FAILED       the key is still asked for
+ * @retval RVSTM_CLOSED       the block is not open
+ */
+uint32_t rvstm_run_base(rvstm_block *block, bool present, const uint8_t *value, size_t value_length);
+
+/**
+ * Copies how many entries the result has.
+ * @param block    an open one, after RVSTM_ENDED
+ * @param entries  gets the numbers at RVSTM_DONE; otherwise it stays
+ * @retval RVSTM_DONE         the numbers were copied
+ * @retval RVSTM_WRONG_STAGE  there is no result yet
+ * @retval RVSTM_CLOSED       the block is not open
+ */
+uint32_t rvstm_result_counts(rvstm_block *block, rvstm_result_entries *entries);
+
+/**
+ * Copies what a call did.
+ * @param block    an open one, after RVSTM_ENDED
+ * @param call     the index of the call, from 0
+ * @param receipt  gets it at RVSTM_DONE; otherwise it stays
+ * @retval RVSTM_DONE         it was copied
+ * @retval RVSTM_NO_ENTRY     the block has no call of this index
+ * @retval RVSTM_WRONG_STAGE  there is no result yet
+ * @retval RVSTM_CLOSED       the block is not open
+ */
+uint32_t rvstm_result_receipt(rvstm_block *block, size_t call, rvstm_receipt *receipt);
+
+/**
+ * Copies what a call returned or reverted with to the beginning of a buffer. No zero is added, and the rest of the buffer stays.
+ * @param block          an open one, after RVSTM_ENDED
+ * @param call           the index of the call, from 0
+ * @param buffer         the caller's bytes; 256 are always enough
+ * @param buffer_length  their number
+ * @retval RVSTM_DONE          the buffer has the output
+ * @retval RVSTM_SHORT_BUFFER  the buffer is shorter than the output
+ * @retval RVSTM_NO_ENTRY      the block has no call of this index
+ * @retval RVSTM_WRONG_STAGE   there is no result yet
+ * @retval RVSTM_CLOSED        the block is not open
+ */
+uint32_t rvstm_result_output(rvstm_block *block, size_t call, uint8_t *buffer, size_t buffer_length);
+
+/**
+ * Copies a write of a call. The writes of a call are in the order of their keys.
+ * @param block  an open one, after RVSTM_ENDED
+ * @param call   the index of the call, from 0
+ * @param index  the index of the write, from 0
+ * @param write  gets it at RVSTM_DONE; otherwise it stays
+ * @retval RVSTM_DONE         it was copied
+ * @retval RVSTM_NO_ENTRY     the block has no such call, or the call has no such write
+ * @retval RVSTM_WRONG_STAGE  there is no result yet
+ * @retval RVSTM_CLOSED       the block is not open
+ */
+uint32_t rvstm_result_write(rvstm_block *block, size_t call, size_t index, rvstm_write *write);
+
+/**
+ * Copies a change of the block: what it leaves at one of the keys that its calls wrote. The changes are in the order of their keys,
+ * and added amounts are resolved. Make exactly these changes of your storage.
+ * @param block   an open one, after RVSTM_ENDED
+ * @param index   the index of the change, from 0
+ * @param change  gets it at RVSTM_DONE; otherwise it stays
+ * @retval RVSTM_DONE         it was copied
+ * @retval RVSTM_NO_ENTRY     the result has no change of this index
+ * @retval RVSTM_WRONG_STAGE  there is no result yet
+ * @retval RVSTM_CLOSED       the block is not open
+ */
+uint32_t rvstm_result_change(rvstm_block *block, size_t index, rvstm_change *change);
+
+/**
+ * Closes a block at any stage, and frees its memory. It may be opened again.
+ * @param block  any
+ * @retval RVSTM_DONE    it is closed
+ * @retval RVSTM_CLOSED  it was not open
+ */
+uint32_t rvstm_block_close(rvstm_block *block);
+
+/**@}*/
 
 #ifdef __cplusplus
 }
