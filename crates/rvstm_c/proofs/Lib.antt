@@ -1,4 +1,9 @@
 pub mod Values
 pub mod Handles
+pub mod ImageHandles
+pub mod BlockHandles
 pub mod Answers
 pub mod Calls
+pub mod Loads
+pub mod Bases
+pub mod Going

@@ -5,3 +5,7 @@ pub mod Settings
 pub mod Asked
 pub mod Embedding
 pub mod Refusals
+pub mod Images
+pub mod Blocks
+pub mod Entries
+pub mod Results

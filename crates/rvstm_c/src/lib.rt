@@ -2,12 +2,21 @@
 #![tactic(auto)]
 
 mod asking;
+mod block;
+pub mod block_calls;
+mod block_handle;
 mod copying;
+mod entries;
 mod fields;
 mod given;
 mod handle;
+mod image;
+pub mod image_calls;
+mod image_handle;
 mod loose;
+mod padding;
 mod refusal;
+pub mod result_calls;
 mod session;
 mod settings;
 mod status;
@@ -20,11 +29,16 @@ ghost use Rattle.rvstm_c.specs.Embedding.{IsAnswerCopied, IsCalled, IsClosed, Is
 ghost use Rattle.rvstm_c.specs.Refusals.{ArePartsOf};
 ghost use Rattle.rvstm_c.specs.Settings.{settings_of, usual_settings};
 
+pub use block::{EmbeddedBlock, Stage};
+pub use block_handle::BlockHandle;
 use copying::copy_text;
+pub use entries::{ChangeForC, EntriesForC, KeyForC, ReceiptForC, WriteForC};
 pub use given::Given;
 use given::{bytes_of, status_of};
 pub use handle::Handle;
 pub use handle::zeros::zeros;
+pub use image::EmbeddedImage;
+pub use image_handle::ImageHandle;
 use handle::{put_session, take_session};
 pub use refusal::RefusalParts;
 use refusal::{NO_PARTS, parts_of};

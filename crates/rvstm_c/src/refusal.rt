@@ -1,11 +1,12 @@
 //! The parts of a refusal or a failure, as C gets them.
 
-ghost use Rattle.std.specs.Prelude.{◌≡◌, ◌≤◌, length};
+ghost use Rattle.std.specs.Prelude.{◌≡◌};
 ghost use Rattle.byte_streams.specs.Refusals.{parts_in};
 ghost use Rattle.session_turns.specs.Turn.{last_reply};
-ghost use Rattle.rvstm_c.specs.Refusals.{handed_out, padded, parts_given, parts_of_reply};
+ghost use Rattle.rvstm_c.specs.Refusals.{handed_out, parts_given, parts_of_reply};
 
 use crate::given::Given;
+use crate::padding::padded;
 use byte_streams::LineParts;
 use session_turns::{Answer, FrameRefusal, KeptAnswer, State};
 
@@ -64,23 +65,13 @@ fn parts_of_last(last: &Option<KeptAnswer>) -> RefusalParts
 }
 
 /// The parts of a refusal.
-fn handed_out(parts: LineParts) -> RefusalParts
+pub(crate) fn handed_out(parts: LineParts) -> RefusalParts
     ensures { result ≡ handed_out (parts_in parts) }
 {
     RefusalParts {
         line: parts.line.unwrap_or(0),
         number: u32::from(parts.number),
-        area: padded(parts.area),
-        name: padded(parts.name),
+        area: padded(parts.area.as_bytes()),
+        name: padded(parts.name.as_bytes()),
     }
-}
-
-/// A text, and zeros after it.
-fn padded<const ROOM: usize>(text: &str) -> [u8; ROOM]
-    requires { length text.now ≤ ROOM }
-    ensures { result ≡ padded ROOM text.now }
-{
-    let mut bytes = [0; ROOM];
-    bytes[..text.len()].copy_from_slice(text.as_bytes());
-    bytes
 }

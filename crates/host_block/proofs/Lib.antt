@@ -1,0 +1,5 @@
+pub mod Changing
+pub mod Answering
+pub mod Settling
+pub mod Serials
+pub mod InOrder

@@ -1,0 +1,6 @@
+use Rattle.std.proofs.Common.{refl}
+use Rattle.host_block.proofs.InOrder.{starts}
+use Rattle.host_block.proofs.ordered_run.OrderedRun.new.Goals as goal
+
+pub invariant_of-result : goal.invariant_of-result
+invariant_of-result c = (starts _ c.new.ensures.items refl c.new-2.ensures refl refl, tt)

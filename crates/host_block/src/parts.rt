@@ -1,0 +1,283 @@
+//! The parts of a block's run in order, and how they change.
+
+ghost use Rattle.std.specs.Prelude.{◌≡◌, ◌⊎◌, ◌<◌, ◌≤◌, ◌+◌, ℕ, List, [], drop, true, IfOk, IsSome, OnErr, OnOk, None, Some, length, slice_get, vec_capacity, vec_len};
+ghost use Rattle.std.specs.FinMap as map;
+ghost use Rattle.host_block.specs.Ordered.{HasAllWrites, HasBegun, HasEnded, HasEndedRun, IsCallStop, IsInOrder, IsNextSum, IsRunStop, IsStop, Leaves, now_with};
+ghost use Rattle.rv_ledger.specs.Key.{Storage};
+
+use crate::change_map::ChangeMap;
+use crate::listing::{listed, sum_keys};
+use crate::run_call::run_call;
+use overlay::Overlay;
+use rv_ledger::{Call, Key, Receipt, StoredValue, Writes};
+use rv_step::{EndedRun, Run, SpareRun, one_receipt};
+use std::alloc::{AllocError, Global};
+use std::mem::replace;
+
+/// The call after those that have receipts.
+#[derive(Drop)]
+pub enum Current {
+    /// It has not begun, or there is none.
+    Next,
+    /// It runs.
+    Run(Run),
+    /// It has ended, and this many of its writes are among the changes.
+    Ended(Receipt, usize),
+}
+
+/// A block's run in order.
+#[derive(Drop)]
+pub struct Parts {
+    /// The allocator of what it keeps.
+    pub(crate) alloc: Global,
+    /// The calls.
+    pub(crate) calls: Vec<Call>,
+    /// The receipts of the calls that have ended.
+    pub(crate) receipts: Vec<Receipt>,
+    /// The call after them.
+    pub(crate) current: Current,
+    /// What the calls changed.
+    pub(crate) changes: ChangeMap,
+    /// What the host answered.
+    pub(crate) bases: Overlay,
+    /// The machine and the list of an earlier run.
+    pub(crate) spare: SpareRun,
+    /// After the last call: the keys to which the calls only add.
+    pub(crate) sums: Option<Vec<Key>>,
+    /// How many of them are known.
+    pub(crate) known_sums: usize,
+    /// After that: the changes of the result.
+    pub(crate) listed: Option<Vec<(Key, Option<StoredValue>)>>,
+}
+
+/// Continues until a key is needed that is not known, which is returned, or until the changes are listed. Refused if memory ran
+/// out; then nothing is lost, and it may continue.
+pub(crate) fn run_block(p: &mut Parts) -> Result<Option<Key>, AllocError>
+    requires { IsInOrder p.old }
+    ensures in_order { IsInOrder p.new }
+    ensures leaves { Leaves p.old p.new }
+    ensures stop { IfOk result (λ asked. IsStop asked p.new) }
+{
+    while p.receipts.len() < p.calls.len() {
+        if let Some(key) = go_call(p)? {
+            return Ok(Some(key));
+        }
+    }
+    settle(p)
+}
+
+/// Continues the next call. Returns the key that it asks for, or None once it has a receipt. Refused if memory ran out.
+fn go_call(p: &mut Parts) -> Result<Option<Key>, AllocError>
+    requires in_order { IsInOrder p.old }
+    requires more { length p.old.receipts.items < length p.old.calls.items }
+    ensures in_order { IsInOrder p.new }
+    ensures leaves { Leaves p.old p.new }
+    ensures stop { IfOk result (λ asked. IsCallStop asked (length p.old.receipts.items) p.new) }
+{
+    begin(p)?;
+    if let Some(key) = run_on(p)? {
+        return Ok(Some(key));
+    }
+    keep(p)?;
+    Ok(None)
+}
+
+/// Begins the next call, if none is under way. Refused if memory ran out.
+fn begin(p: &mut Parts) -> Result<(), AllocError>
+    requires in_order { IsInOrder p.old }
+    requires more { length p.old.receipts.items < length p.old.calls.items }
+    ensures in_order { IsInOrder p.new }
+    ensures leaves { Leaves p.old p.new }
+    ensures receipts { p.new.receipts ≡ p.old.receipts }
+    ensures begun { OnOk result (HasBegun p.new) }
+{
+    if let Current::Next = &p.current {
+        let spare = replace(&mut p.spare, SpareRun::new(p.alloc));
+        let run = Run::start_in(p.alloc, spare, &p.calls[p.receipts.len()])?;
+        p.current = Current::Run(run);
+    }
+    Ok(())
+}
+
+/// Continues the call under way. Returns the key that it asks for, or None once it has ended. Refused if memory ran out.
+fn run_on(p: &mut Parts) -> Result<Option<Key>, AllocError>
+    requires in_order { IsInOrder p.old }
+    requires begun { HasBegun p.old }
+    requires more { length p.old.receipts.items < length p.old.calls.items }
+    ensures in_order { IsInOrder p.new }
+    ensures leaves { Leaves p.old p.new }
+    ensures receipts { p.new.receipts ≡ p.old.receipts }
+    ensures stop { IfOk result (λ asked. IsRunStop asked p.new) }
+{
+    if let Current::Run(run) = &mut p.current {
+        if let Some(key) = run_call(run, &p.changes, &p.bases)? {
+            return Ok(Some(key));
+        }
+        end_call(p);
+    }
+    Ok(None)
+}
+
+/// Takes the receipt of the call under way, whose run has ended.
+fn end_call(p: &mut Parts)
+    requires in_order { IsInOrder p.old }
+    requires ended { HasEndedRun p.old.current }
+    requires more { length p.old.receipts.items < length p.old.calls.items }
+    ensures in_order { IsInOrder p.new }
+    ensures leaves { Leaves p.old p.new }
+    ensures receipts { p.new.receipts ≡ p.old.receipts }
+    ensures ended { HasEnded p.new }
+{
+    match replace(&mut p.current, Current::Next) {
+        Current::Run(run) => {
+            one_receipt();
+            let EndedRun {
+                answers,
+                receipt,
+                ..
+            } = run.finish_in(&mut p.spare);
+            p.spare.keep_answers(answers);
+            p.current = Current::Ended(receipt, 0);
+        }
+        _ => unreachable!(),
+    }
+}
+
+/// Adds the writes of the call that has ended to the changes, and keeps its receipt. Refused if memory ran out; then some of the
+/// writes may be among the changes, and it may continue.
+fn keep(p: &mut Parts) -> Result<(), AllocError>
+    requires in_order { IsInOrder p.old }
+    requires ended { HasEnded p.old }
+    ensures in_order { IsInOrder p.new }
+    ensures leaves { Leaves p.old p.new }
+    ensures receipts { OnOk result (length p.new.receipts.items ≡ length p.old.receipts.items + 1) }
+{
+    p.receipts.reserve(1)?;
+    match &mut p.current {
+        Current::Ended(receipt, count) => add_writes(&mut p.changes, &receipt.writes, count)?,
+        _ => unreachable!(),
+    }
+    keep_receipt(p);
+    Ok(())
+}
+
+/// Adds writes of a call to the changes, from the one of an index on. Refused if memory ran out; then the index is that of the first
+/// one that was not added.
+fn add_writes(changes: &mut ChangeMap, writes: &Writes, count: &mut usize) -> Result<(), AllocError>
+    ensures same { (store : Storage) → now_with changes.new writes.now count.new store ≡ now_with changes.old writes.now count.old store }
+    ensures written { (key : List ℕ) → map.contains_key changes.new key ≡ true → (map.contains_key changes.old key ≡ true) ⊎ (map.contains_key writes.now key ≡ true) }
+    ensures all { OnOk result (drop count.new (map.entries writes.now) ≡ []) }
+{
+    let entries = writes.as_slice();
+    while *count < entries.len() {
+        let (key, change) = &entries[*count];
+        changes.add_write(key, change)?;
+        *count += 1;
+    }
+    Ok(())
+}
+
+/// Keeps the receipt of the call that has ended, whose writes are all among the changes, in room that is there.
+fn keep_receipt(p: &mut Parts)
+    requires in_order { IsInOrder p.old }
+    requires ended { HasAllWrites p.old.current }
+    requires room { vec_len p.old.receipts < vec_capacity p.old.receipts }
+    ensures in_order { IsInOrder p.new }
+    ensures leaves { Leaves p.old p.new }
+    ensures receipts { length p.new.receipts.items ≡ length p.old.receipts.items + 1 }
+{
+    match replace(&mut p.current, Current::Next) {
+        Current::Ended(receipt, _) => p.receipts.push_reserved(receipt),
+        _ => unreachable!(),
+    }
+}
+
+/// After the last call: continues until a key to which the calls only added is not known, which is returned, or until the changes
+/// are listed. Refused if memory ran out.
+fn settle(p: &mut Parts) -> Result<Option<Key>, AllocError>
+    requires in_order { IsInOrder p.old }
+    requires ended { length p.old.receipts.items ≡ length p.old.calls.items }
+    ensures in_order { IsInOrder p.new }
+    ensures leaves { Leaves p.old p.new }
+    ensures stop { IfOk result (λ asked. IsStop asked p.new) }
+{
+    if p.listed.is_some() {
+        return Ok(None);
+    }
+    find_sums(p)?;
+    if let Some(key) = next_sum(p) {
+        return Ok(Some(key));
+    }
+    p.listed = Some(listed(&p.changes, &p.bases)?);
+    Ok(None)
+}
+
+/// Finds the keys to which the calls only added, if that was not done. Refused if memory ran out, and then nothing changes.
+fn find_sums(p: &mut Parts) -> Result<(), AllocError>
+    requires in_order { IsInOrder p.old }
+    requires ended { length p.old.receipts.items ≡ length p.old.calls.items }
+    requires unlisted { p.old.listed ≡ None }
+    ensures in_order { IsInOrder p.new }
+    ensures leaves { Leaves p.old p.new }
+    ensures ended { length p.new.receipts.items ≡ length p.new.calls.items }
+    ensures unlisted { p.new.listed ≡ None }
+    ensures found { OnOk result (IsSome p.new.sums) }
+{
+    if p.sums.is_some() {
+        return Ok(());
+    }
+    p.sums = Some(sum_keys(&p.changes)?);
+    p.known_sums = 0;
+    Ok(())
+}
+
+/// The next key to which the calls only added, and which is not known; None if all are known.
+fn next_sum(p: &mut Parts) -> Option<Key>
+    requires in_order { IsInOrder p.old }
+    requires sums { IsSome p.old.sums }
+    requires unlisted { p.old.listed ≡ None }
+    requires ended { length p.old.receipts.items ≡ length p.old.calls.items }
+    ensures in_order { IsInOrder p.new }
+    ensures leaves { Leaves p.old p.new }
+    ensures unlisted { p.new.listed ≡ None }
+    ensures next { IsNextSum result p.new }
+    ensures ended { length p.new.receipts.items ≡ length p.new.calls.items }
+{
+    let Some(keys) = &p.sums else { unreachable!() };
+    p.known_sums = first_unknown(keys, &p.bases, p.known_sums);
+    match keys.get(p.known_sums) {
+        Some(key) => Some(*key),
+        None => None,
+    }
+}
+
+/// The index of the first key, from an index on, that is not known; the number of keys or more if all are known.
+fn first_unknown(keys: &[Key], bases: &Overlay, from: usize) -> usize
+    ensures known { (k : ℕ) (key : List ℕ) → from ≤ k → k < result → slice_get keys.now k ≡ Some key → IsSome (map.get bases.now key) }
+    ensures unknown { (key : List ℕ) → slice_get keys.now result ≡ Some key → map.get bases.now key ≡ None }
+{
+    let mut at = from;
+    while at < keys.len() {
+        if bases.get(&keys[at]).is_none() {
+            return at;
+        }
+        at += 1;
+    }
+    at
+}
+
+/// Keeps what the host has at a key that is not known. Refused if memory ran out, and then nothing changes.
+pub(crate) fn keep_base(
+    p: &mut Parts,
+    key: Key,
+    content: Option<StoredValue>,
+) -> Result<(), AllocError>
+    requires in_order { IsInOrder p.old }
+    requires unknown { map.get p.old.bases key ≡ None }
+    requires unlisted { p.old.listed ≡ None }
+    ensures in_order { IsInOrder p.new }
+    ensures ok { OnOk result (p.new ≡ record p.old { bases = map.insert p.old.bases key content }) }
+    ensures err { OnErr result (p.new ≡ p.old) }
+{
+    p.bases.set(key, content)
+}

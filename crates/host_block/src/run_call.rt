@@ -1,0 +1,60 @@
+//! The run of one call of a block, over what is known of the storage.
+
+ghost use Rattle.std.specs.Prelude.{◌≡◌, ◌<◌, ◌≤◌, IfOk, OnErr, Some, true};
+ghost use Rattle.std.specs.FinMap as map;
+ghost use Rattle.rv_step.specs.Run.{asked_key, steps_left};
+ghost use Rattle.host_block.specs.Changes.{known_after};
+ghost use Rattle.host_block.specs.Known.{IsAnswered, IsCallPause, KeepsFrom};
+
+use crate::change_map::ChangeMap;
+use crate::known::{Known, look_up};
+use overlay::Overlay;
+use read_set::Origin;
+use rv_ledger::{Key, LentValue};
+use rv_step::{Pause, Run};
+use std::alloc::AllocError;
+
+/// Continues a run until it asks for a key that is not known, which is returned, or until its call has ended. Refused if memory
+/// ran out; then the run is before the instruction that needed memory, or still asks, and may continue.
+pub(crate) fn run_call(
+    run: &mut Run,
+    changes: &ChangeMap,
+    bases: &Overlay,
+) -> Result<Option<Key>, AllocError>
+    ensures call { run.new.call ≡ run.old.call }
+    ensures from { KeepsFrom bases.now changes.now run.old run.new }
+    ensures stopped { IfOk result (λ asked. IsCallPause asked bases.now changes.now run.new) }
+{
+    while let Pause::Ask(key) = run.go()? {
+        if !answer_known(run, changes, bases, &key)? {
+            return Ok(Some(key));
+        }
+    }
+    Ok(None)
+}
+
+/// Answers the key that a run asks for, if it is known. Returns whether it is. Refused if memory ran out, and then nothing
+/// changes.
+fn answer_known(
+    run: &mut Run,
+    changes: &ChangeMap,
+    bases: &Overlay,
+    key: &Key,
+) -> Result<bool, AllocError>
+    requires { asked_key run.old.stage ≡ Some key.now }
+    ensures ok { IfOk result (λ is_known. IsAnswered (known_after (map.get changes.now key.now) (map.get bases.now key.now)) key.now is_known run.old run.new) }
+    ensures err { OnErr result (run.new ≡ run.old) }
+    ensures fewer { IfOk result (λ is_known. is_known ≡ true → steps_left run.new < steps_left run.old) }
+{
+    match look_up(changes, bases, key) {
+        Known::Content(content) => {
+            run.answer_lent(LentValue::of_stored(content), Origin::plain(None))?;
+            Ok(true)
+        }
+        Known::Sum(value) => {
+            run.answer(Some(&value), Origin::plain(None))?;
+            Ok(true)
+        }
+        Known::Nothing => Ok(false),
+    }
+}
