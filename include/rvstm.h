@@ -392,8 +392,8 @@ typedef struct {
 
 /** How many entries a result has. */
 typedef struct {
-    uint32_t receipts; /**< the number of calls, 0 to 1,024 */
-    uint32_t changes;  /**< the number of keys that the block writes */
+    size_t receipts; /**< the number of calls, 0 to 1,024 */
+    size_t changes;  /**< the number of keys that the block writes */
 } rvstm_result_entries;
 
 /**
