@@ -1,5 +1,5 @@
 -- What an answer makes of a run that asks for a key.
-use Rattle.std.proofs.Common.{◌≡◌, ◌&&◌, ℕ, Bool, true, false, List, length, nat_lt, Option, Some, None, IsSome, refl, sym, ap, subst}
+use Rattle.std.proofs.Common.{◌≡◌, ◌&&◌, ℕ, Bool, true, false, List, length, nat_lt, Option, Some, None, IsSome, sym, subst}
 use Rattle.host_block.specs.Ordered.{OrderedView}
 use Rattle.rvstm_c.specs.Blocks.{BlockStage, IsBasedAt, IsBasedIf, IsBasedRun, Runs, given_content}
 

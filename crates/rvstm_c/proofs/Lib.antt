@@ -7,3 +7,4 @@ pub mod Calls
 pub mod Loads
 pub mod Bases
 pub mod Going
+pub mod Crossing

@@ -1,5 +1,5 @@
 -- A program is not loaded without a refusal only if memory ran out.
-use Rattle.std.proofs.Common.{◌≡◌, ◌⊎◌, inl, inr, ℕ, List, Bool, true, false, length, nat_lt, cond, Option, Some, None, Result, Ok, Err, IsOk, refl, sym, ap, subst, ◌∙◌}
+use Rattle.std.proofs.Common.{◌≡◌, ◌⊎◌, inl, inr, ℕ, List, Bool, true, false, length, nat_lt, cond, Option, None, Result, Ok, Err, IsOk, refl, sym, subst}
 use Rattle.std.specs.Result.{result_map_both}
 use Rattle.elf32.specs.Image.{image_of}
 use Rattle.elf32.specs.Layout.{Layout}

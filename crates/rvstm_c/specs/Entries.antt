@@ -1,5 +1,5 @@
 -- The entries of a block's result, as C gets them.
-use Rattle.std.specs.Prelude.{ℕ, Bool, true, false, List, [], length, replicate, Option, Some, None}
+use Rattle.std.specs.Prelude.{ℕ, true, false, List, length, replicate, Option, Some, None}
 use Rattle.std.specs.Arc.{arc_value}
 use Rattle.std.specs.FinMap as map
 use Rattle.std.specs.Option.{option_map}

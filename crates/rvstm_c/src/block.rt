@@ -11,7 +11,9 @@ use crate::status::{
 };
 use elf32::Image;
 use host_block::{BaseFault, BlockResult, OrderedRun};
-use rv_ledger::{CALL_LIMIT, Call, CallFault, GAS_LIMIT, INPUT_LIMIT, Key, LentValue, Rules, VALUE_LIMIT};
+use rv_ledger::{
+    CALL_LIMIT, Call, CallFault, GAS_LIMIT, INPUT_LIMIT, Key, LentValue, Rules, VALUE_LIMIT,
+};
 use std::alloc::{AllocError, AllocFailed, Global};
 use std::mem::replace;
 use std::sync::Arc;

@@ -8,9 +8,7 @@ use crate::block::{EmbeddedBlock, Stage, rules_of};
 use crate::block_handle::{BlockHandle, put_block, take_block};
 use crate::entries::{KeyForC, key_for_c};
 use crate::image_handle::{ImageHandle, put_image, take_image};
-use crate::status::{
-    ALREADY_OPEN, BAD_RULES, CLOSED, DONE, ENDED, KEY, NO_MEMORY, PAUSED,
-};
+use crate::status::{ALREADY_OPEN, BAD_RULES, CLOSED, DONE, ENDED, KEY, NO_MEMORY, PAUSED};
 use rv_ledger::Rules;
 use std::alloc::{AllocError, AllocFailed, Global};
 

@@ -6,8 +6,8 @@ ghost use Rattle.std.specs.Option.{option_map};
 ghost use Rattle.rvstm_c.specs.contracts.block.EmbeddedBlock as block;
 ghost use Rattle.rvstm_c.specs.declared.block.EmbeddedBlock.{EmbeddedBlock};
 
-use crate::loose::Loose;
 use crate::block::EmbeddedBlock;
+use crate::loose::Loose;
 use std::alloc::Global;
 use std::marker::Model;
 
@@ -27,6 +27,9 @@ impl Model for BlockHandle {
 
     ghost also_owns = { λ h. held on_heap the_row h.at h.value };
 }
+
+// What it holds may go to another thread, and nothing else has its pointer.
+unsafe impl Send for BlockHandle {}
 
 /// Whether a handle has a block.
 fn is_full(handle: &mut BlockHandle) -> bool

@@ -30,6 +30,9 @@ impl Model for Handle {
     ghost also_owns = { λ h. held on_heap the_row h.at h.value };
 }
 
+// What it holds may go to another thread, and nothing else has its pointer.
+unsafe impl Send for Handle {}
+
 /// Whether a handle has a session.
 fn is_full(handle: &mut Handle) -> bool
     ensures same { handle.new ≡ handle.old }

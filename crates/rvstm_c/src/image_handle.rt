@@ -6,8 +6,8 @@ ghost use Rattle.std.specs.Option.{option_map};
 ghost use Rattle.rvstm_c.specs.contracts.image.EmbeddedImage as image;
 ghost use Rattle.rvstm_c.specs.declared.image.EmbeddedImage.{EmbeddedImage};
 
-use crate::loose::Loose;
 use crate::image::EmbeddedImage;
+use crate::loose::Loose;
 use std::alloc::Global;
 use std::marker::Model;
 
@@ -27,6 +27,9 @@ impl Model for ImageHandle {
 
     ghost also_owns = { λ h. held on_heap the_row h.at h.value };
 }
+
+// What it holds may go to another thread, and nothing else has its pointer.
+unsafe impl Send for ImageHandle {}
 
 /// Whether a handle has an image.
 fn is_full(handle: &mut ImageHandle) -> bool

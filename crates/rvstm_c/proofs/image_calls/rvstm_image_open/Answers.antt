@@ -1,4 +1,4 @@
-use Rattle.std.proofs.Common.{◌≡◌, None, Option, inl, inr, refl, sym, ap, ◌∙◌, rules}
+use Rattle.std.proofs.Common.{◌≡◌, None, sym, ◌∙◌, rules}
 use Rattle.rvstm_c.proofs.Loads.{opened_none}
 use Rattle.rvstm_c.proofs.image_calls.rvstm_image_open.Goals as goal
 

@@ -1,4 +1,4 @@
-use Rattle.std.proofs.Common.{◌≡◌, ◌&&◌, IsSome, false, true, nat_lt, length, refl, sym, ap, rules, arith}
+use Rattle.std.proofs.Common.{◌≡◌, IsSome, false, true, nat_lt, length, refl, ap, rules, arith}
 use Rattle.std.proofs.lemmas.Bool.Decides.{nat_tests}
 use Rattle.rvstm_c.specs.Blocks.{Runs, stage_of}
 use Rattle.rvstm_c.proofs.Bases.{is_absent, is_present}

@@ -10,7 +10,11 @@ gone_to (Err error) run stopped waits = waits
 
 pub returns : goal.returns
 returns c =
-    let same : c.in-Run.run' ≡ run_of (stage_of c.args.self.now.stage) = ap (λ s. run_of (stage_of s)) (sym c.in-Run.is) ∙ ap run_of c.begin.ensures.1 in
-    (c.begin.ensures.0, c.go.new.self, refl,
-     subst (λ r. Stays r c.go.new.self) same c.go.ensures.stays, subst (λ r. Waits r c.go.new.self) same c.go.ensures.asked,
-     gone_to c.go.result c.go.new.self c.go.ensures.stop c.go.ensures.err)
+    let same : c.in-Run.run' ≡ run_of (stage_of c.args.self.now.stage) = ap (λ s. run_of (stage_of s)) (sym c.in-Run.is) ∙ ap run_of c.begin.ensures.1 in (
+      c.begin.ensures.0,
+      c.go.new.self,
+      refl,
+      subst (λ r. Stays r c.go.new.self) same c.go.ensures.stays,
+      subst (λ r. Waits r c.go.new.self) same c.go.ensures.asked,
+      gone_to c.go.result c.go.new.self c.go.ensures.stop c.go.ensures.err,
+    )
