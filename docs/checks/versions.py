@@ -1,4 +1,4 @@
-"""Whether the library, its header, the man pages, the tools and the newest entry of CHANGELOG.md have the version of the program."""
+"""Whether the library, its header, its crates, the man pages, the tools and the newest entry of CHANGELOG.md have the version of the program."""
 
 import re
 from collections.abc import Iterator
@@ -28,6 +28,8 @@ def places() -> tuple[Said, ...]:
         Said("man/rvstm.1", r'^\.TH .*"rvstm (\S+)"', version),
         Said("man/rvstm-tools.1", r'^\.TH .*"rvstm-tools (\S+)"', version),
         Said("tools/pyproject.toml", r'^version = "(\S+)"', version),
+        Said("rust/rvstm/Cargo.toml", r'^version = "(\S+)"', version),
+        Said("rust/rvstm-sys/Cargo.toml", r'^version = "(\S+)"', version),
         Said("CHANGELOG.md", r"^## (\S+)", version),
     )
 

@@ -8,7 +8,7 @@ const ARCHIVE: &str = "librvstm.a";
 
 fn main() {
     println!("cargo:rerun-if-env-changed={VARIABLE}");
-    let folder = match env::var_os(VARIABLE) {
+    let folder = match env::var_os(VARIABLE).filter(|folder| !folder.is_empty()) {
         Some(folder) => PathBuf::from(folder),
         None => refused(&format!("set {VARIABLE} to the folder that has {ARCHIVE}")),
     };

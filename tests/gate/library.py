@@ -1,5 +1,5 @@
 """The library for C: the examples in C, C++ and Python by the archive and by the shared object, its header, the names that it shows,
-and random sessions beside `rvstm chain`."""
+random sessions beside `rvstm chain`, and the crates in Rust."""
 
 import ctypes
 import re
@@ -7,7 +7,7 @@ from collections.abc import Sequence
 from functools import partial
 from pathlib import Path
 
-from gate.calls import command, tool_words
+from gate.calls import Ended, command, tool_words
 from gate.cases import TOP, Case, Run, holds, same
 from gate.machine import Tool
 from gate.outside import last_lines
@@ -15,6 +15,7 @@ from gate.texts import written
 
 EMBED, TOKEN, INCLUDE = TOP / "examples/embed", TOP / "examples/token", TOP / "include"
 STRICT = ("-Wall", "-Wextra", "-Wpedantic", "-Werror", f"-I{INCLUDE}")
+VALGRIND = "valgrind -q --error-exitcode=9 --leak-check=full --errors-for-leak-kinds=definite,indirect,possible"
 PAIRS = 3
 """Of random sessions, side by side in one process."""
 
@@ -87,6 +88,22 @@ def beside_chain(run: Run) -> None:
     run.note(last_lines(done.out, 1))
 
 
+def crates_in_rust(run: Run) -> None:
+    """The crates are built with Debian's compiler, offline and with nothing written into the checkout. Their tests pass, also under
+    valgrind, except those that replace malloc. Sessions need no library; blocks without one are refused."""
+    more = {name.upper(): f"/usr/bin/{name}" for name in ("rustc", "rustdoc")} | {"RUSTFLAGS": "-Dwarnings", "RVSTM": str(run.program)}
+    more |= {f"CARGO_{name}": str(run.place / name) for name in ("HOME", "TARGET_DIR")}
+
+    def tested(library: Path | str, *words: str) -> Ended:
+        return command(["/usr/bin/cargo", "test", "--offline", "--locked", *words], TOP / "rust", more=more | {"RVSTM_LIBRARY": str(library)})
+
+    holds("set RVSTM_LIBRARY to the folder" in (refused := tested("").errors), refused, "what is not set")
+    tested("", "-p", "rvstm", "--no-default-features").done()
+    tested(folder(run), "--workspace").done()
+    more["CARGO_TARGET_X86_64_UNKNOWN_LINUX_GNU_RUNNER"] = VALGRIND
+    tested(folder(run), "--test", "library").done()
+
+
 def cases() -> list[Case]:
     """All of them."""
     found = []
@@ -102,4 +119,5 @@ def cases() -> list[Case]:
         Case("library: the names that it shows", shown_names, (Tool.NM,), needs_library=True),
         Case("library: two copies in one program", two_copies, (Tool.CC, Tool.NM), needs_library=True),
         Case("library: random sessions beside chain", beside_chain, (Tool.CC, Tool.NM), needs_library=True, cost=8),
+        Case("library: the crates in Rust", crates_in_rust, (Tool.CARGO, Tool.RUSTC, Tool.VALGRIND, Tool.CC), needs_library=True, cost=30),
     ]

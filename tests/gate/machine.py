@@ -23,6 +23,9 @@ class Tool(enum.Enum):
     SQLITE = ("sqlite3", ("sqlite3", "--version"), "")
     ETCD = ("etcd", ("etcd", "--version"), "")
     GDB = ("gdb-multiarch 13", ("gdb-multiarch", "--version"), "13.")
+    CARGO = ("cargo", ("/usr/bin/cargo", "--version"), "")
+    RUSTC = ("rustc", ("/usr/bin/rustc", "--version"), "")
+    VALGRIND = ("valgrind", ("valgrind", "--version"), "")
     GCC = ("riscv64-unknown-elf-gcc 12.2.0", ("riscv64-unknown-elf-gcc", "--version"), "12.2.0")
 
     def __init__(self, label: str, asks: tuple[str, ...], version: str) -> None:

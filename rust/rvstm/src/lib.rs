@@ -40,12 +40,14 @@
 //! The build needs the folder of `librvstm.a` in the environment variable RVSTM_LIBRARY. Without the feature `library` the crate
 //! has only [`Session`], and needs no library.
 
-#![deny(unsafe_op_in_unsafe_fn)]
+#![forbid(unsafe_op_in_unsafe_fn)]
+#![deny(unsafe_code)] // only `handles` has some
 #![warn(missing_docs)]
 
 #[cfg(feature = "library")]
 mod block;
 #[cfg(feature = "library")]
+#[allow(unsafe_code)]
 mod handles;
 #[cfg(feature = "library")]
 mod outcome;

@@ -1,14 +1,11 @@
 //! Want of memory. Here malloc and realloc refuse the library some allocations; the test's own go past them. Not for valgrind,
 //! which replaces malloc.
 
-mod common;
-
 use std::alloc::{GlobalAlloc, Layout};
 use std::cell::Cell;
 use std::ffi::c_void;
-use std::ptr;
+use std::{fs, ptr};
 
-use common::{counter, Map};
 use rvstm::{Block, CallError, Fault, Key, LoadError, Program, Rules, State};
 
 extern "C" {
@@ -36,11 +33,18 @@ static OWN: Own = Own;
 
 thread_local! {
     /// So many allocations of the library are refused next, on this thread.
-    static REFUSALS: Cell<u32> = const { Cell::new(0) };
+    static LEFT: Cell<u32> = const { Cell::new(0) };
+    /// So many were refused.
+    static REFUSED: Cell<u32> = const { Cell::new(0) };
 }
 
 fn is_refused() -> bool {
-    REFUSALS.with(|count| count.replace(count.get().saturating_sub(1)) > 0)
+    let left = LEFT.with(Cell::get);
+    if left > 0 {
+        LEFT.with(|count| count.set(left - 1));
+        REFUSED.with(|count| count.set(count.get() + 1));
+    }
+    left > 0
 }
 
 /// # Safety
@@ -63,11 +67,12 @@ pub unsafe extern "C" fn realloc(bytes: *mut c_void, size: usize) -> *mut c_void
     __libc_realloc(bytes, size)
 }
 
-/// What comes if so many allocations in a row are refused, and how many of them were asked for.
+/// What comes if the next allocations are refused, and how many were.
 fn refusing<T>(count: u32, what: impl FnOnce() -> T) -> (T, u32) {
-    REFUSALS.with(|left| left.set(count));
+    LEFT.with(|left| left.set(count));
     let came = what();
-    (came, count - REFUSALS.with(|left| left.replace(0)))
+    LEFT.with(|left| left.set(0));
+    (came, REFUSED.with(|refused| refused.replace(0)))
 }
 
 /// After each answer so many allocations are refused.
@@ -75,9 +80,14 @@ struct Refusing(u32);
 
 impl State for Refusing {
     fn get(&self, key: &Key) -> Option<Vec<u8>> {
-        REFUSALS.with(|left| left.set(self.0));
+        LEFT.with(|left| left.set(self.0));
         Some(vec![key[0], 0, 0, 0])
     }
+}
+
+/// The counter counts up the key that is its input.
+fn counter() -> Vec<u8> {
+    fs::read("../../examples/counter/counter.elf").unwrap()
 }
 
 /// Counts up the keys from 1 to 3.
@@ -90,41 +100,41 @@ fn counts(program: &Program) -> Block {
 }
 
 #[test]
-fn what_opens_a_handle_is_refused() {
-    let (loaded, asked) =
-        refusing(1, || Program::load(&std::fs::read(common::top().join("examples/counter/counter.elf")).unwrap()));
+fn what_can_not_be_opened_or_added_is_refused() {
+    let file = counter();
+    let (loaded, refused) = refusing(1, || Program::load(&file));
     let error = loaded.unwrap_err();
-    assert_eq!((&error, error.to_string().as_str(), asked), (&LoadError::NoMemory, "elf Memory 16", 1));
+    assert_eq!((&error, error.to_string().as_str(), refused), (&LoadError::NoMemory, "elf Memory 16", 1));
 
-    let program = counter();
+    let program = Program::load(&file).unwrap();
     let mut block = Block::new(Rules::One);
-    let (called, asked) = refusing(1, || block.call(&program, 1_000, &[1; 32]).map(drop));
-    assert_eq!((called, asked), (Err(CallError::NoMemory), 1));
-    block.call(&program, 1_000, &[1; 32]).unwrap();
-    let (called, asked) = refusing(1, || block.call(&program, 1_000, &[2; 4_096]).map(drop));
-    assert_eq!((called, asked), (Err(CallError::NoMemory), 1));
+    let mut adding = |input: &[u8], count| refusing(count, || block.call(&program, 1_000, input).map(drop));
+    assert_eq!(adding(&[1; 32], 1), (Err(CallError::NoMemory), 1));
+    assert_eq!(adding(&[1; 32], 0), (Ok(()), 0));
+    assert_eq!(adding(&[2; 4_096], 1), (Err(CallError::NoMemory), 1));
     assert_eq!(CallError::NoMemory.to_string(), "memory ran out");
-    let outcome = block.run(&common::Once::new(&Map::new())).unwrap();
-    assert_eq!(outcome.changes, [([1; 32], Some(vec![1, 0, 0, 0]))]);
+    assert_eq!(block.run(&Refusing(0)).unwrap().changes, [([1; 32], Some(vec![2, 0, 0, 0]))]);
 }
 
 #[test]
-fn a_run_is_continued_when_there_is_memory_again() {
-    let program = counter();
-    let wanted = counts(&program).run(&Refusing(0)).unwrap();
-    assert_eq!(wanted.changes[2], ([3; 32], Some(vec![4, 0, 0, 0])));
+fn a_run_continues_when_there_is_memory_again() {
+    let program = Program::load(&counter()).unwrap();
+    let (wanted, refused) = refusing(0, || counts(&program).run(&Refusing(0)).unwrap());
+    assert_eq!((&wanted.changes[2], refused), (&([3; 32], Some(vec![4, 0, 0, 0])), 0));
     for count in 1..=8 {
-        let (came, asked) = refusing(1, || counts(&program).run(&Refusing(count)).unwrap());
-        assert_eq!((came, asked), (wanted.clone(), 1));
+        let mut block = counts(&program);
+        let (came, refused) = refusing(0, || block.run(&Refusing(count)).unwrap());
+        assert_eq!(came, wanted);
+        assert!(refused >= 3, "{refused} of {count} after each of three keys");
     }
 }
 
 #[test]
 fn a_run_without_memory_is_given_up() {
-    let program = counter();
+    let program = Program::load(&counter()).unwrap();
     let mut block = counts(&program);
-    assert_eq!(block.run(&Refusing(u32::MAX)), Err(Fault::Memory));
-    assert!(REFUSALS.with(|left| left.replace(0)) < u32::MAX);
+    let (came, refused) = refusing(0, || block.run(&Refusing(u32::MAX)));
+    assert_eq!((&came, refused), (&Err(Fault::Memory), 9));
     assert_eq!(Fault::Memory.to_string(), "memory ran out");
     let outcome = block.call(&program, 1_000, &[1; 32]).unwrap().run(&Refusing(0)).unwrap();
     assert_eq!(outcome.changes, [([1; 32], Some(vec![2, 0, 0, 0]))]);

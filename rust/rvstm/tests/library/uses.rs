@@ -1,15 +1,14 @@
 //! Uses of the crate: what it refuses, what a state may do to it, and which threads may have its types.
 
-mod common;
-
 use std::collections::HashMap;
 use std::error::Error;
 use std::fs;
 use std::panic::{catch_unwind, AssertUnwindSafe};
 use std::thread;
 
-use common::{counter, top, Map, Once};
 use rvstm::{Block, CallError, End, Fault, Key, LoadError, Outcome, Program, Rules, State};
+
+use crate::common::{counter, top, Map, Once};
 
 const KEY: Key = [7; 32];
 const GAS: u32 = 1_000;

@@ -1,12 +1,10 @@
 //! Blocks over a map give the text that a model in Python worked out, and that `rvstm seq` prints.
 
-mod common;
-
 use std::fs;
 use std::path::{Path, PathBuf};
 use std::process::Command;
 
-use common::{read_block, result, top, Once};
+use crate::common::{read_block, result, top, Once};
 
 /// The text of a block's result. Paths in it begin at a folder.
 fn text_of(path: &Path, folder: &Path) -> String {

@@ -1,7 +1,5 @@
 //! What the tests share: block files, a state over a map that is asked for a key at most once, and the text of a result.
 
-#![allow(dead_code)] // each test uses a part
-
 use std::cell::RefCell;
 use std::collections::{BTreeMap, BTreeSet};
 use std::fmt::Write as _;
