@@ -7,7 +7,7 @@ from collections.abc import Sequence
 from functools import partial
 from pathlib import Path
 
-from gate.calls import Ended, command, tool_words
+from gate.calls import command, tool_words
 from gate.cases import TOP, Case, Run, holds, same
 from gate.machine import Tool
 from gate.outside import last_lines
@@ -16,6 +16,7 @@ from gate.texts import written
 EMBED, TOKEN, INCLUDE = TOP / "examples/embed", TOP / "examples/token", TOP / "include"
 STRICT = ("-Wall", "-Wextra", "-Wpedantic", "-Werror", f"-I{INCLUDE}")
 VALGRIND = "valgrind -q --error-exitcode=9 --leak-check=full --errors-for-leak-kinds=definite,indirect,possible"
+CARGO_TEST = ("/usr/bin/cargo", "test", "--offline", "--locked")
 PAIRS = 3
 """Of random sessions, side by side in one process."""
 
@@ -94,14 +95,19 @@ def crates_in_rust(run: Run) -> None:
     more = {name.upper(): f"/usr/bin/{name}" for name in ("rustc", "rustdoc")} | {"RUSTFLAGS": "-Dwarnings", "RVSTM": str(run.program)}
     more |= {f"CARGO_{name}": str(run.place / name) for name in ("HOME", "TARGET_DIR")}
 
-    def tested(library: Path | str, *words: str) -> Ended:
-        return command(["/usr/bin/cargo", "test", "--offline", "--locked", *words], TOP / "rust", more=more | {"RVSTM_LIBRARY": str(library)})
+    def faults(library: Path | str, *words: str) -> list[str]:
+        done = command((*CARGO_TEST, *words), TOP / "rust", more=more | {"RVSTM_LIBRARY": str(library)})
+        if done.status == 0:
+            return []
+        found = re.findall(r"^.*(?:panicked at|error[:\[]|  (?:left|right): |RVSTM_LIBRARY |== \w).*", done.out + done.errors, re.M)
+        return found[:3] or [f"status {done.status}"]
 
-    holds("set RVSTM_LIBRARY to the folder" in (refused := tested("").errors), refused, "what is not set")
-    tested("", "-p", "rvstm", "--no-default-features").done()
-    tested(folder(run), "--workspace").done()
+    missing = "  rvstm-sys: set RVSTM_LIBRARY to the folder that has librvstm.a"
+    same(missing in faults(""), True, "no library")
+    same(faults("", "-p", "rvstm", "--no-default-features"), [])
+    same(faults(folder(run), "--workspace"), [])
     more["CARGO_TARGET_X86_64_UNKNOWN_LINUX_GNU_RUNNER"] = VALGRIND
-    tested(folder(run), "--test", "library").done()
+    same(faults(folder(run), "--test", "library"), [])
 
 
 def cases() -> list[Case]:
