@@ -43,6 +43,7 @@
 #![forbid(unsafe_op_in_unsafe_fn)]
 #![deny(unsafe_code)] // only `handles` has some
 #![warn(missing_docs)]
+#![cfg_attr(not(feature = "library"), allow(rustdoc::broken_intra_doc_links))]
 
 #[cfg(feature = "library")]
 mod block;

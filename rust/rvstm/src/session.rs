@@ -56,7 +56,8 @@ impl Session {
         Ok(Session { process, requests, answers })
     }
 
-    /// Sends a request without a body, such as `state`, and reads its answer.
+    /// Sends a request without a body, such as `state`, and reads its answer. If the process has ended, or ends before its answer
+    /// is whole, the error is [`io::ErrorKind::UnexpectedEof`].
     pub fn ask(&mut self, request: &str) -> io::Result<Answer> {
         self.exchange(request, &format!("{request}\n"), &[])
     }
