@@ -20,7 +20,8 @@ const PAUSE: Duration = Duration::from_millis(1);
 /// A map from keys to values of at most 256 bytes, as it was before the block. It is one state for the whole run: it must not
 /// change before the run has ended.
 pub trait State {
-    /// The value at a key, or None if the key is absent. A panic here ends the run, which frees its memory, and is passed on.
+    /// The value at a key, or None if the key is absent. If your database fails, panic, or note it and throw the outcome away. A
+    /// panic ends the run, which frees its memory, and is passed on.
     fn get(&self, key: &Key) -> Option<Vec<u8>>;
 }
 
