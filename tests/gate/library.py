@@ -92,8 +92,8 @@ def beside_chain(run: Run) -> None:
 def crates_in_rust(run: Run) -> None:
     """The crates are built with Debian's compiler, offline and with nothing written into the checkout. Their tests pass, also under
     valgrind, except those that replace malloc. Sessions need no library; blocks without one are refused."""
-    more = {name.upper(): f"/usr/bin/{name}" for name in ("rustc", "rustdoc")} | {"RUSTFLAGS": "-Dwarnings", "RVSTM": str(run.program)}
-    more |= {f"CARGO_{name}": str(run.place / name) for name in ("HOME", "TARGET_DIR")}
+    more = {name.upper(): f"/usr/bin/{name}" for name in ("rustc", "rustdoc")} | {"RUST_BACKTRACE": "0", "RVSTM": str(run.program)}
+    more |= {"RUSTFLAGS": "-Dwarnings"} | {f"CARGO_{name}": str(run.place / name) for name in ("HOME", "TARGET_DIR")}
 
     def faults(library: Path | str, *words: str) -> list[str]:
         done = command((*CARGO_TEST, *words), TOP / "rust", more=more | {"RVSTM_LIBRARY": str(library)})

@@ -1,8 +1,7 @@
 //! The client of `rvstm chain`, over the program that RVSTM names, and over scripts that answer otherwise.
 
 use std::io::ErrorKind;
-use std::os::unix::fs::PermissionsExt;
-use std::path::{Path, PathBuf};
+use std::path::Path;
 use std::{env, fs};
 
 use rvstm::{Answer, Session};
@@ -33,30 +32,21 @@ fn the_example_of_the_page_is_answered() {
     assert_eq!(session.end().unwrap().code(), Some(1));
 }
 
-/// A program that gives these answers.
-fn answering(name: &str, answers: &str) -> PathBuf {
-    let path = Path::new(env!("CARGO_TARGET_TMPDIR")).join(name);
-    fs::write(&path, format!("#!/bin/sh\nread -r line && printf '{answers}'\n")).unwrap();
-    fs::set_permissions(&path, fs::Permissions::from_mode(0o755)).unwrap();
-    path
+/// What comes of a request that is answered so.
+fn answered(answer: &str) -> Result<Answer, ErrorKind> {
+    let program = concat!(env!("CARGO_MANIFEST_DIR"), "/tests/answering");
+    Session::start(program, [answer]).unwrap().ask("state").map_err(|error| error.kind())
 }
 
 #[test]
 fn an_answer_is_read_whole_or_is_an_error() {
-    let failed = Session::start(answering("failed", "failed seq Memory 1\\n"), [""; 0]).unwrap().ask("state").unwrap();
-    assert_eq!(failed, Answer::Failed("seq Memory 1".into()));
-    let (cut, other) = (ErrorKind::UnexpectedEof, ErrorKind::InvalidData);
-    for (name, answers, kind) in [
-        ("none", "", cut),
-        ("line", "ok 2", cut),
-        ("body", "ok 3\\nab", cut),
-        ("word", "okay 1\\na", other),
-        ("sign", "ok -1\\n", other),
-        ("bytes", "ok \\377\\n", other),
-        ("much", "ok 18446744073709551616\\n", other),
-    ] {
-        let mut session = Session::start(answering(name, answers), [""; 0]).unwrap();
-        assert_eq!(session.ask("state").map_err(|error| error.kind()), Err(kind), "{name}");
+    assert_eq!(answered("ok 3\\na b"), Ok(Answer::Done(b"a b".to_vec())));
+    assert_eq!(answered("failed seq Memory 1\\n"), Ok(Answer::Failed("seq Memory 1".into())));
+    for cut in ["", "ok 2", "ok 3\\nab"] {
+        assert_eq!(answered(cut), Err(ErrorKind::UnexpectedEof), "{cut}");
+    }
+    for other in ["okay 1\\na", "ok -1\\n", "ok \\377\\n", "ok 18446744073709551616\\n"] {
+        assert_eq!(answered(other), Err(ErrorKind::InvalidData), "{other}");
     }
     assert_eq!(Session::start("/no/program", [""; 0]).unwrap_err().kind(), ErrorKind::NotFound);
 }

@@ -45,7 +45,7 @@ fn results_are_those_of_seq() {
     let cases = [
         ("examples/token", "token.block"),
         ("examples/exchange", "exchange.block"),
-        ("examples/debugged", "ends.block"),
+        ("examples/fees", "fees.block"),
         ("tests/cases", "blocks/counter-200.block"),
         ("tests/cases", "blocks/token-200.block"),
     ];
