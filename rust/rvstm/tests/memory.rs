@@ -134,7 +134,8 @@ fn a_run_without_memory_is_given_up() {
     let program = Program::load(&counter()).unwrap();
     let mut block = counts(&program);
     let (came, refused) = refusing(0, || block.run(&Refusing(u32::MAX)));
-    assert_eq!((&came, refused), (&Err(Fault::Memory), 9));
+    assert_eq!(came, Err(Fault::Memory));
+    assert!(refused > 8, "{refused}");
     assert_eq!(Fault::Memory.to_string(), "memory ran out");
     let outcome = block.call(&program, 1_000, &[1; 32]).unwrap().run(&Refusing(0)).unwrap();
     assert_eq!(outcome.changes, [([1; 32], Some(vec![2, 0, 0, 0]))]);
