@@ -145,8 +145,8 @@ pub struct rvstm_change {
 #[repr(C)]
 #[derive(Clone, Copy, Debug)]
 pub struct rvstm_result_entries {
-    pub receipts: u32,
-    pub changes: u32,
+    pub receipts: usize,
+    pub changes: usize,
 }
 
 #[rustfmt::skip] // one line each, which the test reads
