@@ -90,8 +90,8 @@ def beside_chain(run: Run) -> None:
 
 
 def crates_in_rust(run: Run) -> None:
-    """The crates are built with Debian's compiler, offline and with nothing written into the checkout. Their tests pass, also under
-    valgrind, except those that replace malloc. Sessions need no library; blocks without one are refused."""
+    """The crates are built with Debian's compiler, offline and with nothing written into the checkout. Their tests pass, some also
+    under valgrind. Sessions need no library; blocks without one are refused."""
     more = {name.upper(): f"/usr/bin/{name}" for name in ("rustc", "rustdoc")} | {"RUST_BACKTRACE": "0", "RVSTM": str(run.program)}
     more |= {"RUSTFLAGS": "-Dwarnings"} | {f"CARGO_{name}": str(run.place / name) for name in ("HOME", "TARGET_DIR")}
 
@@ -107,7 +107,7 @@ def crates_in_rust(run: Run) -> None:
     same(faults("", "-p", "rvstm", "--no-default-features"), [])
     same(faults(folder(run), "--workspace"), [])
     more["CARGO_TARGET_X86_64_UNKNOWN_LINUX_GNU_RUNNER"] = VALGRIND
-    same(faults(folder(run), "--test", "library"), [])
+    same(faults(folder(run), "--test", "library", "--", "uses", "rules_three"), [])
 
 
 def cases() -> list[Case]:
@@ -125,5 +125,5 @@ def cases() -> list[Case]:
         Case("library: the names that it shows", shown_names, (Tool.NM,), needs_library=True),
         Case("library: two copies in one program", two_copies, (Tool.CC, Tool.NM), needs_library=True),
         Case("library: random sessions beside chain", beside_chain, (Tool.CC, Tool.NM), needs_library=True, cost=8),
-        Case("library: the crates in Rust", crates_in_rust, (Tool.CARGO, Tool.RUSTC, Tool.VALGRIND, Tool.CC), needs_library=True, cost=30),
+        Case("library: the crates in Rust", crates_in_rust, (Tool.CARGO, Tool.RUSTC, Tool.VALGRIND, Tool.CC), needs_library=True, cost=20),
     ]

@@ -100,8 +100,8 @@ impl Calls {
         // SAFETY: no other call has the handle; the entries are a whole struct.
         done("rvstm_result_counts", unsafe { sys::rvstm_result_counts(&mut self.0, &mut entries) });
         Outcome {
-            receipts: (0..entries.receipts as usize).map(|call| self.receipt(call)).collect(),
-            changes: (0..entries.changes as usize).map(|index| self.change(index)).collect(),
+            receipts: (0..entries.receipts).map(|call| self.receipt(call)).collect(),
+            changes: (0..entries.changes).map(|index| self.change(index)).collect(),
         }
     }
 

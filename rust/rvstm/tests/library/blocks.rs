@@ -20,19 +20,25 @@ fn same(came: &str, wanted: &str, path: &Path) {
     assert_eq!(came, wanted, "{}", path.display());
 }
 
-/// The cases of `tests/cases`, whose results a model worked out from the specification alone.
-#[test]
-fn results_are_those_of_the_model() {
-    let mut count = 0;
-    for rules in ["rules2", "rules3"] {
-        for entry in fs::read_dir(top().join("tests/cases").join(rules)).unwrap() {
-            let folder = entry.unwrap().path();
-            let wanted = fs::read_to_string(folder.join("result")).unwrap();
-            same(&text_of(&folder.join("block"), &folder), &wanted, &folder);
-            count += 1;
-        }
+/// Cases of `tests/cases`, 40 in a folder, whose results a model worked out from the specification alone.
+fn results_are_those_of_the_model(folder: &str) {
+    let cases = fs::read_dir(top().join("tests/cases").join(folder)).unwrap();
+    let folders: Vec<PathBuf> = cases.map(|entry| entry.unwrap().path()).collect();
+    assert_eq!(folders.len(), 40);
+    for folder in folders {
+        let wanted = fs::read_to_string(folder.join("result")).unwrap();
+        same(&text_of(&folder.join("block"), &folder), &wanted, &folder);
     }
-    assert_eq!(count, 80);
+}
+
+#[test]
+fn results_under_rules_two_are_those_of_the_model() {
+    results_are_those_of_the_model("rules2");
+}
+
+#[test]
+fn results_under_rules_three_are_those_of_the_model() {
+    results_are_those_of_the_model("rules3");
 }
 
 /// RVSTM names the program.
