@@ -14,7 +14,7 @@ use Rattle.rv_step.specs.Run.{RunView, after_answer, standing_at}
 use Rattle.rv_step.specs.Step.{Progress, Going, Over}
 use Rattle.rv_step.specs.declared.answer.StorageAnswer.{StorageAnswer}
 use Rattle.host_block.specs.Changes.{known_after}
-use Rattle.host_block.specs.Known.{IsAnswered, KeepsFrom}
+use Rattle.host_block.specs.Known.{IsAnsweredIfKnown, KeepsAnswers}
 use Rattle.host_block.proofs.Changing.{known_at}
 
 -- one more answer of the storage
@@ -28,7 +28,7 @@ answers_at (Over end out t) r = refl
 
 -- a run that got what is known keeps its answers those of the storage
 pub answered_from : (bases : Changes) (changes : WriteMap) (key : List ℕ) (content : Content) (before after : RunView)
-    → known_after (get changes key) (get bases key) ≡ Some content → after ≡ after_answer key content base_origin before → KeepsFrom bases changes before after
+    → known_after (get changes key) (get bases key) ≡ Some content → after ≡ after_answer key content base_origin before → KeepsAnswers bases changes before after
 answered_from bases changes key content before after known is store agrees from =
     let added : StorageAnswer = record { key = key; value = content; origin = base_origin } in
     let answers : after.answers ≡ before.answers ++ added ∷ [] = ap (λ (r : RunView). r.answers) is ∙ answers_at _ _ in
@@ -37,7 +37,7 @@ answered_from bases changes key content before after known is store agrees from 
 
 -- the same by what was found
 pub is_answered_from : (bases : Changes) (changes : WriteMap) (key : List ℕ) (o : Option Content) (is_known : Bool) (before after : RunView)
-    → known_after (get changes key) (get bases key) ≡ o → IsAnswered o key is_known before after → KeepsFrom bases changes before after
+    → known_after (get changes key) (get bases key) ≡ o → IsAnsweredIfKnown o key is_known before after → KeepsAnswers bases changes before after
 is_answered_from bases changes key (Some content) true before after known is = answered_from bases changes key content before after known is
 is_answered_from bases changes key None false before after known is = λ store agrees from. subst (λ (r : RunView). AreFrom (apply_writes store changes) (replies_of r.answers)) (sym is) from
 is_answered_from bases changes key (Some content) false before after known is = absurd is
@@ -48,7 +48,7 @@ call_at (Going t) r = refl
 call_at (Over end out t) r = refl
 
 -- an answer leaves the call of a run
-pub is_answered_call : (o : Option Content) (key : List ℕ) (is_known : Bool) (before after : RunView) → IsAnswered o key is_known before after → after.call ≡ before.call
+pub is_answered_call : (o : Option Content) (key : List ℕ) (is_known : Bool) (before after : RunView) → IsAnsweredIfKnown o key is_known before after → after.call ≡ before.call
 is_answered_call (Some content) key true before after is = ap (λ (r : RunView). r.call) is ∙ call_at _ _
 is_answered_call None key false before after is = ap (λ (r : RunView). r.call) is
 is_answered_call (Some content) key false before after is = absurd is

@@ -27,9 +27,9 @@ use Rattle.rv_step.specs.declared.answer.StorageAnswer.{StorageAnswer}
 use Rattle.rv_step.specs.declared.ended_run.EndedRun.{EndedRun}
 use Rattle.rv_step.specs.declared.spare_run.SpareRun.{SpareRun}
 use Rattle.stm_state.proofs.Writes.{applied_get, content_after}
-use Rattle.host_block.specs.Changes.{Agrees, listed}
-use Rattle.host_block.specs.Known.{KeepsFrom}
-use Rattle.host_block.specs.Ordered.{AreSums, AreSumsKnown, HasAllWrites, IsInOrder, IsListed, IsRestOf, IsResult, IsSerial, IsUnderWay, IsWritten, OrderedView, now_with, receipts_with, sum_keys, view_of}
+use Rattle.host_block.specs.Changes.{Agrees, listed_changes}
+use Rattle.host_block.specs.Known.{KeepsAnswers}
+use Rattle.host_block.specs.Ordered.{AreSums, AreSumsKnown, HasAllWrites, IsInOrder, IsListed, IsRestOf, IsResult, AreCallsSerial, IsUnderWay, IsWritten, OrderedView, now_with, receipts_with, sum_keys, ordered_view}
 use Rattle.host_block.specs.declared.parts.Current.{Current}
 use Rattle.host_block.specs.declared.parts.Current.TheVariants as current
 use Rattle.host_block.specs.declared.parts.Parts.{Parts}
@@ -61,7 +61,7 @@ nothing_written changes key is has = let none : contains_key changes key ≡ fal
 
 pub starts : (p : Parts) → p.receipts.items ≡ [] → p.current ≡ current.Next → p.changes ≡ empty → p.sums ≡ None → p.listed ≡ None → IsInOrder p
 starts p none next unchanged no_keys unlisted = record {
-  serial = λ store agrees. subst (λ (k : Current). IsSerial p.calls.items p.receipts.items k p.changes store) (sym next)
+  serial = λ store agrees. subst (λ (k : Current). AreCallsSerial p.calls.items p.receipts.items k p.changes store) (sym next)
       (subst (λ (m : WriteMap). IsRestOf p.calls.items store p.receipts.items (drop (length p.receipts.items) p.calls.items) (apply_writes store m)) (sym unchanged)
       (subst (λ (rs : List Receipt). IsRestOf p.calls.items store rs (drop (length rs) p.calls.items) (apply_writes store empty)) (sym none) (start_rest p.calls.items store)));
   under_way = subst (λ (k : Current). IsUnderWay p.calls.items p.receipts.items k p.changes p.bases) (sym next) (subst (λ (rs : List Receipt). length rs ≤ length p.calls.items) (sym none) (omega arith));
@@ -75,7 +75,7 @@ starts p none next unchanged no_keys unlisted = record {
 pub begins : (p : Parts) (run : RunView) (call : Invocation) (spare : SpareRun) → IsInOrder p → length p.receipts.items < length p.calls.items → p.current ≡ current.Next
     → slice_get p.calls.items (length p.receipts.items) ≡ Some call → run ≡ run_at_start call → IsInOrder (record p { current = current.Run run; spare = spare })
 begins p run call spare h less next at is = record {
-  serial = λ store agrees. subst (λ (k : Current). IsSerial p.calls.items p.receipts.items k p.changes store) next (h.serial store agrees);
+  serial = λ store agrees. subst (λ (k : Current). AreCallsSerial p.calls.items p.receipts.items k p.changes store) next (h.serial store agrees);
   under_way = (at ∙ ap Some (sym (ap (λ (r : RunView). r.call) is)), λ store agrees. subst (λ (r : RunView). AreFrom (apply_writes store p.changes) (replies_of r.answers)) (sym is) tt);
   written = λ key has. subst (λ (k : Current). IsWritten (receipts_with p.receipts.items k) key) next (h.written key has);
   sums = no_sums p _ h less;
@@ -83,11 +83,11 @@ begins p run call spare h less next at is = record {
 }
 
 pub runs_on : (p : Parts) (run after : RunView) → IsInOrder p → length p.receipts.items < length p.calls.items → p.current ≡ current.Run run
-    → after.call ≡ run.call → KeepsFrom p.bases p.changes run after → IsInOrder (record p { current = current.Run after })
+    → after.call ≡ run.call → KeepsAnswers p.bases p.changes run after → IsInOrder (record p { current = current.Run after })
 runs_on p run after h less is call from =
     let was : IsUnderWay p.calls.items p.receipts.items (current.Run run) p.changes p.bases = subst (λ (k : Current). IsUnderWay p.calls.items p.receipts.items k p.changes p.bases) is h.under_way in
     record {
-      serial = λ store agrees. subst (λ (k : Current). IsSerial p.calls.items p.receipts.items k p.changes store) is (h.serial store agrees);
+      serial = λ store agrees. subst (λ (k : Current). AreCallsSerial p.calls.items p.receipts.items k p.changes store) is (h.serial store agrees);
       under_way = (was.0 ∙ ap Some (sym call), λ store agrees. from store agrees (was.1 store agrees));
       written = λ key has. subst (λ (k : Current). IsWritten (receipts_with p.receipts.items k) key) is (h.written key has);
       sums = no_sums p _ h less;
@@ -104,7 +104,7 @@ call_ends p run ended spare h less is call answers one =
           let from : AreFrom (apply_writes store p.changes) (replies_of ended.answers.items) = subst (λ (answers : List StorageAnswer). AreFrom (apply_writes store p.changes) (replies_of answers)) (sym answers) (was.1 store agrees) in
           one_ended p.calls.items store p.receipts.items p.changes ended.call ended.receipt (was.0 ∙ ap Some (sym call))
           ((one ended.call (apply_writes store p.changes)).no_other (replies_of ended.answers.items) ended.receipt from ended.borne_out)
-          (subst (λ (k : Current). IsSerial p.calls.items p.receipts.items k p.changes store) is (h.serial store agrees));
+          (subst (λ (k : Current). AreCallsSerial p.calls.items p.receipts.items k p.changes store) is (h.serial store agrees));
       under_way = less;
       written = λ key has. written_before p.receipts.items ended.receipt key (subst (λ (k : Current). IsWritten (receipts_with p.receipts.items k) key) is (h.written key has));
       sums = no_sums p _ h less;
@@ -133,7 +133,7 @@ writes_join p receipts receipt count after changes h is same now written =
     record {
       serial = λ store agrees. subst (λ (rs : List Receipt). IsRestOf p.calls.items store (rs ++ receipt ∷ []) (drop (suc (length rs)) p.calls.items) (now_with changes receipt.writes after store)) (sym same)
           (subst (λ (s : Storage). IsRestOf p.calls.items store (p.receipts.items ++ receipt ∷ []) (drop (suc (length p.receipts.items)) p.calls.items) s) (sym (now store))
-          (subst (λ (k : Current). IsSerial p.calls.items p.receipts.items k p.changes store) is (h.serial store agrees)));
+          (subst (λ (k : Current). AreCallsSerial p.calls.items p.receipts.items k p.changes store) is (h.serial store agrees)));
       under_way = subst (λ (rs : List Receipt). length rs < length p.calls.items) (sym same) less;
       written = λ key has. subst (λ (rs : List Receipt). IsWritten (rs ++ receipt ∷ []) key) (sym same)
           (either_written p.receipts.items receipt key (mapped _ _ _ (λ was. subst (λ (k : Current). IsWritten (receipts_with p.receipts.items k) key) is (h.written key was)) (swapped _ _ (written key has))));
@@ -148,7 +148,7 @@ receipt_kept p receipts receipt count h is all more =
     let none : HasAllWrites (current.Ended receipt count) = subst HasAllWrites is all in
     record {
       serial = λ store agrees. subst (λ (rs : List Receipt). IsRestOf p.calls.items store rs (drop (length rs) p.calls.items) (apply_writes store p.changes)) (sym more)
-          (one_kept p.calls.items store p.receipts.items p.changes receipt count none (subst (λ (k : Current). IsSerial p.calls.items p.receipts.items k p.changes store) is (h.serial store agrees)));
+          (one_kept p.calls.items store p.receipts.items p.changes receipt count none (subst (λ (k : Current). AreCallsSerial p.calls.items p.receipts.items k p.changes store) is (h.serial store agrees)));
       under_way = (let more_by : length receipts.items ≡ length p.receipts.items + 1 = ap (λ (rs : List Receipt). length rs) more ∙ length-append p.receipts.items (receipt ∷ []) in omega (arith, less, more_by));
       written = λ key has. subst (λ (rs : List Receipt). IsWritten rs key) (sym more) (subst (λ (k : Current). IsWritten (receipts_with p.receipts.items k) key) is (h.written key has));
       sums = no_sums p _ h less;
@@ -197,7 +197,7 @@ more_known p keys count h unlisted is known = record {
     by k key below at (inr more) s = known k key more below at
 
 pub changes_listed : (p : Parts) (list : Vec (List ℕ × Content)) → IsInOrder p → length p.receipts.items ≡ length p.calls.items → AreSumsKnown p.changes p.bases
-    → list.items ≡ listed p.bases p.changes → IsInOrder (record p { listed = Some list })
+    → list.items ≡ listed_changes p.bases p.changes → IsInOrder (record p { listed = Some list })
 changes_listed p list h ended known is = record {
   serial = h.serial;
   under_way = h.under_way;
@@ -267,7 +267,7 @@ unfolding receipts_of store_after
 none_left calls receipts now store rest = (sym (append-nil receipts) ∙ rest.0, rest.1)
 
 all_ended : (calls : List Invocation) (receipts : List Receipt) (k : Current) (changes : WriteMap) (bases : Changes) (store : Storage)
-    → IsSerial calls receipts k changes store → IsUnderWay calls receipts k changes bases → length receipts ≡ length calls
+    → AreCallsSerial calls receipts k changes store → IsUnderWay calls receipts k changes bases → length receipts ≡ length calls
     → (receipts ≡ receipts_of calls store) × (apply_writes store changes ≡ store_after calls store)
 all_ended calls receipts current.Next changes bases store serial under ended =
     none_left calls receipts (apply_writes store changes) store (subst (λ n. IsRestOf calls store receipts n (apply_writes store changes)) (ap (λ n. drop n calls) ended ∙ drop-length calls) serial)
@@ -281,12 +281,12 @@ receipts_at_end calls receipts (current.Ended receipt count) changes bases under
 
 -- what the result of a run in order says
 pub are_results : (p : Parts) (asked : Option (List ℕ)) (v : OrderedView) (list : Vec (List ℕ × Content)) (receipts : List Receipt) (changes : List (List ℕ × Content))
-    → IsInOrder p → view_of p asked ≡ v → p.listed ≡ Some list → receipts ≡ p.receipts.items → changes ≡ list.items
+    → IsInOrder p → ordered_view p asked ≡ v → p.listed ≡ Some list → receipts ≡ p.receipts.items → changes ≡ list.items
     → (v.result ≡ Some changes) × (receipts ≡ v.receipts) × IsResult v.calls v.bases receipts changes × AreAscending changes
     × ((key : List ℕ) → Contains (keys_of changes) key → IsWritten receipts key)
 are_results p asked v list receipts changes h view is rs cs =
     let l : IsListed p list.items = subst (λ o. IfSome o (λ (x : Vec (List ℕ × Content)). IsListed p x.items)) is h.listed in
-    let all : changes ≡ listed p.bases p.changes = cs ∙ l.of_changes in
+    let all : changes ≡ listed_changes p.bases p.changes = cs ∙ l.of_changes in
     subst (λ (w : OrderedView). (w.result ≡ Some changes) × (receipts ≡ w.receipts) × IsResult w.calls w.bases receipts changes × AreAscending changes
     × ((key : List ℕ) → Contains (keys_of changes) key → IsWritten receipts key)) view (
       ap (λ o. option_map (λ (x : Vec (List ℕ × Content)). x.items) o) is ∙ ap Some (sym cs),

@@ -20,7 +20,7 @@ use Rattle.rv_ledger.specs.Entries.{AreAscending}
 use Rattle.rv_ledger.specs.Key.{Storage, WriteMap, key_cmp}
 use Rattle.rv_ledger.specs.declared.change.Change.TheVariants as change
 use Rattle.stm_state.proofs.Writes.{applied_get, content_after}
-use Rattle.host_block.specs.Changes.{Agrees, listed, resolved}
+use Rattle.host_block.specs.Changes.{Agrees, listed_changes, resolved}
 use Rattle.host_block.specs.Ordered.{AreSumsKnown, sum_keys}
 use Rattle.host_block.proofs.Changing.{same_key}
 
@@ -86,9 +86,9 @@ found_content bases q before ((key, c) ∷ es) same known = go (found_content ba
         ∙ sym (ap (λ b. content_after (cond b (Some c) (find key_cmp q es)) before) e)
 
 -- the listed changes lead to the storage with the changes
-pub listed_leads : (bases : Changes) (changes : WriteMap) (store : Storage) → Agrees bases store → AreSumsKnown changes bases → with_contents store (listed bases changes) ≡ apply_writes store changes
+pub listed_leads : (bases : Changes) (changes : WriteMap) (store : Storage) → Agrees bases store → AreSumsKnown changes bases → with_contents store (listed_changes bases changes) ≡ apply_writes store changes
 listed_leads bases changes store agrees known = same_at_all _ _ (λ q.
-    get_with_contents store (listed bases changes) q
+    get_with_contents store (listed_changes bases changes) q
     ∙ found_content bases q (get store q) (entries changes) (λ content is. agrees q content is) (λ amount is. known q amount (get-entries changes q ∙ is))
     ∙ ap (λ o. content_after o (get store q)) (sym (get-entries changes q))
     ∙ sym (applied_get store changes q))
@@ -107,11 +107,11 @@ in_order [] h = tt
 in_order (e ∷ es) h = let both = and_yes (below_all key_cmp e.0 es) (is_sorted key_cmp es) h in (below_each e.0 es both.0, in_order es both.1)
 
 -- the listed changes ascend
-pub listed_ascends : (bases : Changes) (changes : WriteMap) → AreAscending (listed bases changes)
+pub listed_ascends : (bases : Changes) (changes : WriteMap) → AreAscending (listed_changes bases changes)
 listed_ascends bases changes = subst (IsStrictlySortedBy key_cmp) (sym (same_keys bases (entries changes))) (in_order (entries changes) (entries_sorted changes))
 
 -- a listed key is one of the changes
-pub listed_is_changed : (bases : Changes) (changes : WriteMap) (key : List ℕ) → Contains (keys_of (listed bases changes)) key → contains_key changes key ≡ true
+pub listed_is_changed : (bases : Changes) (changes : WriteMap) (key : List ℕ) → Contains (keys_of (listed_changes bases changes)) key → contains_key changes key ≡ true
 listed_is_changed bases changes key has =
     contains_key-keys changes key
     ∙ list_any-from_Contains (eq_by_cmp_equiv nat_list_cmp_total) key (keys_of (entries changes)) (subst (λ (ks : List (List ℕ)). Contains ks key) (same_keys bases (entries changes)) has)

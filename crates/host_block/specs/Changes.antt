@@ -33,5 +33,5 @@ resolved (change.Sum amount) (Some content) = Some (add content amount)
 resolved (change.Sum amount) None = Some (add None amount)
 
 -- the changed keys, ascending, each with what it has then
-abbrev pub listed : Changes → WriteMap → List (List ℕ × Content)
-listed bases changes = map (λ entry. (entry.0, resolved entry.1 (finite.get bases entry.0))) (finite.entries changes)
+abbrev pub listed_changes : Changes → WriteMap → List (List ℕ × Content)
+listed_changes bases changes = map (λ entry. (entry.0, resolved entry.1 (finite.get bases entry.0))) (finite.entries changes)

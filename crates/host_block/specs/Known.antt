@@ -17,20 +17,20 @@ use Rattle.host_block.specs.declared.known.Known.{Known}
 use Rattle.host_block.specs.declared.known.Known.TheVariants as known
 
 -- what is known
-abbrev pub content_of : Known → Option Content
-content_of (known.Content content) = Some (option_copied content)
-content_of (known.Sum value) = Some (Some value)
-content_of known.Nothing = None
+abbrev pub known_content : Known → Option Content
+known_content (known.Content content) = Some (option_copied content)
+known_content (known.Sum value) = Some (Some value)
+known_content known.Nothing = None
 
 -- a run got what is known of the key that it asks for; it stays if nothing is known
-abbrev pub IsAnswered : Option Content → List ℕ → Bool → RunView → RunView → Type 0
-IsAnswered (Some content) key true before after = after ≡ after_answer key content base_origin before
-IsAnswered None key false before after = after ≡ before
-IsAnswered _ key _ before after = ⊥
+abbrev pub IsAnsweredIfKnown : Option Content → List ℕ → Bool → RunView → RunView → Type 0
+IsAnsweredIfKnown (Some content) key true before after = after ≡ after_answer key content base_origin before
+IsAnsweredIfKnown None key false before after = after ≡ before
+IsAnsweredIfKnown _ key _ before after = ⊥
 
 -- if the answers before are those of each storage with these changes that has what is known, so are the answers after
-abbrev pub KeepsFrom : Changes → WriteMap → RunView → RunView → Type 0
-KeepsFrom bases changes before after = (store : Storage) → Agrees bases store
+abbrev pub KeepsAnswers : Changes → WriteMap → RunView → RunView → Type 0
+KeepsAnswers bases changes before after = (store : Storage) → Agrees bases store
     → AreFrom (apply_writes store changes) (replies_of before.answers) → AreFrom (apply_writes store changes) (replies_of after.answers)
 
 -- a run asks for a key of which nothing is known, or its call has ended

@@ -18,7 +18,7 @@ use Rattle.rv_step.specs.Fold.{receipts_of, store_after}
 use Rattle.rv_step.specs.Moment.{Reply}
 use Rattle.rv_step.specs.Replies.{replies_of}
 use Rattle.rv_step.specs.Run.{IsEnded}
-use Rattle.host_block.specs.Changes.{Agrees, listed}
+use Rattle.host_block.specs.Changes.{Agrees, listed_changes}
 use Rattle.host_block.specs.declared.parts.Current.{Current}
 use Rattle.host_block.specs.declared.parts.Current.TheVariants as current
 use Rattle.host_block.specs.declared.parts.Parts.{Parts}
@@ -76,10 +76,10 @@ IsRestOf calls store receipts left now =
     (receipts ++ receipts_of left now ≡ receipts_of calls store) × (store_after left now ≡ store_after calls store)
 
 -- the same by the call under way. If it has ended, some of its writes are among the changes, and the others come after them
-abbrev pub IsSerial : List Invocation → List Receipt → Current → WriteMap → Storage → Type 0
-IsSerial calls receipts (current.Ended receipt count) changes store =
+abbrev pub AreCallsSerial : List Invocation → List Receipt → Current → WriteMap → Storage → Type 0
+AreCallsSerial calls receipts (current.Ended receipt count) changes store =
     IsRestOf calls store (receipts ++ receipt ∷ []) (drop (suc (length receipts)) calls) (apply_each (apply_writes store changes) (drop count (map.entries receipt.writes)))
-IsSerial calls receipts under_way changes store = IsRestOf calls store receipts (drop (length receipts) calls) (apply_writes store changes)
+AreCallsSerial calls receipts under_way changes store = IsRestOf calls store receipts (drop (length receipts) calls) (apply_writes store changes)
 
 -- the call under way is the one after those that have receipts, and what it was answered is what each such storage has
 abbrev pub IsUnderWay : List Invocation → List Receipt → Current → WriteMap → Changes → Type 0
@@ -107,19 +107,19 @@ pub record AreSums (p : Parts) (keys : List (List ℕ)) : Type 0 where
 -- the changes of the result
 pub record IsListed (p : Parts) (list : List (List ℕ × Content)) : Type 0 where
   pub ended : length p.receipts.items ≡ length p.calls.items
-  pub of_changes : list ≡ listed p.bases p.changes
+  pub of_changes : list ≡ listed_changes p.bases p.changes
   pub known : AreSumsKnown p.changes p.bases
 
 pub record IsInOrder (p : Parts) : Type 0 where
-  pub serial : (store : Storage) → Agrees p.bases store → IsSerial p.calls.items p.receipts.items p.current p.changes store
+  pub serial : (store : Storage) → Agrees p.bases store → AreCallsSerial p.calls.items p.receipts.items p.current p.changes store
   pub under_way : IsUnderWay p.calls.items p.receipts.items p.current p.changes p.bases
   pub written : (key : List ℕ) → map.contains_key p.changes key ≡ true → IsWritten (receipts_with p.receipts.items p.current) key
   pub sums : IfSome p.sums (λ keys. AreSums p keys.items)
   pub listed : IfSome p.listed (λ list. IsListed p list.items)
 
 -- the calls and the answers stay
-abbrev pub Leaves : Parts → Parts → Type 0
-Leaves before after = (after.calls ≡ before.calls) × (after.bases ≡ before.bases)
+abbrev pub SameParts : Parts → Parts → Type 0
+SameParts before after = (after.calls ≡ before.calls) × (after.bases ≡ before.bases)
 
 -- a key is wanted
 abbrev pub Wants : Parts → List ℕ → Type 0
@@ -149,8 +149,8 @@ abbrev pub IsCallEnded : Current → Type 0
 IsCallEnded (current.Ended receipt count) = ⊤
 IsCallEnded under_way = ⊥
 
-abbrev pub HasEnded : Parts → Type 0
-HasEnded p = IsCallEnded p.current
+abbrev pub IsCallOver : Parts → Type 0
+IsCallOver p = IsCallEnded p.current
 
 -- the call under way has ended, and all its writes are among the changes
 abbrev pub HasAllWrites : Current → Type 0
@@ -160,7 +160,7 @@ HasAllWrites under_way = ⊥
 -- a call stopped at a key, or its run has ended
 abbrev pub IsRunStop : Option (List ℕ) → Parts → Type 0
 IsRunStop (Some key) p = Wants p key
-IsRunStop None p = HasEnded p
+IsRunStop None p = IsCallOver p
 
 -- a storage with these changes, and with the writes of a call from an index on
 abbrev pub now_with : WriteMap → WriteMap → ℕ → Storage → Storage
@@ -173,8 +173,8 @@ IsNextSum None p = AreSumsKnown p.changes p.bases
 
 -- ---- what callers of a run in order see
 
-abbrev pub view_of : Parts → Option (List ℕ) → OrderedView
-view_of p asked = record {
+abbrev pub ordered_view : Parts → Option (List ℕ) → OrderedView
+ordered_view p asked = record {
   calls = p.calls.items;
   receipts = p.receipts.items;
   changes = p.changes;
@@ -184,13 +184,13 @@ view_of p asked = record {
 }
 
 -- the key that is asked for is wanted
-abbrev pub IsAsking : Parts → Option (List ℕ) → Type 0
-IsAsking p None = ⊤
-IsAsking p (Some key) = Wants p key
+abbrev pub AsksWanted : Parts → Option (List ℕ) → Type 0
+AsksWanted p None = ⊤
+AsksWanted p (Some key) = Wants p key
 
 -- the calls and the answers stay
-abbrev pub Stays : OrderedView → OrderedView → Type 0
-Stays before after = (after.calls ≡ before.calls) × (after.bases ≡ before.bases)
+abbrev pub SameGiven : OrderedView → OrderedView → Type 0
+SameGiven before after = (after.calls ≡ before.calls) × (after.bases ≡ before.bases)
 
 -- a run stopped at a key that it asks for, which is wanted; or it has its result
 abbrev pub IsStopped : Option (List ℕ) → OrderedView → Type 0
@@ -198,8 +198,8 @@ IsStopped (Some key) v = (v.asked ≡ Some key) × IsWanted v.calls v.receipts v
 IsStopped None v = (v.asked ≡ None) × IsSome v.result
 
 -- the key that was asked for has this content, and nothing else changes
-abbrev pub IsKept : Content → OrderedView → OrderedView → Type 0
-IsKept content before after = IfSome before.asked (λ key. after ≡ record before { bases = map.insert before.bases key content; asked = None })
+abbrev pub IsBaseKept : Content → OrderedView → OrderedView → Type 0
+IsBaseKept content before after = IfSome before.asked (λ key. after ≡ record before { bases = map.insert before.bases key content; asked = None })
 
 -- an answer is refused because no key is asked for; or one is, and memory ran out
 abbrev pub IsBaseFault : BaseFault → OrderedView → Type 0

@@ -74,7 +74,11 @@ impl ChangeMap {
         ensures ok { OnOk result (self.new ≡ map.insert self.old key.now (change_after (map.get self.old key.now) write.now)) }
         ensures err { OnErr result (self.new ≡ self.old) }
     {
-        let change = change_after(self.alloc, self.get(key), write)?;
+        let change = match write {
+            Change::Value(value) => Change::Value(value.clone()?),
+            Change::Gone => Change::Gone,
+            Change::Sum(amount) => change_after_sum(self.alloc, self.get(key), *amount)?,
+        };
         self.set(*key, change)
     }
 
@@ -85,22 +89,6 @@ impl ChangeMap {
     {
         self.entries.insert(key, change)?;
         Ok(())
-    }
-}
-
-/// The change of a key after one more write: an added amount joins the earlier change, and any other write replaces it. Refused
-/// if memory ran out.
-fn change_after(
-    alloc: Global,
-    before: Option<&Change<StoredValue>>,
-    write: &Change<StoredValue>,
-) -> Result<Change<StoredValue>, AllocError>
-    ensures { IfOk result (λ change. change ≡ change_after (option_copied before.entry) write.now) }
-{
-    match write {
-        Change::Value(value) => Ok(Change::Value(value.clone()?)),
-        Change::Gone => Ok(Change::Gone),
-        Change::Sum(amount) => change_after_sum(alloc, before, *amount),
     }
 }
 

@@ -3,7 +3,7 @@
 ghost use Rattle.std.specs.Prelude.{◌≡◌};
 ghost use Rattle.std.specs.FinMap as map;
 ghost use Rattle.host_block.specs.Changes.{known_after};
-ghost use Rattle.host_block.specs.Known.{content_of};
+ghost use Rattle.host_block.specs.Known.{known_content};
 
 use crate::change_map::ChangeMap;
 use overlay::Overlay;
@@ -22,7 +22,7 @@ pub(crate) enum Known<'a> {
 /// Looks up what a call of the block reads at a key: what earlier calls left there. Only a key with a value or a removal among the changes
 /// needs no answer of the host. Takes no memory.
 pub(crate) fn look_up<'a>(changes: &'a ChangeMap, bases: &'a Overlay, key: &Key) -> Known<'a>
-    ensures { content_of result ≡ known_after (map.get changes.now key.now) (map.get bases.now key.now) }
+    ensures { known_content result ≡ known_after (map.get changes.now key.now) (map.get bases.now key.now) }
 {
     match changes.get(key) {
         Some(Change::Value(value)) => Known::Content(Some(value)),

@@ -3,7 +3,7 @@
 ghost use Rattle.std.specs.Prelude.{◌≡◌, IfOk};
 ghost use Rattle.std.specs.FinMap as map;
 ghost use Rattle.std.specs.Option.{option_copied};
-ghost use Rattle.host_block.specs.Changes.{listed, resolved};
+ghost use Rattle.host_block.specs.Changes.{listed_changes, resolved};
 ghost use Rattle.host_block.specs.Ordered.{sum_keys};
 
 use crate::change_map::ChangeMap;
@@ -30,7 +30,7 @@ pub(crate) fn listed(
     changes: &ChangeMap,
     bases: &Overlay,
 ) -> Result<Vec<(Key, Option<StoredValue>)>, AllocError>
-    ensures { IfOk result (λ list. list.items ≡ listed bases.now changes.now) }
+    ensures { IfOk result (λ list. list.items ≡ listed_changes bases.now changes.now) }
 {
     let alloc = changes.allocator();
     let mut list = Vec::new(alloc);

@@ -26,15 +26,15 @@ impl Model for OrderedRun {
     ghost use Rattle.rv_ledger.specs.Key.{key_cmp};
     ghost use Rattle.rv_ledger.specs.contracts.receipt.Receipt.{the_row as receipt_row};
     ghost use Rattle.rv_ledger.specs.contracts.call.Call.{the_row as call_row};
-    ghost use Rattle.host_block.specs.Ordered.{IsAsking, IsInOrder, OrderedView, view_of};
+    ghost use Rattle.host_block.specs.Ordered.{AsksWanted, IsInOrder, OrderedView, ordered_view};
 
     ghost Value = { OrderedView };
 
     ghost coded = { Prim.hlevel (codes, call_row.coded, receipt_row.coded, map.code {R = key_cmp} (coded_list coded_ℕ) coded_change, map.code {R = key_cmp} (coded_list coded_ℕ) (coded_option (coded_list coded_ℕ))) };
 
-    ghost view = { λ r. view_of r.parts r.asked };
+    ghost view = { λ r. ordered_view r.parts r.asked };
 
-    ghost invariant = { λ r. IsInOrder r.parts × IsAsking r.parts r.asked };
+    ghost invariant = { λ r. IsInOrder r.parts × AsksWanted r.parts r.asked };
 }
 
 /// Why an answer of the host is refused.
@@ -59,7 +59,7 @@ impl OrderedRun {
     ghost use Rattle.std.specs.Prelude.{◌≡◌, [], IfOk, IfErr, IfSome, OnErr, OnOk, None, Some};
     ghost use Rattle.std.specs.FinMap as map;
     ghost use Rattle.rv_ledger.specs.Lent.{lent_content};
-    ghost use Rattle.host_block.specs.Ordered.{AreResults, IsBaseFault, IsKept, IsStopped, Stays};
+    ghost use Rattle.host_block.specs.Ordered.{AreResults, IsBaseFault, IsBaseKept, IsStopped, SameGiven};
 
     /// The run of some calls before its first step. Takes no memory.
     pub fn new(alloc: Global, calls: Vec<Call>) -> OrderedRun
@@ -92,7 +92,7 @@ impl OrderedRun {
     /// Continues until a key is needed that the host did not answer, which is returned, or until all calls have ended. A run that
     /// waits for an answer stays as it is. Refused if memory ran out; then the run is before the instruction that needed memory, and may continue.
     pub fn go(&mut self) -> Result<Option<Key>, AllocError>
-        ensures stays { Stays self.old self.new }
+        ensures stays { SameGiven self.old self.new }
         ensures stop { IfOk result (λ asked. IsStopped asked self.new) }
         ensures asked { IfSome self.old.asked (λ key. self.new ≡ self.old) }
         ensures err { OnErr result (self.new.asked ≡ None) }
@@ -112,7 +112,7 @@ impl OrderedRun {
     /// Answers the key that is asked for: what the host's storage has there before the block. Refused as NotAsked if none is asked
     /// for, otherwise as Memory if memory ran out. A refused answer changes nothing.
     pub fn answer(&mut self, content: Option<LentValue>) -> Result<(), BaseFault>
-        ensures ok { OnOk result (IsKept (lent_content content.entry) self.old self.new) }
+        ensures ok { OnOk result (IsBaseKept (lent_content content.entry) self.old self.new) }
         ensures err { OnErr result (self.new ≡ self.old) }
         ensures fault { IfErr result (λ fault. IsBaseFault fault self.old) }
     {
@@ -128,7 +128,7 @@ impl OrderedRun {
     /// Keeps the answer to the key that is asked for. Refused if memory ran out, and then nothing changes.
     fn keep(&mut self, key: Key, content: Option<StoredValue>) -> Result<(), BaseFault>
         requires { self.old.asked ≡ Some key }
-        ensures ok { OnOk result (IsKept content self.old self.new) }
+        ensures ok { OnOk result (IsBaseKept content self.old self.new) }
         ensures err { OnErr result (self.new ≡ self.old) }
         ensures fault { IfErr result (λ fault. fault ≡ BaseFault.Memory) }
     {

@@ -2,7 +2,7 @@
 
 ghost use Rattle.std.specs.Prelude.{◌≡◌, ◌⊎◌, ◌<◌, ◌≤◌, ◌+◌, ℕ, List, [], drop, true, IfOk, IsSome, OnErr, OnOk, None, Some, length, slice_get, vec_capacity, vec_len};
 ghost use Rattle.std.specs.FinMap as map;
-ghost use Rattle.host_block.specs.Ordered.{HasAllWrites, HasBegun, HasEnded, HasEndedRun, IsCallStop, IsInOrder, IsNextSum, IsRunStop, IsStop, Leaves, now_with};
+ghost use Rattle.host_block.specs.Ordered.{HasAllWrites, HasBegun, IsCallOver, HasEndedRun, IsCallStop, IsInOrder, IsNextSum, IsRunStop, IsStop, SameParts, now_with};
 ghost use Rattle.rv_ledger.specs.Key.{Storage};
 
 use crate::change_map::ChangeMap;
@@ -55,7 +55,7 @@ pub struct Parts {
 pub(crate) fn run_block(p: &mut Parts) -> Result<Option<Key>, AllocError>
     requires { IsInOrder p.old }
     ensures in_order { IsInOrder p.new }
-    ensures leaves { Leaves p.old p.new }
+    ensures leaves { SameParts p.old p.new }
     ensures stop { IfOk result (λ asked. IsStop asked p.new) }
 {
     while p.receipts.len() < p.calls.len() {
@@ -71,7 +71,7 @@ fn go_call(p: &mut Parts) -> Result<Option<Key>, AllocError>
     requires in_order { IsInOrder p.old }
     requires more { length p.old.receipts.items < length p.old.calls.items }
     ensures in_order { IsInOrder p.new }
-    ensures leaves { Leaves p.old p.new }
+    ensures leaves { SameParts p.old p.new }
     ensures stop { IfOk result (λ asked. IsCallStop asked (length p.old.receipts.items) p.new) }
 {
     begin(p)?;
@@ -87,7 +87,7 @@ fn begin(p: &mut Parts) -> Result<(), AllocError>
     requires in_order { IsInOrder p.old }
     requires more { length p.old.receipts.items < length p.old.calls.items }
     ensures in_order { IsInOrder p.new }
-    ensures leaves { Leaves p.old p.new }
+    ensures leaves { SameParts p.old p.new }
     ensures receipts { p.new.receipts ≡ p.old.receipts }
     ensures begun { OnOk result (HasBegun p.new) }
 {
@@ -105,7 +105,7 @@ fn run_on(p: &mut Parts) -> Result<Option<Key>, AllocError>
     requires begun { HasBegun p.old }
     requires more { length p.old.receipts.items < length p.old.calls.items }
     ensures in_order { IsInOrder p.new }
-    ensures leaves { Leaves p.old p.new }
+    ensures leaves { SameParts p.old p.new }
     ensures receipts { p.new.receipts ≡ p.old.receipts }
     ensures stop { IfOk result (λ asked. IsRunStop asked p.new) }
 {
@@ -124,9 +124,9 @@ fn end_call(p: &mut Parts)
     requires ended { HasEndedRun p.old.current }
     requires more { length p.old.receipts.items < length p.old.calls.items }
     ensures in_order { IsInOrder p.new }
-    ensures leaves { Leaves p.old p.new }
+    ensures leaves { SameParts p.old p.new }
     ensures receipts { p.new.receipts ≡ p.old.receipts }
-    ensures ended { HasEnded p.new }
+    ensures ended { IsCallOver p.new }
 {
     match replace(&mut p.current, Current::Next) {
         Current::Run(run) => {
@@ -147,9 +147,9 @@ fn end_call(p: &mut Parts)
 /// writes may be among the changes, and it may continue.
 fn keep(p: &mut Parts) -> Result<(), AllocError>
     requires in_order { IsInOrder p.old }
-    requires ended { HasEnded p.old }
+    requires ended { IsCallOver p.old }
     ensures in_order { IsInOrder p.new }
-    ensures leaves { Leaves p.old p.new }
+    ensures leaves { SameParts p.old p.new }
     ensures receipts { OnOk result (length p.new.receipts.items ≡ length p.old.receipts.items + 1) }
 {
     p.receipts.reserve(1)?;
@@ -183,7 +183,7 @@ fn keep_receipt(p: &mut Parts)
     requires ended { HasAllWrites p.old.current }
     requires room { vec_len p.old.receipts < vec_capacity p.old.receipts }
     ensures in_order { IsInOrder p.new }
-    ensures leaves { Leaves p.old p.new }
+    ensures leaves { SameParts p.old p.new }
     ensures receipts { length p.new.receipts.items ≡ length p.old.receipts.items + 1 }
 {
     match replace(&mut p.current, Current::Next) {
@@ -198,7 +198,7 @@ fn settle(p: &mut Parts) -> Result<Option<Key>, AllocError>
     requires in_order { IsInOrder p.old }
     requires ended { length p.old.receipts.items ≡ length p.old.calls.items }
     ensures in_order { IsInOrder p.new }
-    ensures leaves { Leaves p.old p.new }
+    ensures leaves { SameParts p.old p.new }
     ensures stop { IfOk result (λ asked. IsStop asked p.new) }
 {
     if p.listed.is_some() {
@@ -218,7 +218,7 @@ fn find_sums(p: &mut Parts) -> Result<(), AllocError>
     requires ended { length p.old.receipts.items ≡ length p.old.calls.items }
     requires unlisted { p.old.listed ≡ None }
     ensures in_order { IsInOrder p.new }
-    ensures leaves { Leaves p.old p.new }
+    ensures leaves { SameParts p.old p.new }
     ensures ended { length p.new.receipts.items ≡ length p.new.calls.items }
     ensures unlisted { p.new.listed ≡ None }
     ensures found { OnOk result (IsSome p.new.sums) }
@@ -238,7 +238,7 @@ fn next_sum(p: &mut Parts) -> Option<Key>
     requires unlisted { p.old.listed ≡ None }
     requires ended { length p.old.receipts.items ≡ length p.old.calls.items }
     ensures in_order { IsInOrder p.new }
-    ensures leaves { Leaves p.old p.new }
+    ensures leaves { SameParts p.old p.new }
     ensures unlisted { p.new.listed ≡ None }
     ensures next { IsNextSum result p.new }
     ensures ended { length p.new.receipts.items ≡ length p.new.calls.items }

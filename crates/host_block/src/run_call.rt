@@ -4,7 +4,7 @@ ghost use Rattle.std.specs.Prelude.{◌≡◌, ◌<◌, ◌≤◌, IfOk, OnErr, 
 ghost use Rattle.std.specs.FinMap as map;
 ghost use Rattle.rv_step.specs.Run.{asked_key, steps_left};
 ghost use Rattle.host_block.specs.Changes.{known_after};
-ghost use Rattle.host_block.specs.Known.{IsAnswered, IsCallPause, KeepsFrom};
+ghost use Rattle.host_block.specs.Known.{IsAnsweredIfKnown, IsCallPause, KeepsAnswers};
 
 use crate::change_map::ChangeMap;
 use crate::known::{Known, look_up};
@@ -22,7 +22,7 @@ pub(crate) fn run_call(
     bases: &Overlay,
 ) -> Result<Option<Key>, AllocError>
     ensures call { run.new.call ≡ run.old.call }
-    ensures from { KeepsFrom bases.now changes.now run.old run.new }
+    ensures from { KeepsAnswers bases.now changes.now run.old run.new }
     ensures stopped { IfOk result (λ asked. IsCallPause asked bases.now changes.now run.new) }
 {
     while let Pause::Ask(key) = run.go()? {
@@ -42,7 +42,7 @@ fn answer_known(
     key: &Key,
 ) -> Result<bool, AllocError>
     requires { asked_key run.old.stage ≡ Some key.now }
-    ensures ok { IfOk result (λ is_known. IsAnswered (known_after (map.get changes.now key.now) (map.get bases.now key.now)) key.now is_known run.old run.new) }
+    ensures ok { IfOk result (λ is_known. IsAnsweredIfKnown (known_after (map.get changes.now key.now) (map.get bases.now key.now)) key.now is_known run.old run.new) }
     ensures err { OnErr result (run.new ≡ run.old) }
     ensures fewer { IfOk result (λ is_known. is_known ≡ true → steps_left run.new < steps_left run.old) }
 {

@@ -5,7 +5,7 @@ use Rattle.std.specs.Map.{keys_of}
 use Rattle.std.specs.Option.{option_map}
 use Rattle.std.specs.declared.alloc.AllocError.{AllocError}
 use Rattle.elf32.specs.Layout.{Layout}
-use Rattle.host_block.specs.Ordered.{AreResults, IsKept, IsResult, IsStopped, IsWanted, IsWritten, OrderedView, Stays}
+use Rattle.host_block.specs.Ordered.{AreResults, IsBaseKept, IsResult, IsStopped, IsWanted, IsWritten, OrderedView, SameGiven}
 use Rattle.host_block.specs.declared.ordered_run.BlockResult.{BlockResult}
 use Rattle.rv_ledger.specs.Call.{Invocation, call_of}
 use Rattle.rv_ledger.specs.Change.{Content}
@@ -34,12 +34,12 @@ abbrev pub stage_of : Stage → BlockStage
 stage_of (stage.Calls calls) = Calls calls.items
 stage_of (stage.Run run) = Runs run
 
-abbrev pub block_of : EmbeddedBlock → BlockView
-block_of block = record { rules = block.rules; stage = stage_of block.stage }
+abbrev pub block_view : EmbeddedBlock → BlockView
+block_view block = record { rules = block.rules; stage = stage_of block.stage }
 
 -- the rules of a number
-abbrev pub rules_of : ℕ → Option Rules
-rules_of number = if number == 1 then Some rules.One else if number == 2 then Some rules.Two else if number == 3 then Some rules.Three else None
+abbrev pub rules_numbered : ℕ → Option Rules
+rules_numbered number = if number == 1 then Some rules.One else if number == 2 then Some rules.Two else if number == 3 then Some rules.Three else None
 
 -- a block without calls
 abbrev pub new_block : Rules → BlockView
@@ -50,12 +50,12 @@ abbrev pub IsBlockOpened : Option Rules → Option EmbeddedBlock → ℕ → Opt
 IsBlockOpened under (Some before) status after = (status ≡ already_open) × (after ≡ Some before)
 IsBlockOpened None None status after = (status ≡ bad_rules) × (after ≡ None)
 IsBlockOpened (Some under) None status after =
-    ((status ≡ done) × (block : EmbeddedBlock) × (after ≡ Some block) × (block_of block ≡ new_block under)) ⊎ ((status ≡ no_memory) × (after ≡ None))
+    ((status ≡ done) × (block : EmbeddedBlock) × (after ≡ Some block) × (block_view block ≡ new_block under)) ⊎ ((status ≡ no_memory) × (after ≡ None))
 
 -- a call on a handle: without a block it returns CLOSED and does nothing
 abbrev pub OnBlock : (BlockView → ℕ → BlockView → Type 0) → Option EmbeddedBlock → ℕ → Option EmbeddedBlock → Type 0
 OnBlock call None status after = (status ≡ closed) × (after ≡ None)
-OnBlock call (Some before) status after = (block : EmbeddedBlock) × (after ≡ Some block) × call (block_of before) status (block_of block)
+OnBlock call (Some before) status after = (block : EmbeddedBlock) × (after ≡ Some block) × call (block_view before) status (block_view block)
 
 -- a handle was closed
 abbrev pub IsBlockClosed : Option EmbeddedBlock → ℕ → Type 0
@@ -69,6 +69,12 @@ abbrev pub IsCallFault : Result Invocation CallFault → ℕ → Type 0
 IsCallFault (Err fault.BadGas) status = status ≡ bad_gas
 IsCallFault (Err fault.InputTooLong) status = status ≡ long_input
 IsCallFault (Ok call) status = status ≡ failed
+
+-- a gas limit and an input have this status if no call has them
+abbrev pub IsLimit : Result Invocation CallFault → Option ℕ → Type 0
+IsLimit (Ok call) status = status ≡ None
+IsLimit (Err fault.BadGas) status = status ≡ Some bad_gas
+IsLimit (Err fault.InputTooLong) status = status ≡ Some long_input
 
 -- a call was added after the others, or was not made
 abbrev pub IsAddedAfter : List Invocation → Result Invocation CallFault → ℕ → BlockStage → Type 0
@@ -102,12 +108,12 @@ abbrev pub new_run : List Invocation → OrderedView
 new_run calls = record { calls = calls; receipts = []; changes = map.empty; bases = map.empty; asked = None; result = None }
 
 -- the run of a block, which begins if it has not
-abbrev pub run_of : BlockStage → OrderedView
-run_of (Calls calls) = new_run calls
-run_of (Runs run) = run
+abbrev pub run_at : BlockStage → OrderedView
+run_at (Calls calls) = new_run calls
+run_at (Runs run) = run
 
-abbrev pub IsBegun : BlockView → BlockView → Type 0
-IsBegun before after = (after.rules ≡ before.rules) × (after.stage ≡ Runs (run_of before.stage))
+abbrev pub HasBegunRun : BlockView → BlockView → Type 0
+HasBegunRun before after = (after.rules ≡ before.rules) × (after.stage ≡ Runs (run_at before.stage))
 
 -- a run that waits for an answer stays
 abbrev pub Waits : OrderedView → OrderedView → Type 0
@@ -120,7 +126,7 @@ IsGoneTo (Err error) run = run.asked ≡ None
 
 abbrev pub IsGone : BlockView → Result (Option (List ℕ)) AllocError → BlockView → Type 0
 IsGone before stopped after =
-    (after.rules ≡ before.rules) × (run : OrderedView) × (after.stage ≡ Runs run) × Stays (run_of before.stage) run × Waits (run_of before.stage) run × IsGoneTo stopped run
+    (after.rules ≡ before.rules) × (run : OrderedView) × (after.stage ≡ Runs run) × SameGiven (run_at before.stage) run × Waits (run_at before.stage) run × IsGoneTo stopped run
 
 -- the result of a run: for every storage that has what was answered, the receipts are those of the calls in order over it, and the
 -- changes lead from it to the storage after them; the changed keys ascend, and each is written by a call
@@ -136,9 +142,9 @@ IsRunStatus run status before after =
     ⊎ ((status ≡ ended) × (after ≡ before) × (run.asked ≡ None) × IsEndedRun run)
     ⊎ ((status ≡ paused) × (after ≡ before) × (run.asked ≡ None))
 
-abbrev pub GoesOn : List ℕ → List ℕ → BlockView → ℕ → BlockView → Type 0
-GoesOn key_before key_after before status after =
-    (after.rules ≡ before.rules) × (run : OrderedView) × (after.stage ≡ Runs run) × Stays (run_of before.stage) run × Waits (run_of before.stage) run
+abbrev pub RunsOn : List ℕ → List ℕ → BlockView → ℕ → BlockView → Type 0
+RunsOn key_before key_after before status after =
+    (after.rules ≡ before.rules) × (run : OrderedView) × (after.stage ≡ Runs run) × SameGiven (run_at before.stage) run × Waits (run_at before.stage) run
     × IsRunStatus run status key_before key_after
 
 -- the content that a caller gives: a value, or none
@@ -150,7 +156,7 @@ given_content false value = None
 abbrev pub IsBasedIf : Bool → Content → OrderedView → ℕ → BlockStage → Type 0
 IsBasedIf true content run status after = (status ≡ long_value) × (after ≡ Runs run)
 IsBasedIf false content run status after =
-    ((status ≡ done) × (new : OrderedView) × (after ≡ Runs new) × IsKept content run new) ⊎ ((status ≡ failed) × (after ≡ Runs run))
+    ((status ≡ done) × (new : OrderedView) × (after ≡ Runs new) × IsBaseKept content run new) ⊎ ((status ≡ failed) × (after ≡ Runs run))
 
 abbrev pub IsBasedRun : Option (List ℕ) → Bool → List ℕ → OrderedView → ℕ → BlockStage → Type 0
 IsBasedRun None present value run status after = (status ≡ not_asked) × (after ≡ Runs run)
@@ -172,7 +178,7 @@ result_at (Runs run) = option_map (λ changes. (run.receipts, changes)) run.resu
 
 abbrev pub result_in : Option EmbeddedBlock → Option (List Receipt × List (List ℕ × Content))
 result_in None = None
-result_in (Some block) = result_at (block_of block).stage
+result_in (Some block) = result_at (block_view block).stage
 
 abbrev pub HasResultAt : Option BlockResult → BlockStage → Type 0
 HasResultAt result (Calls calls) = result ≡ None
@@ -188,6 +194,6 @@ IsGiven (Some None) before status after = (status ≡ no_entry) × (after ≡ be
 IsGiven (Some (Some entry)) before status after = (status ≡ done) × (after ≡ entry)
 
 -- the same of a handle, by what the entry is in a result
-abbrev pub Gives : {X : Type 0} → (List Receipt × List (List ℕ × Content) → Option X) → Option EmbeddedBlock → X → ℕ → X → Type 0
-Gives entry None before status after = (status ≡ closed) × (after ≡ before)
-Gives entry (Some block) before status after = IsGiven (option_map entry (result_at (block_of block).stage)) before status after
+abbrev pub GivesEntry : {X : Type 0} → (List Receipt × List (List ℕ × Content) → Option X) → Option EmbeddedBlock → X → ℕ → X → Type 0
+GivesEntry entry None before status after = (status ≡ closed) × (after ≡ before)
+GivesEntry entry (Some block) before status after = IsGiven (option_map entry (result_at (block_view block).stage)) before status after

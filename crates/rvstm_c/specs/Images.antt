@@ -15,21 +15,22 @@ use Rattle.rvstm_c.specs.declared.image.EmbeddedImage.{EmbeddedImage}
 use Rattle.rvstm_c.specs.declared.refusal.RefusalParts.{RefusalParts}
 
 -- the refusal of a file; none if memory ran out
-abbrev pub refusal_of : ProgramFault → Option FrameRefusal
-refusal_of fault.TooLong = Some refusal.FileTooLong
-refusal_of fault.Unreadable = None
-refusal_of (fault.Elf elf.Memory) = None
-refusal_of (fault.Elf other) = Some (refusal.Elf other)
+abbrev pub file_refusal : ProgramFault → Option FrameRefusal
+file_refusal fault.TooLong = Some refusal.FileTooLong
+file_refusal fault.Unreadable = None
+file_refusal (fault.Elf elf.Memory) = None
+file_refusal (fault.Elf other) = Some (refusal.Elf other)
 
--- a file is not loaded by its own fault; or it has none, and memory ran out
-abbrev pub IsLoadFault : Result Layout ProgramFault → ProgramFault → Type 0
-IsLoadFault wanted given = ((given ≡ fault.Elf elf.Memory) ⊎ (wanted ≡ Err given)) × (given ≡ fault.Elf elf.Memory → IsOk wanted)
+-- a handle that had no image has one of a program, or memory ran out
+abbrev pub IsImageMade : Layout → ℕ → Option EmbeddedImage → Type 0
+IsImageMade program status after =
+    ((status ≡ done) × (image : EmbeddedImage) × (after ≡ Some image) × (arc_value image.program ≡ program)) ⊎ ((status ≡ no_memory) × (after ≡ None))
 
 -- a handle that had no image: it has the program of the file; or the file is refused; or memory ran out
 abbrev pub IsOpenedOver : Result Layout ProgramFault → ℕ → Option EmbeddedImage → RefusalParts → Type 0
 IsOpenedOver program status after parts =
     ((status ≡ done) × (parts ≡ no_parts) × (image : EmbeddedImage) × (after ≡ Some image) × (program ≡ Ok (arc_value image.program)))
-    ⊎ ((status ≡ refused) × (after ≡ None) × (given : ProgramFault) × (why : FrameRefusal) × (program ≡ Err given) × (refusal_of given ≡ Some why) × (parts ≡ handed_out (frame_refusal_parts why)))
+    ⊎ ((status ≡ refused) × (after ≡ None) × (given : ProgramFault) × (why : FrameRefusal) × (program ≡ Err given) × (file_refusal given ≡ Some why) × (parts ≡ handed_out (frame_refusal_parts why)))
     ⊎ ((status ≡ no_memory) × (after ≡ None) × (parts ≡ no_parts) × IsOk program)
 
 -- an image was opened over a file

@@ -16,19 +16,19 @@ use Rattle.rvstm_c.specs.declared.entries.ReceiptForC.{ReceiptForC}
 use Rattle.rvstm_c.specs.declared.entries.WriteForC.{WriteForC}
 
 -- the receipts and the changes of a block
-abbrev pub Result : Type 0
-Result = List Receipt × List (List ℕ × Content)
+abbrev pub ResultLists : Type 0
+ResultLists = List Receipt × List (List ℕ × Content)
 
-abbrev pub entries_of : Result → Option EntriesForC
+abbrev pub entries_of : ResultLists → Option EntriesForC
 entries_of result = Some (record { receipts = length result.0; changes = length result.1 })
 
-abbrev pub given_receipt : ℕ → Result → Option ReceiptForC
+abbrev pub given_receipt : ℕ → ResultLists → Option ReceiptForC
 given_receipt call result = option_map receipt_for_c (slice_get result.0 call)
 
-abbrev pub given_write : ℕ → ℕ → Result → Option WriteForC
+abbrev pub given_write : ℕ → ℕ → ResultLists → Option WriteForC
 given_write call index result = slice_get result.0 call >>= (λ receipt. option_map write_for_c (slice_get (map.entries receipt.writes) index))
 
-abbrev pub given_change : ℕ → Result → Option ChangeForC
+abbrev pub given_change : ℕ → ResultLists → Option ChangeForC
 given_change index result = option_map change_for_c (slice_get result.1 index)
 
 -- the output of a call was copied to a buffer; or there is no result, or no such call
@@ -36,7 +36,7 @@ abbrev pub IsOutputOf : Option Receipt → List ℕ → ℕ → List ℕ → Typ
 IsOutputOf None before status after = (status ≡ no_entry) × (after ≡ before)
 IsOutputOf (Some receipt) before status after = IsCopied receipt.out before status after
 
-abbrev pub IsOutputCopiedAt : ℕ → Option Result → List ℕ → ℕ → List ℕ → Type 0
+abbrev pub IsOutputCopiedAt : ℕ → Option ResultLists → List ℕ → ℕ → List ℕ → Type 0
 IsOutputCopiedAt call None before status after = (status ≡ wrong_stage) × (after ≡ before)
 IsOutputCopiedAt call (Some result) before status after = IsOutputOf (slice_get result.0 call) before status after
 

@@ -1,10 +1,12 @@
 //! A block that a handle has.
 
-ghost use Rattle.std.specs.Prelude.{◌≡◌, false, IfErr, IfOk, IsSome, Ok};
+ghost use Rattle.std.specs.Prelude.{◌≡◌, false, IfOk, IsSome};
 ghost use Rattle.std.specs.Arc.{arc_value};
 ghost use Rattle.rv_ledger.specs.Lent.{lent_content};
-ghost use Rattle.rvstm_c.specs.Blocks.{IsBasedIf, IsCallFault, Runs, rules_of};
+ghost use Rattle.rvstm_c.specs.Blocks.{IsBasedIf, IsLimit, Runs, rules_numbered};
+ghost use Rattle.elf32.specs.Layout.{Layout};
 ghost use Rattle.rv_ledger.specs.Call.{call_of};
+ghost use Rattle.rv_ledger.specs.declared.rules.Rules.{Rules as RulesValue};
 
 use crate::status::{
     BAD_GAS, DONE, FAILED, LONG_INPUT, LONG_VALUE, NOT_ASKED, TOO_MANY_CALLS, WRONG_STAGE,
@@ -39,7 +41,7 @@ pub struct EmbeddedBlock {
 impl EmbeddedBlock {
     ghost use Rattle.std.specs.Prelude.{◌≡◌};
     ghost use Rattle.std.specs.Arc.{arc_value};
-    ghost use Rattle.rvstm_c.specs.Blocks.{AddsCall, HasResult, IsBased, IsBegun, IsGone, block_of};
+    ghost use Rattle.rvstm_c.specs.Blocks.{AddsCall, HasResult, IsBased, HasBegunRun, IsGone, block_view};
 
     /// Adds a call after the others. Returns the status.
     pub(crate) fn add_call(
@@ -49,7 +51,7 @@ impl EmbeddedBlock {
         gas: u32,
         input: &[u8],
     ) -> u32
-        ensures { AddsCall (arc_value program.now) gas input.now (block_of self.old) result (block_of self.new) }
+        ensures { AddsCall (arc_value program.now) gas input.now (block_view self.old) result (block_view self.new) }
     {
         let rules = self.rules;
         let Stage::Calls(calls) = &mut self.stage else {
@@ -58,18 +60,23 @@ impl EmbeddedBlock {
         if calls.len() >= CALL_LIMIT {
             return TOO_MANY_CALLS;
         }
+        if let Some(status) = limit_status(gas, input) {
+            return status;
+        }
         match new_call(alloc, rules, program, gas, input) {
-            Ok(call) => match calls.push(call) {
+            Ok(Ok(call)) => match calls.push(call) {
                 Ok(()) => DONE,
                 Err(AllocFailed { .. }) => FAILED,
             },
-            Err(status) => status,
+            Ok(Err(CallFault::BadGas)) => BAD_GAS,
+            Ok(Err(CallFault::InputTooLong)) => LONG_INPUT,
+            Err(AllocError) => FAILED,
         }
     }
 
     /// Begins the run, or continues it. Returns the key that is asked for, or None once all calls have ended.
     pub(crate) fn go(&mut self, alloc: Global) -> Result<Option<Key>, AllocError>
-        ensures { IsGone (block_of self.old) result (block_of self.new) }
+        ensures { IsGone (block_view self.old) result (block_view self.new) }
     {
         self.begin(alloc);
         match &mut self.stage {
@@ -80,7 +87,7 @@ impl EmbeddedBlock {
 
     /// Begins the run, if it has not begun.
     fn begin(&mut self, alloc: Global)
-        ensures { IsBegun (block_of self.old) (block_of self.new) }
+        ensures { HasBegunRun (block_view self.old) (block_view self.new) }
     {
         if let Stage::Calls(calls) = &mut self.stage {
             let calls = replace(calls, Vec::new(alloc));
@@ -90,7 +97,7 @@ impl EmbeddedBlock {
 
     /// Answers the key that is asked for. Returns the status.
     pub(crate) fn answer(&mut self, present: bool, value: &[u8]) -> u32
-        ensures { IsBased present value.now (block_of self.old) result (block_of self.new) }
+        ensures { IsBased present value.now (block_view self.old) result (block_view self.new) }
     {
         let Stage::Run(run) = &mut self.stage else {
             return NOT_ASKED;
@@ -109,7 +116,7 @@ impl EmbeddedBlock {
 
     /// What the block did, once its calls have ended.
     pub(crate) fn result(&self) -> Option<BlockResult<'_>>
-        ensures { HasResult result (block_of self.now) }
+        ensures { HasResult result (block_view self.now) }
     {
         match &self.stage {
             Stage::Run(run) => run.result(),
@@ -132,7 +139,7 @@ fn keep_base(run: &mut OrderedRun, content: Option<LentValue>) -> u32
 
 /// The rules of a number, or None if it is not 1, 2 or 3.
 pub(crate) fn rules_of(number: u32) -> Option<Rules>
-    ensures { result ≡ rules_of number }
+    ensures { result ≡ rules_numbered number }
 {
     if number == 1 {
         return Some(Rules::One);
@@ -146,33 +153,21 @@ pub(crate) fn rules_of(number: u32) -> Option<Rules>
     None
 }
 
-/// A call of a program, or the status of its refusal.
-fn new_call(
-    alloc: Global,
-    rules: Rules,
-    program: &Arc<Image>,
-    gas: u32,
-    input: &[u8],
-) -> Result<Call, u32>
-    ensures ok { IfOk result (λ call. call_of rules (arc_value program.now) gas input.now ≡ Ok call) }
-    ensures err { IfErr result (λ status. IsCallFault (call_of rules (arc_value program.now) gas input.now) status) }
+/// The status of a gas limit or an input that no call has; None if a call may have them.
+fn limit_status(gas: u32, input: &[u8]) -> Option<u32>
+    ensures { (rules : RulesValue) (program : Layout) → IsLimit (call_of rules program gas input.now) result }
 {
     if gas == 0 || gas > GAS_LIMIT {
-        return Err(BAD_GAS);
+        return Some(BAD_GAS);
     }
     if input.len() > INPUT_LIMIT {
-        return Err(LONG_INPUT);
+        return Some(LONG_INPUT);
     }
-    match kept_call(alloc, rules, program, gas, input) {
-        Ok(Ok(call)) => Ok(call),
-        Ok(Err(CallFault::BadGas)) => Err(BAD_GAS),
-        Ok(Err(CallFault::InputTooLong)) => Err(LONG_INPUT),
-        Err(AllocError) => Err(FAILED),
-    }
+    None
 }
 
 /// A call of a program with a copy of its input; refused if memory ran out.
-fn kept_call(
+fn new_call(
     alloc: Global,
     rules: Rules,
     program: &Arc<Image>,

@@ -1,7 +1,7 @@
 //! The calls on a block before its result.
 
 ghost use Rattle.std.specs.Prelude.{◌≡◌, None, Some};
-ghost use Rattle.rvstm_c.specs.Blocks.{AddsCallOf, GoesOn, IsBased, IsBlockClosed, IsBlockOpened, OnBlock, block_of, rules_of};
+ghost use Rattle.rvstm_c.specs.Blocks.{AddsCallOf, RunsOn, IsBased, IsBlockClosed, IsBlockOpened, OnBlock, block_view, rules_numbered};
 ghost use Rattle.rvstm_c.specs.Entries.{program_in};
 
 use crate::block::{EmbeddedBlock, Stage, rules_of};
@@ -16,7 +16,7 @@ use std::alloc::{AllocError, AllocFailed, Global};
 /// NO_MEMORY, and then it has none.
 #[unsafe(no_mangle)]
 pub extern "C" fn rvstm_block_open(alloc: Global, handle: &mut BlockHandle, rules: u32) -> u32
-    ensures { IsBlockOpened (rules_of rules) handle.old.value result handle.new.value }
+    ensures { IsBlockOpened (rules_numbered rules) handle.old.value result handle.new.value }
 {
     match take_block(handle, alloc) {
         Some(block) => {
@@ -78,7 +78,7 @@ fn add_call(
     input: &[u8],
 ) -> u32
     ensures image { image.new.value ≡ image.old.value }
-    ensures added { AddsCallOf (program_in image.old.value) gas input.now (block_of block.old) result (block_of block.new) }
+    ensures added { AddsCallOf (program_in image.old.value) gas input.now (block_view block.old) result (block_view block.new) }
 {
     let Some(own) = take_image(image, alloc) else {
         return CLOSED;
@@ -92,7 +92,7 @@ fn add_call(
 /// `key` has it; ENDED; PAUSED if memory ran out; CLOSED.
 #[unsafe(no_mangle)]
 pub extern "C" fn rvstm_run_go(alloc: Global, handle: &mut BlockHandle, key: &mut KeyForC) -> u32
-    ensures gone { OnBlock (GoesOn key.old.bytes key.new.bytes) handle.old.value result handle.new.value }
+    ensures gone { OnBlock (RunsOn key.old.bytes key.new.bytes) handle.old.value result handle.new.value }
     ensures stays { result ≡ 2 → key.new ≡ key.old }
 {
     let Some(mut block) = take_block(handle, alloc) else {
@@ -105,7 +105,7 @@ pub extern "C" fn rvstm_run_go(alloc: Global, handle: &mut BlockHandle, key: &mu
 
 /// Continues a block's run. Returns the status.
 fn go(alloc: Global, block: &mut EmbeddedBlock, key: &mut KeyForC) -> u32
-    ensures { GoesOn key.old.bytes key.new.bytes (block_of block.old) result (block_of block.new) }
+    ensures { RunsOn key.old.bytes key.new.bytes (block_view block.old) result (block_view block.new) }
 {
     match block.go(alloc) {
         Ok(Some(wanted)) => {

@@ -2,7 +2,7 @@
 
 ghost use Rattle.std.specs.Prelude.{◌≡◌};
 ghost use Rattle.std.specs.Option.{option_map};
-ghost use Rattle.rvstm_c.specs.Blocks.{Gives, block_of, result_at};
+ghost use Rattle.rvstm_c.specs.Blocks.{GivesEntry, block_view, result_at};
 ghost use Rattle.rvstm_c.specs.Results.{IsOutputCopied, IsOutputCopiedAt, entries_of, given_receipt, given_change, given_write};
 
 use crate::block::EmbeddedBlock;
@@ -22,7 +22,7 @@ pub extern "C" fn rvstm_result_counts(
     entries: &mut EntriesForC,
 ) -> u32
     ensures same { handle.new.value ≡ handle.old.value }
-    ensures given { Gives entries_of handle.old.value entries.old result entries.new }
+    ensures given { GivesEntry entries_of handle.old.value entries.old result entries.new }
 {
     let Some(block) = take_block(handle, alloc) else {
         return CLOSED;
@@ -41,7 +41,7 @@ pub extern "C" fn rvstm_result_receipt(
     receipt: &mut ReceiptForC,
 ) -> u32
     ensures same { handle.new.value ≡ handle.old.value }
-    ensures given { Gives (given_receipt call) handle.old.value receipt.old result receipt.new }
+    ensures given { GivesEntry (given_receipt call) handle.old.value receipt.old result receipt.new }
 {
     let Some(block) = take_block(handle, alloc) else {
         return CLOSED;
@@ -81,7 +81,7 @@ pub extern "C" fn rvstm_result_write(
     write: &mut WriteForC,
 ) -> u32
     ensures same { handle.new.value ≡ handle.old.value }
-    ensures given { Gives (given_write call index) handle.old.value write.old result write.new }
+    ensures given { GivesEntry (given_write call index) handle.old.value write.old result write.new }
 {
     let Some(block) = take_block(handle, alloc) else {
         return CLOSED;
@@ -100,7 +100,7 @@ pub extern "C" fn rvstm_result_change(
     change: &mut ChangeForC,
 ) -> u32
     ensures same { handle.new.value ≡ handle.old.value }
-    ensures given { Gives (given_change index) handle.old.value change.old result change.new }
+    ensures given { GivesEntry (given_change index) handle.old.value change.old result change.new }
 {
     let Some(block) = take_block(handle, alloc) else {
         return CLOSED;
@@ -112,7 +112,7 @@ pub extern "C" fn rvstm_result_change(
 
 /// How many entries a block's result has; None if it has no result.
 fn entries_in(block: &EmbeddedBlock) -> Option<Option<EntriesForC>>
-    ensures { result ≡ option_map entries_of (result_at (block_of block.now).stage) }
+    ensures { result ≡ option_map entries_of (result_at (block_view block.now).stage) }
 {
     let result = block.result()?;
     Some(Some(EntriesForC {
@@ -123,7 +123,7 @@ fn entries_in(block: &EmbeddedBlock) -> Option<Option<EntriesForC>>
 
 /// What a call of a block did, if there is such a call; None if the block has no result.
 fn receipt_in(block: &EmbeddedBlock, call: usize) -> Option<Option<ReceiptForC>>
-    ensures { result ≡ option_map (given_receipt call) (result_at (block_of block.now).stage) }
+    ensures { result ≡ option_map (given_receipt call) (result_at (block_view block.now).stage) }
 {
     let result = block.result()?;
     match result.receipts.get(call) {
@@ -134,7 +134,7 @@ fn receipt_in(block: &EmbeddedBlock, call: usize) -> Option<Option<ReceiptForC>>
 
 /// A write of a call of a block, if there is one; None if the block has no result.
 fn write_in(block: &EmbeddedBlock, call: usize, index: usize) -> Option<Option<WriteForC>>
-    ensures { result ≡ option_map (given_write call index) (result_at (block_of block.now).stage) }
+    ensures { result ≡ option_map (given_write call index) (result_at (block_view block.now).stage) }
 {
     let result = block.result()?;
     let Some(receipt) = result.receipts.get(call) else {
@@ -148,7 +148,7 @@ fn write_in(block: &EmbeddedBlock, call: usize, index: usize) -> Option<Option<W
 
 /// A change of a block, if there is one; None if the block has no result.
 fn change_in(block: &EmbeddedBlock, index: usize) -> Option<Option<ChangeForC>>
-    ensures { result ≡ option_map (given_change index) (result_at (block_of block.now).stage) }
+    ensures { result ≡ option_map (given_change index) (result_at (block_view block.now).stage) }
 {
     let result = block.result()?;
     match result.changes.get(index) {
@@ -159,7 +159,7 @@ fn change_in(block: &EmbeddedBlock, index: usize) -> Option<Option<ChangeForC>>
 
 /// Copies the output of a call of a block. Returns the status.
 fn copy_output(block: &EmbeddedBlock, call: usize, buffer: &mut [u8]) -> u32
-    ensures { IsOutputCopiedAt call (result_at (block_of block.now).stage) buffer.old result buffer.new }
+    ensures { IsOutputCopiedAt call (result_at (block_view block.now).stage) buffer.old result buffer.new }
 {
     let Some(result) = block.result() else {
         return WRONG_STAGE;
