@@ -48,11 +48,10 @@ def in_python(run: Run) -> None:
 
 
 def header(run: Run) -> None:
-    """The header alone, as C of 1999 and as C++ of 2011."""
-    source = written(run.place / "header.c", '#include "rvstm.h"\n')
-    for words in (("cc", "-std=c99"), ("c++", "-std=c++11", "-x", "c++")):
-        done = command([*words, *STRICT, "-fsyntax-only", source])
-        same((done.status, done.errors), (0, ""), words[0])
+    """The header alone, as C of 1999 and as C++ of 2011, and the one for C++ of 2017."""
+    for name, *words in (("rvstm.h", "cc", "-std=c99"), ("rvstm.h", "c++", "-std=c++11", "-xc++"), ("rvstm.hpp", "c++", "-std=c++17", "-xc++")):
+        done = command([*words, *STRICT, "-fsyntax-only", written(run.place / "header.c", f'#include "{name}"\n')])
+        same((done.status, done.errors), (0, ""), " ".join(words))
 
 
 def version(run: Run) -> None:

@@ -21,6 +21,8 @@ class Tool(enum.Enum):
     NM = ("nm", ("nm", "--version"), "")
     STRACE = ("strace", ("strace", "--version"), "")
     SQLITE = ("sqlite3", ("sqlite3", "--version"), "")
+    LIBSQLITE = ("libsqlite3-dev", ("cc", "-E", "-include", "sqlite3.h", "-xc", "/dev/null"), "")
+    LIBLMDB = ("liblmdb-dev", ("cc", "-E", "-include", "lmdb.h", "-xc", "/dev/null"), "")
     ETCD = ("etcd", ("etcd", "--version"), "")
     GDB = ("gdb-multiarch 13", ("gdb-multiarch", "--version"), "13.")
     CARGO = ("cargo", ("/usr/bin/cargo", "--version"), "")

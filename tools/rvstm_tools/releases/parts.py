@@ -19,6 +19,7 @@ PAGES = {
     "rvstm-sdk": ("docs/contracts.md", "docs/assembly.md", "docs/debugging.md"),
 }
 PROVED = {"rvstm": Product.PROGRAM, "librvstm-dev": Product.ARCHIVE}
+OF_LIBRARY = ("examples/embed", "examples/state")
 NO_LICENCE = "No licence is chosen for rvstm yet: its owner decides.\n"
 # What lintian takes for mistakes, and is meant.
 OVERRIDES = {
@@ -79,7 +80,7 @@ class Parts:
         }
 
     def library(self, prefix: str, folder: str) -> Entries:
-        """The archive, the shared object under its three names, the header, the file for pkg-config and the examples."""
+        """The archive, the shared object under its three names, the headers, the file for pkg-config and the examples."""
         whole, asked_for = f"librvstm.so.{self.products.version()}", self.products.shared_name()
         found: Entries = {
             f"{folder}/librvstm.a": File(self.products.built(Product.ARCHIVE)),
@@ -87,15 +88,15 @@ class Parts:
             f"{folder}/{asked_for}": Link(whole),
             f"{folder}/librvstm.so": Link(asked_for),
             f"{folder}/pkgconfig/rvstm.pc": File(pkg_config(prefix, folder, self.products.version()).encode()),
-            **self.tracked("include/rvstm.h"),
+            **self.tracked("include"),
         }
-        return found | {f"share/doc/librvstm-dev/{path}": file for path, file in self.tracked("examples/embed").items()}
+        return found | {f"share/doc/librvstm-dev/{path}": file for path, file in self.tracked(*OF_LIBRARY).items()}
 
     def sdk(self) -> Entries:
         """The SDK: a folder with sdk, examples and tools as in the checkout, so that paths from one to the other are the same; and
         the command on the path, with its man page and its completion."""
         found = self.tracked("sdk", "examples", "tools/rvstm-tools", "tools/rvstm_tools")
-        placed = {f"{SDK}/{path}": file for path, file in found.items() if not path.startswith("examples/embed/")}
+        placed = {f"{SDK}/{path}": file for path, file in found.items() if not path.startswith(tuple(f"{folder}/" for folder in OF_LIBRARY))}
         return placed | {
             "bin/rvstm-tools": TOOLS_LINK,
             "share/man/man1/rvstm-tools.1.gz": self.packed(parsers.PAGE),
@@ -109,7 +110,7 @@ libdir=${{prefix}}/{folder}
 includedir=${{prefix}}/include
 
 Name: rvstm
-Description: sessions of blocks of contract calls, run in order over a storage in memory
+Description: blocks of contract calls, run in order over a storage in memory or the caller's own
 Version: {version}
 Libs: -L${{libdir}} -lrvstm
 Cflags: -I${{includedir}}
