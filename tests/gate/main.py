@@ -10,7 +10,7 @@ from collections.abc import Sequence
 from pathlib import Path
 
 from gate import (
-    authors, blocks, commands, copies, examples, failing, frames, large, library, library_rows, many, nodes, opened, outside, pages,
+    authors, blocks, commands, copies, examples, failing, frames, large, layouts, library, library_rows, many, nodes, opened, outside, pages,
     replacing, rows, scheduling, sdk, sdk_functions, sessions, stumbles, tables,
 )
 from gate.calls import tool_words
@@ -27,7 +27,7 @@ def all_cases() -> list[Case]:
     """All cases. No two have one name."""
     groups = (
         authors, commands, tables, many, large, examples, rows, failing, replacing, opened, sdk, sdk_functions, stumbles,
-        sessions, frames, copies, nodes, outside, library, library_rows, blocks, pages,
+        sessions, frames, copies, nodes, outside, library, library_rows, layouts, blocks, pages,
     )
     return [case for group in groups for case in group.cases()]
 

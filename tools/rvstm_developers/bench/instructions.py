@@ -25,9 +25,9 @@ class Program:
     data: bytes = b""
 
 
-def counted(words: Sequence[Word], folder: Path, place: Path) -> int:
+def counted(words: Sequence[Word], folder: Path, place: Path, data: bytes = b"") -> int:
     output = place / "callgrind.out"
-    running.output_of(["valgrind", "--tool=callgrind", f"--callgrind-out-file={output}", *words], folder)
+    running.output_of(["valgrind", "--tool=callgrind", f"--callgrind-out-file={output}", *words], folder, data)
     found = re.search(r"^summary: (\d+)", output.read_text(encoding="utf-8"), re.MULTILINE)
     if not found:
         raise UserError("callgrind counted nothing")

@@ -1,0 +1,86 @@
+import argparse
+from collections.abc import Sequence
+from pathlib import Path
+
+from rvstm_developers import options, running, texts
+from rvstm_developers.bench import blocks, instructions, processes, tables
+from rvstm_developers.bench.blocks import FOLDER, TimedBlock
+from rvstm_developers.running import Word
+from rvstm_developers.texts import TOP
+from rvstm_tools.errors import UserError
+from rvstm_tools.options import Command
+from rvstm_tools.programs.checkouts import Checkout
+from rvstm_tools.programs.pipes import Pipes
+from rvstm_tools.releases.products import Product, Products
+from rvstm_tools.sessions import frames
+
+BLOCK, FRAME = b"block\n", b"frame\n"
+ROUNDS, RUNS_A_ROUND = 15, 10
+FEW, MANY = 2, 6
+"""Runs under callgrind: the difference is what some of them take."""
+
+
+def built(place: Path) -> list[Word]:
+    """The command of bench/embedding.c over 1,000 transfers."""
+    archive = Products(Checkout(TOP)).path(Product.ARCHIVE)
+    if not archive.is_file():
+        raise UserError(f"there is no {archive}: `rvstm-tools library` makes it")
+    flags = ["-O2", "-Wall", "-Wextra", "-Werror", f"-I{TOP}/include", f"-I{TOP}/examples/state"]
+    running.output_of(["cc", *flags, "-o", place / "embedding", FOLDER / "embedding.c", archive])
+    whole = blocks.transfers()
+    for name, block in {"start": TimedBlock("", whole.source, [], whole.store), "calls": TimedBlock("", whole.source, whole.calls)}.items():
+        (place / f"{name}.block").write_text(block.text(), encoding="utf-8")
+        (place / name).write_bytes(frames.named(block.text().encode(), place).frame().body)
+    (place / "whole.block").write_text(whole.text(), encoding="utf-8")
+    return [place / "embedding", "transfer.elf", "start", "calls"]
+
+
+def microseconds(driven: Pipes, way: bytes) -> float:
+    """The processor time of a call, in some blocks."""
+    driven.give(way * RUNS_A_ROUND)
+    return sum(map(int, driven.lines(RUNS_A_ROUND))) / 1_000 / RUNS_A_ROUND / blocks.CALLS
+
+
+def times(rvstm: Path, place: Path, words: Sequence[Word]) -> list[list[float]]:
+    """Microseconds a call in each round: by the calls for blocks, by rvstm_frame, and by `seq`, less a block of no calls."""
+    rounds = []
+    with Pipes(words, folder=place) as driven:
+        for _ in range(ROUNDS):
+            spent = [processes.sound(processes.timed([rvstm, "seq", f"{name}.block"], place)).processor for name in ("whole", "start")]
+            rounds.append([*(microseconds(driven, way) for way in (BLOCK, FRAME)), 1e6 * (spent[0] - spent[1]) / blocks.CALLS])
+        ended = driven.end()
+    if ended.status:
+        raise UserError(f"embedding ended with status {ended.status}: {ended.said()}")
+    return [list(column) for column in zip(*rounds)]
+
+
+def counted(place: Path, words: Sequence[Word], way: bytes) -> float:
+    few, many = (instructions.counted(words, place, place, way * count) for count in (FEW, MANY))
+    return (many - few) / (MANY - FEW) / blocks.CALLS
+
+
+def run(given: argparse.Namespace) -> int:
+    with texts.new_folder() as place:
+        blocks.assemble(given.rvstm, place, "transfer")
+        words = built(place)
+        spent = times(given.rvstm, place, words)
+        seq = [instructions.counted([given.rvstm, "seq", f"{name}.block"], place, place) for name in ("whole", "start")]
+        costs = [*(counted(place, words, way) for way in (BLOCK, FRAME)), (seq[0] - seq[1]) / blocks.CALLS]
+    tables.print_head(["1,000 transfers", "microseconds a call", "instructions a call", "microseconds over `rvstm_frame`", "instructions"])
+    for name, own, cost in zip(("blocks over a hash table", "`rvstm_frame`", "`seq`"), spent, costs):
+        tables.print_row([name, tables.middle(own, ".2f"), f"{cost:,.0f}", f"{tables.ratio(own, spent[1]):.2f}", f"{cost / costs[1]:.2f}"])
+    return 0
+
+
+COMMAND = Command(
+    "Times a block of 1,000 transfers by the library's calls for blocks over the caller's own storage, by rvstm_frame and by `rvstm seq`.",
+    """
+embedding.c has a hash table as its database. It adds the calls, answers each key, copies all receipts, outputs, writes and changes, and
+puts the changes into the table; and it runs the same calls with rvstm_frame, and copies the answer. In the end both storages have to be
+equal. All three run in turn, and what counts is processor time, the median over rounds; of `seq` less the time of a block without calls.
+callgrind counts the instructions. It needs cc, valgrind, and the library, which `rvstm-tools library` makes.
+""",
+    "crates/rvstm/out/rvstm",
+    run,
+    (options.RVSTM,),
+)
