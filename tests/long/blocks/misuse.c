@@ -167,11 +167,12 @@ static void *moved(void *handle, size_t size)
 /* Entries of script.s: most are such that the next one is made, too. */
 static uint32_t draw_input(uint8_t *input)
 {
+    static const uint8_t kinds[] = {0, 0, 0, 0, 0, 1, 1, 1, 1, 2, 3, 4, 5, 5, 5};
     static const uint32_t counts[] = {0, 1, 7, 8, 8, 8, 20, 64, 64, 64, 65, 200, 256, 256, 257, 0x7fffffff, 0xffffffff};
     uint32_t entries = below(40) ? below(6) : LONGEST_INPUT / ENTRY_LENGTH;
     for (uint32_t at = 0; at < entries; at++) {
         uint8_t *entry = input + at * ENTRY_LENGTH;
-        uint32_t kind = below(3) ? below(3) : below(4) ? 5 : below(8);
+        uint32_t kind = below(24) ? kinds[below(sizeof kinds)] : below(8);
         uint32_t count = counts[below(kind == 5 ? sizeof counts / sizeof *counts : below(4) ? 10 : sizeof counts / sizeof *counts)];
         memset(entry, 0, 8);
         entry[0] = (uint8_t)kind;
@@ -389,28 +390,44 @@ static size_t some_index(size_t count)
     return below(16) ? below((uint32_t)count + 1) : below(2) ? SIZE_MAX : (size_t)below(UINT32_MAX) << 32;
 }
 
+/* A block, most likely at a stage. */
+static struct block *some_block(int stage)
+{
+    struct block *block = &blocks[below(BLOCKS)];
+    for (int tries = 0; tries < 4 && (int)block->model.stage != stage; tries++) block = &blocks[below(BLOCKS)];
+    return block;
+}
+
+static void read_result(struct block *block)
+{
+    size_t call = some_index(block->model.count);
+    switch (below(5)) {
+    case 0: read_counts(block); break;
+    case 1: read_receipt(block, call); break;
+    case 2: read_output(block, call, below(3) ? below(LONGEST_VALUE + 1) : below(10)); break;
+    case 3: read_write(block, call, some_index(3)); break;
+    default: read_change(block, some_index(3));
+    }
+}
+
 static void step(void)
 {
     struct image *image = &images[below(IMAGES)];
     struct block *block = &blocks[below(BLOCKS)];
-    size_t call = some_index(block->model.count);
     bool is_over = block->model.stage == RESULT, is_open = block->model.stage != SHUT;
-    switch (below(28)) {
+    switch (below(30)) {
     case 0: case 1: open_image(image, true); break;
     case 2: if (below(3) == 0) close_image(image); break;
-    case 3: case 4: open_block(block); break;
+    case 3: case 4: open_block(some_block(SHUT)); break;
     case 5: if (is_over || below(6) == 0) close_block(block); break;
     case 6: image->handle = moved(image->handle, sizeof *image->handle); break;
     case 7: block->handle = moved(block->handle, sizeof *block->handle); break;
-    case 8: read_counts(block); break;
-    case 9: read_receipt(block, call); break;
-    case 10: read_output(block, call, below(LONGEST_VALUE + 1)); break;
-    case 11: read_write(block, call, some_index(3)); break;
-    case 12: read_change(block, some_index(3)); break;
-    case 13: if (is_open && below(4) == 0) finish(block); break;
-    case 14: case 15: case 16: if (block->model.stage != CALLS || below(4) == 0) go(block, true); break;
-    case 17: case 18: answer(block, false); break;
-    default: add_call(block, image, false); break;
+    case 8: if (is_open && below(4) == 0) finish(block); break;
+    case 9: case 10: case 11: case 12: read_result(some_block(RESULT)); break;
+    case 13: case 14: case 15: case 16: case 17: go(some_block(RUN), true); break;
+    case 18: case 19: case 20: case 21: answer(some_block(RUN), false); break;
+    case 22: go(some_block(CALLS), true); break;
+    default: add_call(some_block(CALLS), image, false);
     }
 }
 
