@@ -12,11 +12,15 @@
 
 #include "text.h"
 
-enum { SLOTS = 1 << 13, MOST_FRAME_CALLS = 1024, ANSWER_ROOM = 1 << 22 };
+#define MIXER UINT64_C(0x9e3779b97f4a7c15) /* 2^64 divided by the golden ratio */
 
+enum { SLOTS = 1 << 12, LONGEST = 64, MOST_FRAME_CALLS = 1024, ANSWER_ROOM = 1 << 22 };
+
+/* What the database has at a key, under rules 1. */
 struct slot {
-    bool is_used;
-    rvstm_change entry;
+    uint8_t key[32], value[LONGEST];
+    uint8_t length;
+    bool is_used, present;
 };
 
 static struct slot table[SLOTS];
@@ -49,15 +53,25 @@ static size_t read_file(const char *path, uint8_t *bytes)
 
 /* ---- the database */
 
-static rvstm_change *entry_of(const uint8_t key[32])
+static struct slot *slot_of(const uint8_t key[32])
 {
-    uint64_t hash = UINT64_C(14695981039346656037);
-    for (int at = 0; at < 32; at++) hash = (hash ^ key[at]) * UINT64_C(1099511628211);
-    size_t at = hash >> 32 & (SLOTS - 1);
-    while (table[at].is_used && memcmp(table[at].entry.key, key, 32)) at = (at + 1) & (SLOTS - 1);
+    uint64_t words[4], hash = 0;
+    memcpy(words, key, sizeof words);
+    for (int number = 0; number < 4; number++) hash = (hash ^ words[number]) * MIXER, hash ^= hash >> 32;
+    size_t at = hash * MIXER >> 32 & (SLOTS - 1);
+    while (table[at].is_used && memcmp(table[at].key, key, 32)) at = (at + 1) & (SLOTS - 1);
     table[at].is_used = true;
-    memcpy(table[at].entry.key, key, 32);
-    return &table[at].entry;
+    memcpy(table[at].key, key, 32);
+    return &table[at];
+}
+
+static void store(const uint8_t key[32], bool present, const uint8_t *value, size_t length)
+{
+    struct slot *slot = slot_of(key);
+    if (length > LONGEST) stop("a value is too long");
+    slot->present = present;
+    slot->length = (uint8_t)length;
+    memcpy(slot->value, value, length);
 }
 
 /* Puts the storage of a frame into the table, and its calls into the list. */
@@ -68,12 +82,7 @@ static void read_frame(const char *path)
     FILE *file = fopen(path, "r");
     if (!file || !read_rules(file)) stop("a frame can't be read");
     while ((kind = read_line(file, &line)) != NO_LINE) {
-        if (kind == STORE_LINE) {
-            rvstm_change *entry = entry_of(line.key);
-            entry->present = true;
-            entry->length = (uint32_t)line.length;
-            memcpy(entry->value, line.bytes, line.length);
-        }
+        if (kind == STORE_LINE) store(line.key, true, line.bytes, line.length);
         if (kind != CALL_LINE) continue;
         struct line *kept = malloc(sizeof line);
         if (!kept) stop("no memory");
@@ -98,8 +107,8 @@ static void run_block(void)
     check(rvstm_block_open(&block, 1));
     for (size_t at = 0; at < call_count; at++) check(rvstm_calls_add(&block, &image, calls[at]->gas, calls[at]->bytes, calls[at]->length));
     while ((status = rvstm_run_go(&block, &key)) == RVSTM_KEY) {
-        const rvstm_change *entry = entry_of(key.bytes);
-        check(rvstm_run_base(&block, entry->present, entry->value, entry->length));
+        const struct slot *slot = slot_of(key.bytes);
+        check(rvstm_run_base(&block, slot->present, slot->value, slot->length));
     }
     if (status != RVSTM_ENDED) stop("no memory");
     check(rvstm_result_counts(&block, &entries));
@@ -110,7 +119,7 @@ static void run_block(void)
     }
     for (size_t index = 0; index < entries.changes; index++) {
         check(rvstm_result_change(&block, index, &change));
-        *entry_of(change.key) = change;
+        store(change.key, change.present, change.value, change.length);
     }
     check(rvstm_block_close(&block));
 }
@@ -125,13 +134,13 @@ static void run_frame(void)
 static void compare(void)
 {
     for (size_t at = 0; at < SLOTS; at++) {
-        const rvstm_change *entry = &table[at].entry;
-        char key[65], wanted[600] = "absent\n";
-        if (!table[at].is_used) continue;
-        for (size_t byte = 0; byte < 32; byte++) sprintf(key + 2 * byte, "%02x", entry->key[byte]);
-        if (entry->present) strcpy(wanted, entry->length ? "value " : "value -");
-        for (size_t byte = 0; byte < entry->length; byte++) sprintf(wanted + 6 + 2 * byte, "%02x", entry->value[byte]);
-        if (entry->present) strcat(wanted, "\n");
+        const struct slot *slot = &table[at];
+        char key[65], wanted[16 + 2 * LONGEST] = "absent\n";
+        if (!slot->is_used) continue;
+        for (size_t byte = 0; byte < 32; byte++) sprintf(key + 2 * byte, "%02x", slot->key[byte]);
+        if (slot->present) strcpy(wanted, slot->length ? "value " : "value -");
+        for (size_t byte = 0; byte < slot->length; byte++) sprintf(wanted + 6 + 2 * byte, "%02x", slot->value[byte]);
+        if (slot->present) strcat(wanted, "\n");
         check(rvstm_get(&session, (const uint8_t *)key, 64));
         check(rvstm_answer(&session, answer, sizeof answer));
         if (rvstm_answer_length(&session) != strlen(wanted) || memcmp(answer, wanted, strlen(wanted))) stop("the storages differ");
