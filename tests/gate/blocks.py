@@ -1,5 +1,5 @@
-"""Blocks over the caller's own storage: the examples over SQLite and LMDB, the header for C++, and random sequences of right and wrong
-calls."""
+"""Blocks over the caller's own storage: the examples over SQLite and LMDB, the header for C++, and random sequences of
+right and wrong calls."""
 
 import contextlib
 import sqlite3
@@ -47,9 +47,10 @@ def from_outside(run: Run, compiler: Sequence[str], source: str, library: str) -
         came = command([program, database], block.parent, block.read_bytes()).done()
         calls = [[line for line in text.splitlines() if not line.startswith("store ")] for text in (came, wanted)]
         same(calls[0], calls[1], str(block.parent))
-        same(storage(came), {key: value for key, value in storage(wanted).items() if key in storage(came)}, str(block.parent))
+        touched, whole = storage(came), storage(wanted)
+        same(touched, {key: value for key, value in whole.items() if key in touched}, str(block.parent))
         if library == "sqlite3":
-            same(rows_of(database), storage(wanted), f"the database of {block.parent}")
+            same(rows_of(database), whole, f"the database of {block.parent}")
         database.unlink()
 
 
@@ -66,7 +67,9 @@ def random_sequences(run: Run) -> None:
 def cases() -> list[Case]:
     """All of them."""
     found = []
-    databases = {"sqlite": ("cc", "sqlite.c", "sqlite3", Tool.LIBSQLITE), "lmdb": ("c++ -std=c++17", "lmdb.cpp", "lmdb", Tool.LIBLMDB)}
+    databases = {
+        "sqlite": ("cc", "sqlite.c", "sqlite3", Tool.LIBSQLITE), "lmdb": ("c++ -std=c++17", "lmdb.cpp", "lmdb", Tool.LIBLMDB),
+    }
     for name, (compiler, source, library, tool) in databases.items():
         outside = partial(from_outside, compiler=compiler.split(), source=source, library=library)
         beside_seq = partial(by_tool, name="state", words=[str(KEYS), "--only", name])

@@ -1,4 +1,4 @@
-"""The header of the library beside its sources in Rattle: the size of each struct, the offset of each of its fields, and each status."""
+"""The header of the library beside its sources in Rattle: sizes of structs, offsets of their fields, and statuses."""
 
 import re
 from collections.abc import Iterator
@@ -13,7 +13,9 @@ from gate.texts import written
 SOURCES = TOP / "crates/rvstm_c/src"
 STRUCT_OF_C = re.compile(r"^typedef struct \{\n(.*?)^\} (\w+);", re.M | re.S)
 FIELD_OF_C = re.compile(r"^    \w[\w *]*?(\w+)(?:\[\d+\])?;", re.M)
-STRUCT = re.compile(r"^#\[repr\(C\)\]\n(?:#\[[^\n]*\n|///[^\n]*\n)*(?:pub(?:\(\w+\))? )?struct (\w+) \{\n(.*?)^\}", re.M | re.S)
+STRUCT = re.compile(
+    r"^#\[repr\(C\)\]\n(?:#\[[^\n]*\n|///[^\n]*\n)*(?:pub(?:\(\w+\))? )?struct (\w+) \{\n(.*?)^\}", re.M | re.S
+)
 FIELD = re.compile(r"^    (?:pub(?:\(\w+\))? )?(\w+): ([^{\n]+),$", re.M)
 NUMBER = re.compile(r"^(?:pub(?:\(\w+\))? )?const (\w+): u\w+ = ([\d_]+|u64::MAX);", re.M)
 ARRAY = re.compile(r"\[(\w+); (\w+)\]")
@@ -60,8 +62,8 @@ class Sources:
 def sources() -> Sources:
     """All of the crate."""
     text = "\n".join(path.read_text(encoding="utf-8") for path in sorted(SOURCES.rglob("*.rt")))
-    structs = {name: [field for field in FIELD.findall(body) if field[0] != "ghost"] for name, body in STRUCT.findall(text)}
-    numbers = {name: 2**64 - 1 if number == "u64::MAX" else int(number.replace("_", "")) for name, number in NUMBER.findall(text)}
+    structs = {name: FIELD.findall(body) for name, body in STRUCT.findall(text)}
+    numbers = {name: int(number.replace("u64::MAX", str(2**64 - 1)).replace("_", "")) for name, number in NUMBER.findall(text)}
     return Sources(structs, numbers)
 
 

@@ -49,7 +49,8 @@ def in_python(run: Run) -> None:
 
 def header(run: Run) -> None:
     """The header alone, as C of 1999 and as C++ of 2011, and the one for C++ of 2017."""
-    for name, *words in (("rvstm.h", "cc", "-std=c99"), ("rvstm.h", "c++", "-std=c++11", "-xc++"), ("rvstm.hpp", "c++", "-std=c++17", "-xc++")):
+    in_cpp = ("c++", "-xc++")
+    for name, *words in (("rvstm.h", "cc", "-std=c99"), ("rvstm.h", *in_cpp, "-std=c++11"), ("rvstm.hpp", *in_cpp, "-std=c++17")):
         done = command([*words, *STRICT, "-fsyntax-only", written(run.place / "header.c", f'#include "{name}"\n')])
         same((done.status, done.errors), (0, ""), " ".join(words))
 

@@ -1,4 +1,4 @@
-"""Programs over the library for C whose heap is counted, and may refuse (heap.c): the examples over databases, and wrong uses."""
+"""Programs over the library for C whose heap is counted, and may refuse (heap.c)."""
 
 from collections.abc import Sequence
 from pathlib import Path

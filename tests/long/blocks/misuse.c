@@ -232,12 +232,13 @@ static void answer(struct block *block, bool is_right)
     static const uint32_t lengths[] = {0, 1, 7, 8, 8, 8, 8, 9, 64, 65, 256, 257, 4097};
     struct model *model = &block->model;
     bool present = below(4) != 0, is_asked = model->stage == RUN && model->is_asked;
-    uint32_t length = lengths[below(is_right || !present ? 11 : sizeof lengths / sizeof *lengths)];
+    uint32_t length = lengths[below(is_right ? 11 : sizeof lengths / sizeof *lengths)];
     uint8_t *value = room(length ? length : 1);
     for (uint32_t at = 0; at < length; at++) value[at] = (uint8_t)below(256);
     begin("rvstm_run_base", !is_right);
     uint32_t status = rvstm_run_base(block->handle, present, value, length);
-    uint32_t wanted = model->stage == SHUT ? RVSTM_CLOSED : !is_asked ? RVSTM_NOT_ASKED : length > LONGEST_VALUE ? RVSTM_LONG_VALUE : RVSTM_DONE;
+    bool is_long = present && length > LONGEST_VALUE;
+    uint32_t wanted = model->stage == SHUT ? RVSTM_CLOSED : !is_asked ? RVSTM_NOT_ASKED : is_long ? RVSTM_LONG_VALUE : RVSTM_DONE;
     if (is_wanted(status, wanted, wanted == RVSTM_DONE ? RVSTM_FAILED : 0) && status == RVSTM_DONE) {
         struct cell *base = &model->bases[model->asked];
         *base = (struct cell){.kind = present ? VALUE : GONE, .length = present ? length : 0};

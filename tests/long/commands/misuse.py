@@ -24,16 +24,16 @@ def run(given: argparse.Namespace) -> int:
 COMMAND = Command(
     "Makes random sequences of the library's calls for blocks over the caller's own storage, right and wrong ones.",
     """
-It compiles misuse.c with gcc's sanitizers, and links the library, which `rvstm-tools library` builds, over a heap that refuses at random.
-Three images and three blocks get calls at the wrong stage, after they are closed, with wrong numbers and long values; their handles move.
-It compares each status, each struct and the heap's blocks at the end with a model in C, and prints how often each status came. The status
-is 1 if something differs.
+It compiles misuse.c with gcc's sanitizers, and links the library, which `rvstm-tools library` builds, over a heap that
+refuses at random. Three images and three blocks get calls at the wrong stage, after they are closed, with wrong numbers and
+long values; their handles move. It compares each status, each struct and the heap's blocks at the end with a model in C,
+and prints how often each status came. The status is 1 if something differs.
 """,
     "crates/rvstm/out/rvstm 100000",
     run,
     (
         options.RVSTM,
         argument("count", metavar="COUNT", type=int, help="how many sequences are made"),
-        argument("seed", metavar="SEED", type=int, nargs="?", default=1, help="one seed always makes the same sequences (1)"),
+        argument("seed", metavar="SEED", type=int, nargs="?", default=1, help="it fixes the sequences (1)"),
     ),
 )

@@ -45,21 +45,22 @@ def store_line(number: int) -> str:
 
 
 def transfers(step: int) -> tuple[list[int], str]:
-    """The accounts that take part, each of which is a multiple of the step, and the calls: those of token.block, and transfers."""
+    """The accounts that take part, all multiples of the step, and the calls: those of token.block, and transfers."""
     choice = random.Random(1)
     pairs = [choice.sample(range(0, FEW * step, step), 2) for _ in range(TRANSFERS)]
     inputs = [word(1) + account(one) + account(other) + word(choice.randrange(100), 8) for one, other in pairs]
-    own = [line for line in (TOKEN / "token.block").read_text(encoding="utf-8").splitlines() if line.startswith("call ")]
-    lines = ["program 0 token.elf", *own, *(f"call 0 5000 {data.hex()}" for data in inputs)]
-    return sorted({number for pair in pairs for number in pair}), texts.lines_of(lines)
+    lines = (TOKEN / "token.block").read_text(encoding="utf-8").splitlines()
+    own = [line for line in lines if line.startswith("call ")]
+    calls = ["program 0 token.elf", *own, *(f"call 0 5000 {data.hex()}" for data in inputs)]
+    return sorted({number for pair in pairs for number in pair}), texts.lines_of(calls)
 
 
 def run_block(program: Path, database: Path, parts: Iterable[str]) -> Spent:
     """Hands a block file in, part by part."""
     began = time.perf_counter()
-    words, environment = [program, database], {**os.environ, "HEAP_COUNTS": "1"}
+    words, environment, pipe = [program, database], {**os.environ, "HEAP_COUNTS": "1"}, subprocess.PIPE
     with subprocess.Popen(
-        words, cwd=TOKEN, env=environment, stdin=subprocess.PIPE, stdout=subprocess.PIPE, stderr=subprocess.PIPE, encoding="utf-8"
+        words, cwd=TOKEN, env=environment, stdin=pipe, stdout=pipe, stderr=pipe, encoding="utf-8"
     ) as process:
         assert process.stdin is not None
         for part in parts:
@@ -94,9 +95,9 @@ def row(rvstm: Path, place: Path, name: str, keys: int) -> tuple[list[str], int]
     once = run_block(program, database, [HEAD, calls])
     stores = check(rvstm, place, "".join(map(store_line, numbers)), calls, once.printed)
     check(rvstm, place, stores, calls, run_block(program, database, [HEAD, calls]).printed)
-    cells = [name, f"{keys:,}", f"{filled.seconds:.1f}", f"{database.stat().st_size >> 20}", f"{once.seconds:.2f}", f"{once.heap:,}"]
+    cells = [name, f"{keys:,}", f"{filled.seconds:.1f}", f"{database.stat().st_size >> 20}", f"{once.seconds:.2f}"]
     database.unlink()
-    return cells, once.heap
+    return [*cells, f"{once.heap:,}"], once.heap
 
 
 def run(given: argparse.Namespace) -> int:
@@ -117,16 +118,16 @@ def run(given: argparse.Namespace) -> int:
 COMMAND = Command(
     "Runs blocks of token transfers over databases of SQLite and LMDB, by the programs of examples/state.",
     f"""
-It builds each program, fills a database with {FEW:,} keys and one with KEYS, and runs a block of {TRANSFERS:,} transfers twice. Each result
-has to be what `rvstm seq` prints over the keys that are touched, byte for byte, and the second block has to find what the first one
-changed. The library's heap is counted: over many keys a block may take 5 % more bytes than over few. Needs libsqlite3-dev and
-liblmdb-dev, and 2 GB of disk for {MANY:,} keys.
+It builds each program, fills a database with {FEW:,} keys and one with KEYS, and runs a block of {TRANSFERS:,} transfers twice.
+Each result has to be what `rvstm seq` prints over the keys that are touched, byte for byte, and the second block has to
+find what the first one changed. The library's heap is counted: over many keys a block may take 5 % more bytes than over
+few. Needs libsqlite3-dev and liblmdb-dev, and 2 GB of disk for {MANY:,} keys.
 """,
     "crates/rvstm/out/rvstm 1000000",
     run,
     (
         options.RVSTM,
-        argument("keys", metavar="KEYS", type=int, nargs="?", default=MANY, help=f"the keys of the large database, at least {FEW:,} ({MANY:,})"),
+        argument("keys", metavar="KEYS", type=int, nargs="?", default=MANY, help=f"of the large database ({MANY:,})"),
         argument("--only", choices=sorted(DATABASES), help="one database alone"),
     ),
 )

@@ -1,10 +1,11 @@
 import argparse
 from collections.abc import Sequence
+from dataclasses import replace
 from pathlib import Path
 
 from rvstm_developers import options, running, texts
 from rvstm_developers.bench import blocks, instructions, processes, tables
-from rvstm_developers.bench.blocks import FOLDER, TimedBlock
+from rvstm_developers.bench.blocks import FOLDER
 from rvstm_developers.running import Word
 from rvstm_developers.texts import TOP
 from rvstm_tools.errors import UserError
@@ -15,6 +16,7 @@ from rvstm_tools.releases.products import Product, Products
 from rvstm_tools.sessions import frames
 
 BLOCK, FRAME = b"block\n", b"frame\n"
+COLUMNS = ("1,000 transfers", "microseconds a call", "instructions", "microseconds over `rvstm_frame`", "instructions")
 ROUNDS, RUNS_A_ROUND = 15, 10
 FEW, MANY = 2, 6
 """Runs under callgrind: the difference is what some of them take."""
@@ -28,7 +30,8 @@ def built(place: Path) -> list[Word]:
     flags = ["-O2", "-Wall", "-Wextra", "-Werror", f"-I{TOP}/include", f"-I{TOP}/examples/state"]
     running.output_of(["cc", *flags, "-o", place / "embedding", FOLDER / "embedding.c", archive])
     whole = blocks.transfers()
-    for name, block in {"start": TimedBlock("", whole.source, [], whole.store), "calls": TimedBlock("", whole.source, whole.calls)}.items():
+    parts = {"start": replace(whole, calls=[]), "calls": replace(whole, store={})}
+    for name, block in parts.items():
         (place / f"{name}.block").write_text(block.text(), encoding="utf-8")
         (place / name).write_bytes(frames.named(block.text().encode(), place).frame().body)
     (place / "whole.block").write_text(whole.text(), encoding="utf-8")
@@ -42,12 +45,14 @@ def microseconds(driven: Pipes, way: bytes) -> float:
 
 
 def times(rvstm: Path, place: Path, words: Sequence[Word]) -> list[list[float]]:
-    """Microseconds a call in each round: by the calls for blocks, by rvstm_frame, and by `seq`, less a block of no calls."""
+    """Microseconds a call in each round: by the calls for blocks, by rvstm_frame, and by `seq` without its start."""
     rounds = []
     with Pipes(words, folder=place) as driven:
         for _ in range(ROUNDS):
-            spent = [processes.sound(processes.timed([rvstm, "seq", f"{name}.block"], place)).processor for name in ("whole", "start")]
-            rounds.append([*(microseconds(driven, way) for way in (BLOCK, FRAME)), 1e6 * (spent[0] - spent[1]) / blocks.CALLS])
+            runs = [processes.timed([rvstm, "seq", f"{name}.block"], place) for name in ("whole", "start")]
+            whole, start = (processes.sound(spent).processor for spent in runs)
+            in_order = 1e6 * (whole - start) / blocks.CALLS
+            rounds.append([*(microseconds(driven, way) for way in (BLOCK, FRAME)), in_order])
         ended = driven.end()
     if ended.status:
         raise UserError(f"embedding ended with status {ended.status}: {ended.said()}")
@@ -66,19 +71,21 @@ def run(given: argparse.Namespace) -> int:
         spent = times(given.rvstm, place, words)
         seq = [instructions.counted([given.rvstm, "seq", f"{name}.block"], place, place) for name in ("whole", "start")]
         costs = [*(counted(place, words, way) for way in (BLOCK, FRAME)), (seq[0] - seq[1]) / blocks.CALLS]
-    tables.print_head(["1,000 transfers", "microseconds a call", "instructions a call", "microseconds over `rvstm_frame`", "instructions"])
+    tables.print_head(COLUMNS)
     for name, own, cost in zip(("blocks over a hash table", "`rvstm_frame`", "`seq`"), spent, costs):
-        tables.print_row([name, tables.middle(own, ".2f"), f"{cost:,.0f}", f"{tables.ratio(own, spent[1]):.2f}", f"{cost / costs[1]:.2f}"])
+        ratios = [f"{tables.ratio(own, spent[1]):.2f}", f"{cost / costs[1]:.2f}"]
+        tables.print_row([name, tables.middle(own, ".2f"), f"{cost:,.0f}", *ratios])
     return 0
 
 
 COMMAND = Command(
-    "Times a block of 1,000 transfers by the library's calls for blocks over the caller's own storage, by rvstm_frame and by `rvstm seq`.",
+    "Times a block of 1,000 transfers over the caller's own storage, beside rvstm_frame and `rvstm seq`.",
     """
-embedding.c has a hash table as its database. It adds the calls, answers each key, copies all receipts, outputs, writes and changes, and
-puts the changes into the table; and it runs the same calls with rvstm_frame, and copies the answer. In the end both storages have to be
-equal. All three run in turn, and what counts is processor time, the median over rounds; of `seq` less the time of a block without calls.
-callgrind counts the instructions. It needs cc, valgrind, and the library, which `rvstm-tools library` makes.
+embedding.c has a hash table as its database. It adds the calls, answers each key, copies all receipts, outputs, writes and
+changes, and puts the changes into the table; and it runs the same calls with rvstm_frame, and copies the answer. In the
+end both storages have to be equal. All three run in turn, and what counts is processor time, the median over rounds; of
+`seq` less the time of a block without calls. callgrind counts the instructions. It needs cc, valgrind, and the library,
+which `rvstm-tools library` makes.
 """,
     "crates/rvstm/out/rvstm",
     run,

@@ -19,7 +19,7 @@ PAGES = {
     "rvstm-sdk": ("docs/contracts.md", "docs/assembly.md", "docs/debugging.md"),
 }
 PROVED = {"rvstm": Product.PROGRAM, "librvstm-dev": Product.ARCHIVE}
-OF_LIBRARY = ("examples/embed", "examples/state")
+OF_LIBRARY = ("examples/embed/", "examples/state/")
 NO_LICENCE = "No licence is chosen for rvstm yet: its owner decides.\n"
 # What lintian takes for mistakes, and is meant.
 OVERRIDES = {
@@ -96,7 +96,7 @@ class Parts:
         """The SDK: a folder with sdk, examples and tools as in the checkout, so that paths from one to the other are the same; and
         the command on the path, with its man page and its completion."""
         found = self.tracked("sdk", "examples", "tools/rvstm-tools", "tools/rvstm_tools")
-        placed = {f"{SDK}/{path}": file for path, file in found.items() if not path.startswith(tuple(f"{folder}/" for folder in OF_LIBRARY))}
+        placed = {f"{SDK}/{path}": file for path, file in found.items() if not path.startswith(OF_LIBRARY)}
         return placed | {
             "bin/rvstm-tools": TOOLS_LINK,
             "share/man/man1/rvstm-tools.1.gz": self.packed(parsers.PAGE),
