@@ -21,7 +21,7 @@ A schedule has one worker number a line:
     worker N      worker N alone
     random SEED   each entry at random; one seed always gives the same list
 
-A list that is longer than needed does no harm: further entries ask for work and get none. formats.md says how long a list must be.
+A list that is longer than needed does no harm: further entries ask for work and get none. formats.md says how long a list for one worker must be.
 
 With --to-done it prints what must follow the list SCHEDULE of the block file BLOCK until the workers are done. If they are
 done already, it prints nothing. It runs `rvstm drive` with more and more entries: of each worker alone, the last worker first, and
