@@ -17,7 +17,6 @@ class Tool(enum.Enum):
     PATCH = ("patch", ("patch", "--version"), "")
     CC = ("cc", ("cc", "--version"), "")
     CPP = ("c++", ("c++", "--version"), "")
-    CARGO = ("cargo", ("cargo", "--version"), "")
     NM = ("nm", ("nm", "--version"), "")
     STRACE = ("strace", ("strace", "--version"), "")
     SQLITE = ("sqlite3", ("sqlite3", "--version"), "")
