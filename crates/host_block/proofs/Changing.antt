@@ -75,11 +75,3 @@ pub known_at : (bases : Changes) (changes : WriteMap) (store : Storage) (key : L
     → known_after (get changes key) (get bases key) ≡ Some content → content ≡ get (apply_writes store changes) key
 known_at bases changes store key content agrees known =
     sym (applied_get store changes key ∙ known_is (get changes key) (get bases key) content (get store key) known (λ c h. agrees key c h))
-
--- nothing is known of a key only if it was not answered
-pub unknown_base : (o : Option ContentChange) (base : Option Content) → known_after o base ≡ None → base ≡ None
-unknown_base (Some (change.Value value)) base h = cc
-unknown_base (Some change.Gone) base h = cc
-unknown_base (Some (change.Sum amount)) None h = refl
-unknown_base (Some (change.Sum amount)) (Some c) h = cc
-unknown_base None base h = h

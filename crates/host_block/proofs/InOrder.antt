@@ -1,6 +1,6 @@
 -- Each step of a block's run keeps its calls in order.
 use Rattle.std.proofs.Common.{◌≡◌, ◌<◌, ◌≤◌, ◌+◌, ◌⊎◌, inl, inr, ℕ, suc, Bool, true, false, cond, is_some, List, [], ◌∷◌, ◌++◌, length, drop, slice_get, Option, Some, None, Result, Ok, Err, OnOk, OnErr, IfSome, IsSome, refl, sym, ap, subst, ◌∙◌, arith}
-use Rattle.std.specs.FinMap.{contains_key, empty, entries, get, get-empty, get-insert, insert}
+use Rattle.std.specs.FinMap.{contains_key, empty, get, get-empty, get-insert, insert}
 use Rattle.std.specs.Cmp.Lexicographic.{nat_list_cmp_total}
 use Rattle.std.specs.Global.{Vec}
 use Rattle.std.specs.List.{Contains}
@@ -29,7 +29,7 @@ use Rattle.rv_step.specs.declared.spare_run.SpareRun.{SpareRun}
 use Rattle.stm_state.proofs.Writes.{applied_get, content_after}
 use Rattle.host_block.specs.Changes.{Agrees, listed_changes}
 use Rattle.host_block.specs.Known.{KeepsAnswers}
-use Rattle.host_block.specs.Ordered.{AreSums, AreSumsKnown, HasAllWrites, IsInOrder, IsListed, IsRestOf, IsResult, AreCallsSerial, IsUnderWay, IsWritten, OrderedView, now_with, receipts_with, sum_keys, ordered_view}
+use Rattle.host_block.specs.Ordered.{AreSums, AreSumsKnown, HasAllWrites, IsInOrder, IsListed, IsRestOf, IsResult, AreCallsSerial, IsUnderWay, IsWritten, OrderedView, now_with, receipts_with, ordered_view}
 use Rattle.host_block.specs.declared.parts.Current.{Current}
 use Rattle.host_block.specs.declared.parts.Current.TheVariants as current
 use Rattle.host_block.specs.declared.parts.Parts.{Parts}
@@ -164,47 +164,12 @@ sums_still : (o : Option (Vec (List ℕ))) (p q : Parts) → ((keys : List (List
 sums_still None p q f h = tt
 sums_still (Some keys) p q f h = f keys.items h
 
-pub sums_found : (p : Parts) (keys : Vec (List ℕ)) → IsInOrder p → length p.receipts.items ≡ length p.calls.items → p.listed ≡ None → keys.items ≡ sum_keys (entries p.changes)
-    → IsInOrder (record p { sums = Some keys; known_sums = 0 })
-sums_found p keys h ended unlisted is = record {
-  serial = h.serial;
-  under_way = h.under_way;
-  written = h.written;
-  sums = record { ended = ended; of_sums = is; known = λ k key below at. absurd (omega (arith, below)) };
-  listed = unlisted_still p _ unlisted;
-}
-
 -- the sums of a run, as far as they were found
 pub sums_in : (p : Parts) (keys : Vec (List ℕ)) → IsInOrder p → p.sums ≡ Some keys → AreSums p keys.items
 sums_in p keys h is = subst (λ o. IfSome o (λ (ks : Vec (List ℕ)). AreSums p ks.items)) is h.sums
 
 below_or_from : (k n : ℕ) → (k < n) ⊎ (n ≤ k)
 below_or_from k n = grind arith
-
-pub more_known : (p : Parts) (keys : Vec (List ℕ)) (count : ℕ) → IsInOrder p → p.listed ≡ None → p.sums ≡ Some keys
-    → ((k : ℕ) (key : List ℕ) → p.known_sums ≤ k → k < count → slice_get keys.items k ≡ Some key → IsSome (get p.bases key)) → IsInOrder (record p { known_sums = count })
-more_known p keys count h unlisted is known = record {
-  serial = h.serial;
-  under_way = h.under_way;
-  written = h.written;
-  sums = subst (λ o. IfSome o (λ (ks : Vec (List ℕ)). AreSums (record p { known_sums = count }) ks.items)) (sym is)
-      (let s = sums_in p keys h is in record { ended = s.ended; of_sums = s.of_sums; known = λ k key below at. by k key below at (below_or_from k p.known_sums) s });
-  listed = unlisted_still p _ unlisted;
-}
-  where
-    by : (k : ℕ) (key : List ℕ) → k < count → slice_get keys.items k ≡ Some key → (k < p.known_sums) ⊎ (p.known_sums ≤ k) → AreSums p keys.items → IsSome (get p.bases key)
-    by k key below at (inl less) s = s.known k key less at
-    by k key below at (inr more) s = known k key more below at
-
-pub changes_listed : (p : Parts) (list : Vec (List ℕ × Content)) → IsInOrder p → length p.receipts.items ≡ length p.calls.items → AreSumsKnown p.changes p.bases
-    → list.items ≡ listed_changes p.bases p.changes → IsInOrder (record p { listed = Some list })
-changes_listed p list h ended known is = record {
-  serial = h.serial;
-  under_way = h.under_way;
-  written = h.written;
-  sums = sums_still p.sums p (record p { listed = Some list }) (λ keys s. record { ended = s.ended; of_sums = s.of_sums; known = s.known }) h.sums;
-  listed = record { ended = ended; of_changes = is; known = known };
-}
 
 -- all sums are known once none of their keys is left
 pub all_known : (p : Parts) (keys : Vec (List ℕ)) (count : ℕ) → IsInOrder p → p.sums ≡ Some keys → length keys.items ≤ count

@@ -1,5 +1,5 @@
 -- A program is not loaded without a refusal only if memory ran out.
-use Rattle.std.proofs.Common.{◌≡◌, ◌⊎◌, inl, inr, ℕ, List, Bool, true, false, length, nat_lt, cond, Option, Some, None, Result, Ok, Err, IsOk, is_ok, refl, sym, ap, subst, ◌∙◌}
+use Rattle.std.proofs.Common.{◌≡◌, ◌⊎◌, inl, inr, ℕ, List, Bool, true, false, length, nat_lt, cond, Option, Some, None, Result, Ok, Err, IsOk, refl, sym, subst}
 use Rattle.std.specs.Result.{result_map_both}
 use Rattle.elf32.specs.Image.{image_of}
 use Rattle.elf32.specs.Layout.{Layout}
@@ -9,13 +9,10 @@ use Rattle.programs.specs.Programs.{file_limit, program_of_file}
 use Rattle.programs.specs.declared.fault.ProgramFault.{ProgramFault}
 use Rattle.programs.specs.declared.fault.ProgramFault.TheVariants as fault
 use Rattle.programs.specs.Programs.{IsProgramFault}
-use Rattle.session_turns.specs.Replies.{frame_refusal_parts}
-use Rattle.session_turns.specs.declared.refusal.FrameRefusal.{FrameRefusal}
-use Rattle.rvstm_c.specs.Images.{IsImageMade, IsImageOpened, file_refusal}
-use Rattle.rvstm_c.specs.Refusals.{handed_out, no_parts}
-use Rattle.rvstm_c.specs.Statuses.{no_memory, refused}
+use Rattle.rvstm_c.specs.Images.{IsImageOpened, file_refusal}
+use Rattle.rvstm_c.specs.Refusals.{no_parts}
+use Rattle.rvstm_c.specs.Statuses.{no_memory}
 use Rattle.rvstm_c.specs.declared.image.EmbeddedImage.{EmbeddedImage}
-use Rattle.rvstm_c.specs.declared.refusal.RefusalParts.{RefusalParts}
 
 only_memory : (e : ElfError) → file_refusal (fault.Elf e) ≡ None → fault.Elf e ≡ fault.Elf elf.Memory
 only_memory elf.Memory h = refl
@@ -58,20 +55,3 @@ ran_out bytes fault.Unreadable h memory none = by h
 pub opened_none : (bytes : List ℕ) (given : ProgramFault) (old new : Option EmbeddedImage) → old ≡ None → new ≡ None → IsProgramFault (Some (program_of_file bytes)) given
     → (given ≡ fault.Elf elf.Memory → IsOk (program_of_file bytes)) → file_refusal given ≡ None → IsImageOpened bytes old no_memory new no_parts
 opened_none bytes given old new none left h memory why = subst (λ o. IsImageOpened bytes o no_memory new no_parts) (sym none) (inr (inr (refl, left, refl, ran_out bytes given h memory why)))
-
--- an image is not opened, and the refusal is the file's
-pub opened_refused : (bytes : List ℕ) (given : ProgramFault) (why : FrameRefusal) (parts : RefusalParts) (old new : Option EmbeddedImage) → old ≡ None → new ≡ None → IsProgramFault (Some (program_of_file bytes)) given
-    → file_refusal given ≡ Some why → parts ≡ handed_out (frame_refusal_parts why) → IsImageOpened bytes old refused new parts
-opened_refused bytes given why parts old new none left h is said = subst (λ o. IsImageOpened bytes o refused new parts) (sym none) (inr (inl (refl, left, given, why, by given h is, is, said)))
-  where
-    no_refusal : (g : ProgramFault) → g ≡ fault.Elf elf.Memory → file_refusal g ≡ Some why → ⊥
-    no_refusal g memory w = let none : file_refusal g ≡ None = ap file_refusal memory in cc
-
-    by : (g : ProgramFault) → IsProgramFault (Some (program_of_file bytes)) g → file_refusal g ≡ Some why → program_of_file bytes ≡ Err g
-    by g (inr same) w = same
-    by g (inl memory) w = absurd (no_refusal g memory w)
-
--- an image is opened over a program that was loaded, or memory for it ran out
-pub opened_over : (bytes : List ℕ) (program : Layout) (status : ℕ) (old new : Option EmbeddedImage) → old ≡ None → program_of_file bytes ≡ Ok program → IsImageMade program status new → IsImageOpened bytes old status new no_parts
-opened_over bytes program status old new none loaded (inl made) = subst (λ o. IsImageOpened bytes o status new no_parts) (sym none) (inl (made.0, refl, made.1, made.2, loaded ∙ ap Ok (sym made.3)))
-opened_over bytes program status old new none loaded (inr (is, left)) = subst (λ o. IsImageOpened bytes o status new no_parts) (sym none) (inr (inr (is, left, refl, ap is_ok loaded)))

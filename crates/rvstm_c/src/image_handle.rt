@@ -1,5 +1,7 @@
 //! A handle, which owns an image.
 
+pub(crate) mod zeros;
+
 ghost use Rattle.std.specs.Prelude.{◌≡◌, IsSome, None, Option, Some, is_some};
 ghost use Rattle.std.specs.Coded.{coded_option};
 ghost use Rattle.std.specs.Option.{option_map};

@@ -32,6 +32,7 @@ ghost use Rattle.rvstm_c.specs.Settings.{settings_of, usual_settings};
 
 pub use block::{EmbeddedBlock, Stage};
 pub use block_handle::BlockHandle;
+pub use block_handle::zeros::zeros as block_zeros;
 use copying::copy_text;
 pub use entries::{ChangeForC, EntriesForC, KeyForC, ReceiptForC, WriteForC};
 pub use given::Given;
@@ -41,6 +42,7 @@ pub use handle::zeros::zeros;
 use handle::{put_session, take_session};
 pub use image::EmbeddedImage;
 pub use image_handle::ImageHandle;
+pub use image_handle::zeros::zeros as image_zeros;
 pub use moving::handles_may_move;
 pub use refusal::RefusalParts;
 use refusal::{NO_PARTS, parts_of};
