@@ -314,7 +314,8 @@ uint32_t rvstm_close(rvstm_session *session);
  *  3. **Result**: after RVSTM_ENDED, rvstm_result_counts() and the other calls of that name copy what each call did and what the block
  *     changes.
  *
- * A call that belongs to another stage returns RVSTM_WRONG_STAGE. A block asks for each key at most once: later calls see what
+ * A call that belongs to another stage returns RVSTM_WRONG_STAGE; rvstm_run_base() returns RVSTM_NOT_ASKED. If several statuses apply,
+ * the first one in the list of the call is returned. A block asks for each key at most once: later calls see what
  * earlier ones wrote, and what was answered. A key to which calls only add is asked for after the last call, because its change
  * needs the number before the block.
  *
@@ -403,8 +404,8 @@ typedef struct {
  * @param file_length  their number
  * @param parts        gets the parts of a refusal; zeros for any other status
  * @retval RVSTM_DONE          it is open
- * @retval RVSTM_REFUSED       the file has more than 131,072 bytes (file TooLong) or is no program (elf); it is not open
  * @retval RVSTM_ALREADY_OPEN  it was open before
+ * @retval RVSTM_REFUSED       the file has more than 131,072 bytes (file TooLong) or is no program (elf); it is not open
  * @retval RVSTM_NO_MEMORY     it is not open
  */
 uint32_t rvstm_image_open(rvstm_image *image, const uint8_t *file, size_t file_length, rvstm_refusal_parts *parts);
@@ -452,9 +453,9 @@ uint32_t rvstm_calls_add(rvstm_block *block, rvstm_image *image, uint32_t gas, c
  * @param key    gets the key at RVSTM_KEY; otherwise it stays
  * @retval RVSTM_KEY     a call asks for the key; a second rvstm_run_go() without an answer returns the same key
  * @retval RVSTM_ENDED   all calls have ended; so does a block without calls. A further rvstm_run_go() returns it again
+ * @retval RVSTM_CLOSED  the block is not open
  * @retval RVSTM_PAUSED  memory ran out. The run is at the instruction that needed memory, and the next rvstm_run_go() tries it again,
  *                       with the same result
- * @retval RVSTM_CLOSED  the block is not open
  */
 uint32_t rvstm_run_go(rvstm_block *block, rvstm_key *key);
 
@@ -465,10 +466,10 @@ uint32_t rvstm_run_go(rvstm_block *block, rvstm_key *key);
  * @param value         the bytes of the value
  * @param value_length  their number, at most 256, under any rules
  * @retval RVSTM_DONE         the run may go on
+ * @retval RVSTM_CLOSED       the block is not open
  * @retval RVSTM_NOT_ASKED    no key is asked for, or it was answered already
  * @retval RVSTM_LONG_VALUE   the key is still asked for
  * @retval RVSTM_FAILED       the key is still asked for
- * @retval RVSTM_CLOSED       the block is not open
  */
 uint32_t rvstm_run_base(rvstm_block *block, bool present, const uint8_t *value, size_t value_length);
 
@@ -477,8 +478,8 @@ uint32_t rvstm_run_base(rvstm_block *block, bool present, const uint8_t *value, 
  * @param block    an open one, after RVSTM_ENDED
  * @param entries  gets the numbers at RVSTM_DONE; otherwise it stays
  * @retval RVSTM_DONE         the numbers were copied
- * @retval RVSTM_WRONG_STAGE  there is no result yet
  * @retval RVSTM_CLOSED       the block is not open
+ * @retval RVSTM_WRONG_STAGE  there is no result yet
  */
 uint32_t rvstm_result_counts(rvstm_block *block, rvstm_result_entries *entries);
 
@@ -488,9 +489,9 @@ uint32_t rvstm_result_counts(rvstm_block *block, rvstm_result_entries *entries);
  * @param call     the index of the call, from 0
  * @param receipt  gets it at RVSTM_DONE; otherwise it stays
  * @retval RVSTM_DONE         it was copied
- * @retval RVSTM_NO_ENTRY     the block has no call of this index
- * @retval RVSTM_WRONG_STAGE  there is no result yet
  * @retval RVSTM_CLOSED       the block is not open
+ * @retval RVSTM_WRONG_STAGE  there is no result yet
+ * @retval RVSTM_NO_ENTRY     the block has no call of this index
  */
 uint32_t rvstm_result_receipt(rvstm_block *block, size_t call, rvstm_receipt *receipt);
 
@@ -501,10 +502,10 @@ uint32_t rvstm_result_receipt(rvstm_block *block, size_t call, rvstm_receipt *re
  * @param buffer         the caller's bytes; 256 are always enough
  * @param buffer_length  their number
  * @retval RVSTM_DONE          the buffer has the output
- * @retval RVSTM_SHORT_BUFFER  the buffer is shorter than the output
- * @retval RVSTM_NO_ENTRY      the block has no call of this index
- * @retval RVSTM_WRONG_STAGE   there is no result yet
  * @retval RVSTM_CLOSED        the block is not open
+ * @retval RVSTM_WRONG_STAGE   there is no result yet
+ * @retval RVSTM_NO_ENTRY      the block has no call of this index
+ * @retval RVSTM_SHORT_BUFFER  the buffer is shorter than the output
  */
 uint32_t rvstm_result_output(rvstm_block *block, size_t call, uint8_t *buffer, size_t buffer_length);
 
@@ -515,9 +516,9 @@ uint32_t rvstm_result_output(rvstm_block *block, size_t call, uint8_t *buffer, s
  * @param index  the index of the write, from 0
  * @param write  gets it at RVSTM_DONE; otherwise it stays
  * @retval RVSTM_DONE         it was copied
- * @retval RVSTM_NO_ENTRY     the block has no such call, or the call has no such write
- * @retval RVSTM_WRONG_STAGE  there is no result yet
  * @retval RVSTM_CLOSED       the block is not open
+ * @retval RVSTM_WRONG_STAGE  there is no result yet
+ * @retval RVSTM_NO_ENTRY     the block has no such call, or the call has no such write
  */
 uint32_t rvstm_result_write(rvstm_block *block, size_t call, size_t index, rvstm_write *write);
 
@@ -528,9 +529,9 @@ uint32_t rvstm_result_write(rvstm_block *block, size_t call, size_t index, rvstm
  * @param index   the index of the change, from 0
  * @param change  gets it at RVSTM_DONE; otherwise it stays
  * @retval RVSTM_DONE         it was copied
- * @retval RVSTM_NO_ENTRY     the result has no change of this index
- * @retval RVSTM_WRONG_STAGE  there is no result yet
  * @retval RVSTM_CLOSED       the block is not open
+ * @retval RVSTM_WRONG_STAGE  there is no result yet
+ * @retval RVSTM_NO_ENTRY     the result has no change of this index
  */
 uint32_t rvstm_result_change(rvstm_block *block, size_t index, rvstm_change *change);
 
