@@ -96,6 +96,22 @@ class Test(InFolder):
             with self.subTest(message):
                 self.assertEqual(called("test", "--program", self.program(), *words), (2, "", f"test: {message}\n"))
 
+    def test_a_variant_that_no_program_has(self) -> None:
+        """A list that is named has it; of the lists of a folder one does."""
+        other, one = self.write("b.list", LIST.replace("a.elf", "b.elf")), self.write("a.list", LIST)
+        self.write("a-gnu.elf", "")
+        self.write("b.elf", "")
+        for words, message in (
+            (("gnu", other), f"{other}: no program NAME.elf of it has a NAME-gnu.elf beside it"),
+            (("rust", str(self.folder)), "none of these lists has a program NAME.elf with a NAME-rust.elf beside it"),
+        ):
+            with self.subTest(message):
+                said = called("test", "--program", self.program(), "--variant", *words)
+                self.assertEqual(said, (2, "", f"test: --variant {words[0]}: {message}\n"))
+        for path, tests in {str(self.folder): 3, one: 2}.items():
+            status, output, _ = called("test", "--program", self.program(), "--variant", "gnu", path)
+            self.assertEqual((status, output.splitlines()[-1].split(":")[0]), (0, f"{tests} tests"))
+
     def test_lines_of_json(self) -> None:
         self.write("b.list", LIST)
         self.write("a.list", LIST + "expect gas at most 4\nstorage\nexpect key:1 u8:7\n")

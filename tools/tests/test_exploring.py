@@ -475,6 +475,17 @@ class OfRuns(Explored):
         self.assertEqual((status, faults.replace(f"{self.folder}/", "")), (2, "explore: a.explore, line 6: 1 bytes are compared with the text "
                          "'bob', which they never equal\n"))
 
+    def test_only_true_and_false_are_answers(self) -> None:
+        path = self.folder / "a.explore"
+        for rule, value in {
+            "returned 'the deal is closed'": "'the deal is closed'", "holds 1": "1", "returned output": "b'", "always None": "None",
+            "always (gas := 5) and 0": "0", "storage\nholds keys()": "[",
+        }.items():
+            status, output, faults = called("explore", "--program", str(self.program), self.write("a.explore", f"{CALL}{rule}\n"))
+            line = 7 if "storage" in rule else 6
+            self.assertEqual((status, output, faults.count("\n")), (2, "", 1), rule)
+            self.assertTrue(faults.startswith(f"explore: {path}, line {line}: an expression has to be True or False, and this is {value}"), faults)
+
     def test_one_seed_makes_the_same_calls(self) -> None:
         one, other = self.explored("returned some < 190"), self.explored("returned some < 190")
         self.assertEqual([line for line in one[1] if " s" not in line], [line for line in other[1] if " s" not in line])
@@ -796,6 +807,8 @@ class OfModels(OverBank):
             ("+= n", "+= m", {}, "bank.py, line 6: Bank.put: NameError: name 'm' is not defined"),
             ("return self.balance\n", "return True\n", {}, "bank.py, line 5: Bank.put: it returned True; it returns bytes, a number, a text, or None"),
             ("return self.balance\n", "return 1.5\n", {}, "bank.py, line 5: Bank.put: it returned 1.5; it returns bytes, a number, a text, or None"),
+            ("assert storage.u64(\"key:a\") ==", "return \"other\" or", {},
+             "bank.py: Bank.invariant: it returned 'other'; it returns True, False or None"),
             ("assert storage", "assert store", {}, "bank.py, line 16: Bank.invariant: NameError: name 'store' is not defined"),
         )
         for old, new, changed, message in mistakes:

@@ -1,5 +1,6 @@
 """gdb's remote protocol: packets by GDB's manual, and the moves of a call that a small program replays."""
 
+import contextlib
 import os
 import sys
 import unittest
@@ -15,6 +16,7 @@ from rvstm_tools.errors import UserError
 from rvstm_tools.texts.results import End
 from rvstm_tools.texts.views import View
 from tests.helpers import InFolder
+from tests.test_elf import CODE, elf_file
 
 # A call of 61 steps: three instructions again and again, and RETURN. The first one of the three counts a byte up.
 DEBUG = f"#!{sys.executable} -IS\n" """\
@@ -165,6 +167,18 @@ class Questions(Replayed):
         self.assertEqual(self.ask("s", "p20"), "04000100")
         self.assertEqual(self.ask("p21"), "0100000000000000")
         self.assertEqual(self.ask("p22"), "E01")
+
+    def test_lines_of_another_program(self) -> None:
+        self.enterContext(contextlib.chdir(self.folder))
+        self.write("a.elf", elf_file())
+        self.write("a.lines.elf", elf_file())
+        self.assertEqual(self.ask("?"), stop(0x10000, 0))
+        self.serve()
+        self.write("a.lines.elf", elf_file().replace(CODE, CODE[::-1]))
+        with self.assertRaises(UserError) as caught:
+            self.ask("?")
+        message = "a.lines.elf: not the program of a.elf with its lines: make both from one source with one compiler"
+        self.assertEqual(str(caught.exception), message)
 
     def test_memory(self) -> None:
         self.assertEqual(self.ask("m100000,2"), "0000")

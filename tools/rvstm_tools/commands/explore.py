@@ -42,7 +42,8 @@ A description is a list (`rvstm-tools block --help`) whose calls have places, wi
     model FILE CLASS          a class in a file of Python that says what calls should answer; it comes before all calls
     method NAME               the method of the model that answers this call
 
-An expression is one of Python, and has these names:
+An expression is one of Python. Its value is True or False, except after `let`; another one is a mistake of the description. It has
+these names:
 
     value(KEY)                the bytes at a key, None if it has none; KEY is a word of a list or 32 bytes
     u8(KEY) .. u64(KEY)       the number at a key, 0 if it has none; i8(KEY) .. i64(KEY) the same with a sign
@@ -73,9 +74,9 @@ with what is in the places of the call, by their names:
             assert all(storage.u64(f"row:acct:key:{name}") == amount for name, amount in self.balance.items())
 
 A number or bytes: the call returns them. None: it returns. A text: it reverts with this text, or with any if the text is empty.
-An `invariant` is called at the beginning and after each call. It is broken if it returns False or an `assert` in it fails. It and
-CLASS read the storage as expressions do: storage.value(KEY), storage.u64(KEY), storage.fields(KEY), storage.keys(). Any other
-exception is a mistake of the model.
+An `invariant` is called at the beginning and after each call. It is broken if it returns False or an `assert` in it fails, and
+otherwise returns True or None. It and CLASS read the storage as expressions do: storage.value(KEY), storage.u64(KEY),
+storage.fields(KEY), storage.keys(). Any other exception is a mistake of the model.
 
 **A description is a program, and so is a model: both do whatever Python does. Run only those that you trust.**
 

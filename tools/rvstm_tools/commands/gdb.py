@@ -41,8 +41,8 @@ before it has the end, the output, the steps and the gas.
     monitor go MOMENT         goes to a moment; after it `maintenance flush register-cache` shows gdb the new place
 
 Going forward, to breakpoints and to changes of memory too, is as fast as a run. Going back is a run from the call's start.
-Ctrl-C stops a search. The status is 0 if gdb leaves, 1 if the block is refused or a file cannot be read, and 2 for a wrong
-command line."""
+Ctrl-C stops a search. The status is 0 if gdb leaves, 1 if the block is refused, a file cannot be read, or NAME.lines.elf
+beside the program is of another one, and 2 for a wrong command line."""
 
 
 def run(given: argparse.Namespace) -> int:

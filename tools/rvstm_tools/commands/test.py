@@ -125,10 +125,20 @@ def tests_of(given: argparse.Namespace) -> list[ListedTest]:
             tests.append(test)
         elif is_named:
             raise UserError(f"{path}: no line `expect`, so it tests nothing")
+        if is_named:
+            check_variants([test], given.variant, f"{path}: no program NAME.elf of it has a")
     if not tests:
         of = f"whose path has {' or '.join(given.only)} " if given.only else ""
         raise UserError(f"none of these lists {of}has a line `expect`")
+    check_variants(tests, given.variant, "none of these lists has a program NAME.elf with a")
     return tests
+
+
+def check_variants(tests: Sequence[ListedTest], variants: Sequence[str], fault: str) -> None:
+    """Refuses a variant that no program of the tests has."""
+    for variant in variants:
+        if not any(test.has(variant) for test in tests):
+            raise UserError(f"--variant {variant}: {fault} NAME-{variant}.elf beside it")
 
 
 def lists_of(files: list[str]) -> Iterator[tuple[Path, bool]]:
@@ -158,7 +168,8 @@ COMMAND = Command(
         ),
         argument(
             "--variant", action="append", default=[], metavar="NAME",
-            help="runs each list again with PROGRAM-NAME.elf in place of PROGRAM.elf, if that is there; may be given again",
+            help="runs each list again with PROGRAM-NAME.elf in place of PROGRAM.elf, if that is there. A list that is named, and one of "
+            "a folder, has to have one. May be given again",
         ),
         argument(
             "--update", action="store_true",

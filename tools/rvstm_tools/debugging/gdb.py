@@ -111,6 +111,7 @@ class Server:
         the call is opened when it is first asked for."""
         if self.opened is None:
             self.opened = self.open_call(self.wire.hear)
+            self.opened.check_lines()
         return self.opened
 
     def close(self) -> None:

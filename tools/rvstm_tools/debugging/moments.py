@@ -17,6 +17,7 @@ from rvstm_tools.debugging.sessions import LINES_AT_ONCE, MOST_BYTES, REFUSED, C
 from rvstm_tools.debugging.sources import Chains
 from rvstm_tools.errors import UserError
 from rvstm_tools.debugging.charges import StorageCall
+from rvstm_tools.programs.elf import ElfFile
 from rvstm_tools.programs.running import Program
 from rvstm_tools.texts import blockfiles, shown, words
 from rvstm_tools.texts.keys import KEY_LENGTH, Key
@@ -352,12 +353,20 @@ class Call:
         found = self.view.value(Key(data), bytes.fromhex(value[0].replace("-", ""))) if value else kind
         return f"{self.view.key(Key(data))}: {found}\n"
 
+    def program_path(self) -> str:
+        return str(self.subject.folder / blockfiles.head_of_call(self.subject.file, self.subject.number).program)
+
+    def check_lines(self) -> None:
+        """Refuses lines beside the program that are of another one: gdb would show them."""
+        lines = sources.lines_file_of(self.program_path())
+        if os.path.isfile(lines):
+            sources.check_is_of(ElfFile(lines), self.program_path())
+
     @functools.cached_property
     def chains(self) -> Chains:
         """The functions and lines of all addresses of the program."""
-        path = blockfiles.head_of_call(self.subject.file, self.subject.number).program
         tool = sources.address_tool()
-        program = coverage.lines_program(str(self.subject.folder / path), tool)
+        program = coverage.lines_program(self.program_path(), tool)
         return sources.chains_of(program, list(program.words()), tool)
 
     def places_text(self, line: str) -> str:

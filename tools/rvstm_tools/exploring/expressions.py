@@ -3,6 +3,7 @@
 import ast
 import builtins
 import keyword
+import reprlib
 from collections.abc import Iterable, Iterator, Mapping
 from dataclasses import dataclass
 from types import CodeType
@@ -87,3 +88,12 @@ def evaluated(rule: Rule, names: Names) -> object | Raised:
     except Exception as error:
         return Raised(f"{type(error).__name__}: {error}")
     return value
+
+
+def answered(rule: Rule, names: Names) -> bool | Raised:
+    """Whether an expression holds, or what it raised. Another value would hold by chance, so it is a mistake."""
+    value = evaluated(rule, names)
+    if isinstance(value, bool | Raised):
+        return value
+    text = f"an expression has to be True or False, and this is {reprlib.repr(value)}"
+    raise MistakeError(f"{rule.code.co_filename}, line {rule.line}: {text}")

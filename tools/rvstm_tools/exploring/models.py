@@ -119,7 +119,9 @@ class Model:
                 answer: object = getattr(self.state, INVARIANT)(storage)
             except (AssertionError, OtherLengthError) as error:
                 return f"{place_in(path, error)}: {INVARIANT}: {said_of(path, error)}"
-        return f"{path}: {INVARIANT} is {answer!r}" if answer is not None and not answer else None
+        if answer is not None and not isinstance(answer, bool):
+            raise ModelError(f"{path}: {what}: it returned {answer!r}; it returns True, False or None")
+        return f"{path}: {INVARIANT} is False" if answer is False else None
 
     def _said(self, answer: object, what: str) -> str:
         """An answer, for people. Another one than a model may give is the author's mistake."""

@@ -261,7 +261,7 @@ class Run:
 
     def _first_broken(self, rules: Iterable[Rule]) -> Broken | None:
         for rule in rules:
-            value = expressions.evaluated(rule, self.names)
+            value = expressions.answered(rule, self.names)
             if isinstance(value, Raised):
                 return self._broken(rule, value)
             if not value:

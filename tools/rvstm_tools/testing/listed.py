@@ -54,6 +54,10 @@ class ListedTest:
         """The programs of the list, each PROGRAM.elf replaced by PROGRAM-VARIANT.elf if there is a variant and this file."""
         return [self._program_by(variant, program) for program in self.file.blocks[0].programs.values()]
 
+    def has(self, variant: str) -> bool:
+        """Whether a program has this variant."""
+        return self.programs_by(variant) != self.programs_by("")
+
     def _program_by(self, variant: str, program: ProgramFile) -> ProgramFile:
         other = f"{program.path.removesuffix('.elf')}-{variant}.elf"
         is_there = variant and (self.path.parent / other).is_file()

@@ -69,7 +69,7 @@ class Tester:
 
 
 def plans_of(test: ListedTest, variants: Sequence[str]) -> list[Planned]:
-    with_others = [variant for variant in variants if test.programs_by(variant) != test.programs_by("")]
+    with_others = [variant for variant in variants if test.has(variant)]
     return [Planned(test, variant) for variant in ["", *with_others]]
 
 
