@@ -123,6 +123,7 @@ class OfDescriptions(InFolder):
             (f"{CALL}storage\nreturned True\n", 7, "returned: only lines `holds` may follow `storage`"),
             (f"{CALL}storage\nmay-end illegal\n", 7, "may-end: no call is above it; `always` holds after each call"),
             (f"{CALL}storage\ncall echo 9 00\n", 7, words_of_call),
+            (f"{CALL}reverted 'the deal is closed'\n", 6, "an expression has to be True or False, and this is 'the deal is closed'"),
             (f"{CALL}holds (\n", 6, "not an expression of Python: '(' was never closed"),
             (f"{CALL}holds '\0'\n", 6, None),
             (f"{CALL}holds {'(' * 500}{')' * 500}\n", 6, None),

@@ -206,6 +206,7 @@ class Description:
             kind = self._last_kind(when)
             rules, known = kind.rules, known | OF_CALLS | set(kind.places)
         rules.append(Rule(when, number, text, self._code_of(text, known)))
+        expressions.check_constant(text)
 
     def _last_kind(self, word: str) -> Kind:
         if not self.kinds or self.is_over:

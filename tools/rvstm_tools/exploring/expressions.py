@@ -95,5 +95,15 @@ def answered(rule: Rule, names: Names) -> bool | Raised:
     value = evaluated(rule, names)
     if isinstance(value, bool | Raised):
         return value
-    text = f"an expression has to be True or False, and this is {reprlib.repr(value)}"
-    raise MistakeError(f"{rule.code.co_filename}, line {rule.line}: {text}")
+    raise MistakeError(f"{rule.code.co_filename}, line {rule.line}: {no_answer(value)}")
+
+
+def no_answer(value: object) -> str:
+    return f"an expression has to be True or False, and this is {reprlib.repr(value)}"
+
+
+def check_constant(text: str) -> None:
+    """Refuses a constant that is no answer, even if its call never ends so that it counts."""
+    tree = ast.parse(text, mode="eval").body
+    if isinstance(tree, ast.Constant) and not isinstance(tree.value, bool):
+        raise UserError(no_answer(tree.value))
