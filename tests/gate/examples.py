@@ -41,7 +41,7 @@ DESCRIPTIONS = (
     ("draw who bob\ncall echo 100 account:{who}\nreturned output == who", "explore: FILE, line 5: 20 bytes are compared with the text 'bob', which they never equal"),
     (f"{OWNED}returned fields('row:own:key:lot').by != who", "# line 7: returned fields('row:own:key:lot').by != who"),
     (f"{OWNED}returned fields('row:own:key:lot').by == who", "nothing is broken"),
-    ("call echo 100 u8:{some}\nstorage\nholds keys()", "# line 5: holds keys()"),
+    ("call echo 100 u8:{some}\nstorage\nholds len(keys()) > 0", "# line 5: holds len(keys()) > 0"),
 )
 """Texts of descriptions, with a line that is printed of each."""
 IN_BLOCKS = ("escrow",)
