@@ -30,6 +30,7 @@ use Rattle.stm_state.proofs.Writes.{applied_get, content_after}
 use Rattle.host_block.specs.Changes.{Agrees, listed_changes}
 use Rattle.host_block.specs.Known.{KeepsAnswers}
 use Rattle.host_block.specs.Ordered.{AreSums, AreSumsKnown, HasAllWrites, IsInOrder, IsListed, IsRestOf, IsResult, AreCallsSerial, IsUnderWay, IsWritten, OrderedView, now_with, receipts_with, ordered_view}
+use Rattle.host_block.specs.Slots.{TouchedView}
 use Rattle.host_block.specs.declared.parts.Current.{Current}
 use Rattle.host_block.specs.declared.parts.Current.TheVariants as current
 use Rattle.host_block.specs.declared.parts.Parts.{Parts}
@@ -59,13 +60,13 @@ start_rest calls store = (ap (receipts_of calls) (without store), ap (store_afte
 nothing_written : (changes : WriteMap) (key : List ℕ) → changes ≡ empty → contains_key changes key ≡ true → ⊥
 nothing_written changes key is has = let none : contains_key changes key ≡ false = ap (λ (m : WriteMap). contains_key m key) is ∙ ap (λ (o : Option ContentChange). is_some o) (get-empty key_cmp key) in cc
 
-pub starts : (p : Parts) → p.receipts.items ≡ [] → p.current ≡ current.Next → p.changes ≡ empty → p.sums ≡ None → p.listed ≡ None → IsInOrder p
+pub starts : (p : Parts) → p.receipts.items ≡ [] → p.current ≡ current.Next → p.touched.changes ≡ empty → p.sums ≡ None → p.listed ≡ None → IsInOrder p
 starts p none next unchanged no_keys unlisted = record {
-  serial = λ store agrees. subst (λ (k : Current). AreCallsSerial p.calls.items p.receipts.items k p.changes store) (sym next)
+  serial = λ store agrees. subst (λ (k : Current). AreCallsSerial p.calls.items p.receipts.items k p.touched.changes store) (sym next)
       (subst (λ (m : WriteMap). IsRestOf p.calls.items store p.receipts.items (drop (length p.receipts.items) p.calls.items) (apply_writes store m)) (sym unchanged)
       (subst (λ (rs : List Receipt). IsRestOf p.calls.items store rs (drop (length rs) p.calls.items) (apply_writes store empty)) (sym none) (start_rest p.calls.items store)));
-  under_way = subst (λ (k : Current). IsUnderWay p.calls.items p.receipts.items k p.changes p.bases) (sym next) (subst (λ (rs : List Receipt). length rs ≤ length p.calls.items) (sym none) (omega arith));
-  written = λ key has. absurd (nothing_written p.changes key unchanged has);
+  under_way = subst (λ (k : Current). IsUnderWay p.calls.items p.receipts.items k p.touched.changes p.touched.bases) (sym next) (subst (λ (rs : List Receipt). length rs ≤ length p.calls.items) (sym none) (omega arith));
+  written = λ key has. absurd (nothing_written p.touched.changes key unchanged has);
   sums = subst (λ o. IfSome o (λ keys. AreSums p keys.items)) (sym no_keys) tt;
   listed = subst (λ o. IfSome o (λ list. IsListed p list.items)) (sym unlisted) tt;
 }
@@ -75,19 +76,19 @@ starts p none next unchanged no_keys unlisted = record {
 pub begins : (p : Parts) (run : RunView) (call : Invocation) (spare : SpareRun) → IsInOrder p → length p.receipts.items < length p.calls.items → p.current ≡ current.Next
     → slice_get p.calls.items (length p.receipts.items) ≡ Some call → run ≡ run_at_start call → IsInOrder (record p { current = current.Run run; spare = spare })
 begins p run call spare h less next at is = record {
-  serial = λ store agrees. subst (λ (k : Current). AreCallsSerial p.calls.items p.receipts.items k p.changes store) next (h.serial store agrees);
-  under_way = (at ∙ ap Some (sym (ap (λ (r : RunView). r.call) is)), λ store agrees. subst (λ (r : RunView). AreFrom (apply_writes store p.changes) (replies_of r.answers)) (sym is) tt);
+  serial = λ store agrees. subst (λ (k : Current). AreCallsSerial p.calls.items p.receipts.items k p.touched.changes store) next (h.serial store agrees);
+  under_way = (at ∙ ap Some (sym (ap (λ (r : RunView). r.call) is)), λ store agrees. subst (λ (r : RunView). AreFrom (apply_writes store p.touched.changes) (replies_of r.answers)) (sym is) tt);
   written = λ key has. subst (λ (k : Current). IsWritten (receipts_with p.receipts.items k) key) next (h.written key has);
   sums = no_sums p _ h less;
   listed = no_list p _ h less;
 }
 
 pub runs_on : (p : Parts) (run after : RunView) → IsInOrder p → length p.receipts.items < length p.calls.items → p.current ≡ current.Run run
-    → after.call ≡ run.call → KeepsAnswers p.bases p.changes run after → IsInOrder (record p { current = current.Run after })
+    → after.call ≡ run.call → KeepsAnswers p.touched.bases p.touched.changes run after → IsInOrder (record p { current = current.Run after })
 runs_on p run after h less is call from =
-    let was : IsUnderWay p.calls.items p.receipts.items (current.Run run) p.changes p.bases = subst (λ (k : Current). IsUnderWay p.calls.items p.receipts.items k p.changes p.bases) is h.under_way in
+    let was : IsUnderWay p.calls.items p.receipts.items (current.Run run) p.touched.changes p.touched.bases = subst (λ (k : Current). IsUnderWay p.calls.items p.receipts.items k p.touched.changes p.touched.bases) is h.under_way in
     record {
-      serial = λ store agrees. subst (λ (k : Current). AreCallsSerial p.calls.items p.receipts.items k p.changes store) is (h.serial store agrees);
+      serial = λ store agrees. subst (λ (k : Current). AreCallsSerial p.calls.items p.receipts.items k p.touched.changes store) is (h.serial store agrees);
       under_way = (was.0 ∙ ap Some (sym call), λ store agrees. from store agrees (was.1 store agrees));
       written = λ key has. subst (λ (k : Current). IsWritten (receipts_with p.receipts.items k) key) is (h.written key has);
       sums = no_sums p _ h less;
@@ -98,13 +99,13 @@ pub call_ends : (p : Parts) (run : RunView) (ended : EndedRun) (spare : SpareRun
     → ended.call ≡ run.call → ended.answers.items ≡ run.answers → ((call : Invocation) (store : Storage) → HasOneReceipt call store)
     → IsInOrder (record p { current = current.Ended ended.receipt 0; spare = spare })
 call_ends p run ended spare h less is call answers one =
-    let was : IsUnderWay p.calls.items p.receipts.items (current.Run run) p.changes p.bases = subst (λ (k : Current). IsUnderWay p.calls.items p.receipts.items k p.changes p.bases) is h.under_way in
+    let was : IsUnderWay p.calls.items p.receipts.items (current.Run run) p.touched.changes p.touched.bases = subst (λ (k : Current). IsUnderWay p.calls.items p.receipts.items k p.touched.changes p.touched.bases) is h.under_way in
     record {
       serial = λ store agrees.
-          let from : AreFrom (apply_writes store p.changes) (replies_of ended.answers.items) = subst (λ (answers : List StorageAnswer). AreFrom (apply_writes store p.changes) (replies_of answers)) (sym answers) (was.1 store agrees) in
-          one_ended p.calls.items store p.receipts.items p.changes ended.call ended.receipt (was.0 ∙ ap Some (sym call))
-          ((one ended.call (apply_writes store p.changes)).no_other (replies_of ended.answers.items) ended.receipt from ended.borne_out)
-          (subst (λ (k : Current). AreCallsSerial p.calls.items p.receipts.items k p.changes store) is (h.serial store agrees));
+          let from : AreFrom (apply_writes store p.touched.changes) (replies_of ended.answers.items) = subst (λ (answers : List StorageAnswer). AreFrom (apply_writes store p.touched.changes) (replies_of answers)) (sym answers) (was.1 store agrees) in
+          one_ended p.calls.items store p.receipts.items p.touched.changes ended.call ended.receipt (was.0 ∙ ap Some (sym call))
+          ((one ended.call (apply_writes store p.touched.changes)).no_other (replies_of ended.answers.items) ended.receipt from ended.borne_out)
+          (subst (λ (k : Current). AreCallsSerial p.calls.items p.receipts.items k p.touched.changes store) is (h.serial store agrees));
       under_way = less;
       written = λ key has. written_before p.receipts.items ended.receipt key (subst (λ (k : Current). IsWritten (receipts_with p.receipts.items k) key) is (h.written key has));
       sums = no_sums p _ h less;
@@ -123,17 +124,17 @@ mapped : (A B C : Type 0) → (B → C) → A ⊎ B → A ⊎ C
 mapped A B C f (inl a) = inl a
 mapped A B C f (inr b) = inr (f b)
 
-pub writes_join : (p : Parts) (receipts : Vec Receipt) (receipt : Receipt) (count after : ℕ) (changes : WriteMap) → IsInOrder p → p.current ≡ current.Ended receipt count
+changes_join : (p : Parts) (receipts : Vec Receipt) (receipt : Receipt) (count after : ℕ) (changes : WriteMap) → IsInOrder p → p.current ≡ current.Ended receipt count
     → receipts.items ≡ p.receipts.items
-    → ((store : Storage) → now_with changes receipt.writes after store ≡ now_with p.changes receipt.writes count store)
-    → ((key : List ℕ) → contains_key changes key ≡ true → (contains_key p.changes key ≡ true) ⊎ (contains_key receipt.writes key ≡ true))
-    → IsInOrder (record p { receipts = receipts; current = current.Ended receipt after; changes = changes })
-writes_join p receipts receipt count after changes h is same now written =
-    let less : length p.receipts.items < length p.calls.items = subst (λ (k : Current). IsUnderWay p.calls.items p.receipts.items k p.changes p.bases) is h.under_way in
+    → ((store : Storage) → now_with changes receipt.writes after store ≡ now_with p.touched.changes receipt.writes count store)
+    → ((key : List ℕ) → contains_key changes key ≡ true → (contains_key p.touched.changes key ≡ true) ⊎ (contains_key receipt.writes key ≡ true))
+    → IsInOrder (record p { receipts = receipts; current = current.Ended receipt after; touched = record { bases = p.touched.bases; changes = changes } })
+changes_join p receipts receipt count after changes h is same now written =
+    let less : length p.receipts.items < length p.calls.items = subst (λ (k : Current). IsUnderWay p.calls.items p.receipts.items k p.touched.changes p.touched.bases) is h.under_way in
     record {
       serial = λ store agrees. subst (λ (rs : List Receipt). IsRestOf p.calls.items store (rs ++ receipt ∷ []) (drop (suc (length rs)) p.calls.items) (now_with changes receipt.writes after store)) (sym same)
           (subst (λ (s : Storage). IsRestOf p.calls.items store (p.receipts.items ++ receipt ∷ []) (drop (suc (length p.receipts.items)) p.calls.items) s) (sym (now store))
-          (subst (λ (k : Current). AreCallsSerial p.calls.items p.receipts.items k p.changes store) is (h.serial store agrees)));
+          (subst (λ (k : Current). AreCallsSerial p.calls.items p.receipts.items k p.touched.changes store) is (h.serial store agrees)));
       under_way = subst (λ (rs : List Receipt). length rs < length p.calls.items) (sym same) less;
       written = λ key has. subst (λ (rs : List Receipt). IsWritten (rs ++ receipt ∷ []) key) (sym same)
           (either_written p.receipts.items receipt key (mapped _ _ _ (λ was. subst (λ (k : Current). IsWritten (receipts_with p.receipts.items k) key) is (h.written key was)) (swapped _ _ (written key has))));
@@ -141,14 +142,23 @@ writes_join p receipts receipt count after changes h is same now written =
       listed = no_list p _ h less;
     }
 
+pub writes_join : (p : Parts) (receipts : Vec Receipt) (receipt : Receipt) (count after : ℕ) (touched : TouchedView) → IsInOrder p → p.current ≡ current.Ended receipt count
+    → receipts.items ≡ p.receipts.items → touched.bases ≡ p.touched.bases
+    → ((store : Storage) → now_with touched.changes receipt.writes after store ≡ now_with p.touched.changes receipt.writes count store)
+    → ((key : List ℕ) → contains_key touched.changes key ≡ true → (contains_key p.touched.changes key ≡ true) ⊎ (contains_key receipt.writes key ≡ true))
+    → IsInOrder (record p { receipts = receipts; current = current.Ended receipt after; touched = touched })
+writes_join p receipts receipt count after touched h is same bases now written =
+    subst (λ (bs : Changes). IsInOrder (record p { receipts = receipts; current = current.Ended receipt after; touched = record { bases = bs; changes = touched.changes } })) (sym bases)
+    (changes_join p receipts receipt count after touched.changes h is same now written)
+
 pub receipt_kept : (p : Parts) (receipts : Vec Receipt) (receipt : Receipt) (count : ℕ) → IsInOrder p → p.current ≡ current.Ended receipt count → HasAllWrites p.current
     → receipts.items ≡ p.receipts.items ++ receipt ∷ [] → IsInOrder (record p { receipts = receipts; current = current.Next })
 receipt_kept p receipts receipt count h is all more =
-    let less : length p.receipts.items < length p.calls.items = subst (λ (k : Current). IsUnderWay p.calls.items p.receipts.items k p.changes p.bases) is h.under_way in
+    let less : length p.receipts.items < length p.calls.items = subst (λ (k : Current). IsUnderWay p.calls.items p.receipts.items k p.touched.changes p.touched.bases) is h.under_way in
     let none : HasAllWrites (current.Ended receipt count) = subst HasAllWrites is all in
     record {
-      serial = λ store agrees. subst (λ (rs : List Receipt). IsRestOf p.calls.items store rs (drop (length rs) p.calls.items) (apply_writes store p.changes)) (sym more)
-          (one_kept p.calls.items store p.receipts.items p.changes receipt count none (subst (λ (k : Current). AreCallsSerial p.calls.items p.receipts.items k p.changes store) is (h.serial store agrees)));
+      serial = λ store agrees. subst (λ (rs : List Receipt). IsRestOf p.calls.items store rs (drop (length rs) p.calls.items) (apply_writes store p.touched.changes)) (sym more)
+          (one_kept p.calls.items store p.receipts.items p.touched.changes receipt count none (subst (λ (k : Current). AreCallsSerial p.calls.items p.receipts.items k p.touched.changes store) is (h.serial store agrees)));
       under_way = (let more_by : length receipts.items ≡ length p.receipts.items + 1 = ap (λ (rs : List Receipt). length rs) more ∙ length-append p.receipts.items (receipt ∷ []) in omega (arith, less, more_by));
       written = λ key has. subst (λ (rs : List Receipt). IsWritten rs key) (sym more) (subst (λ (k : Current). IsWritten (receipts_with p.receipts.items k) key) is (h.written key has));
       sums = no_sums p _ h less;
@@ -173,12 +183,12 @@ below_or_from k n = grind arith
 
 -- all sums are known once none of their keys is left
 pub all_known : (p : Parts) (keys : Vec (List ℕ)) (count : ℕ) → IsInOrder p → p.sums ≡ Some keys → length keys.items ≤ count
-    → ((k : ℕ) (key : List ℕ) → p.known_sums ≤ k → k < count → slice_get keys.items k ≡ Some key → IsSome (get p.bases key)) → AreSumsKnown p.changes p.bases
+    → ((k : ℕ) (key : List ℕ) → p.known_sums ≤ k → k < count → slice_get keys.items k ≡ Some key → IsSome (get p.touched.bases key)) → AreSumsKnown p.touched.changes p.touched.bases
 all_known p keys count h is past known =
     let s = sums_in p keys h is in
-    sums_known p.bases p.changes keys.items count s.of_sums past (λ k key below at. by k key below at (below_or_from k p.known_sums) s)
+    sums_known p.touched.bases p.touched.changes keys.items count s.of_sums past (λ k key below at. by k key below at (below_or_from k p.known_sums) s)
   where
-    by : (k : ℕ) (key : List ℕ) → k < count → slice_get keys.items k ≡ Some key → (k < p.known_sums) ⊎ (p.known_sums ≤ k) → AreSums p keys.items → IsSome (get p.bases key)
+    by : (k : ℕ) (key : List ℕ) → k < count → slice_get keys.items k ≡ Some key → (k < p.known_sums) ⊎ (p.known_sums ≤ k) → AreSums p keys.items → IsSome (get p.touched.bases key)
     by k key below at (inl less) s = s.known k key less at
     by k key below at (inr more) s = known k key more below at
 
@@ -200,30 +210,31 @@ agreed_before bases key content store unknown agrees q c has = agrees q c (by (e
     by true e = let none : get bases q ≡ None = ap (get bases) (same_key q key e) ∙ unknown in cc
     by false e = get-insert nat_list_cmp_total bases key content q ∙ ap (λ b. cond b (Some content) (get bases q)) e ∙ has
 
-pub base_kept : (p : Parts) (key : List ℕ) (content : Content) (bases : Changes) → IsInOrder p → get p.bases key ≡ None → p.listed ≡ None
-    → bases ≡ insert p.bases key content → IsInOrder (record p { bases = bases })
+pub base_kept : (p : Parts) (key : List ℕ) (content : Content) (bases : Changes) → IsInOrder p → get p.touched.bases key ≡ None → p.listed ≡ None
+    → bases ≡ insert p.touched.bases key content → IsInOrder (record p { touched = record p.touched { bases = bases } })
 base_kept p key content bases h unknown unlisted is = record {
   serial = λ store agrees. h.serial store (before store agrees);
   under_way = under p.current h.under_way;
   written = h.written;
-  sums = sums_still p.sums p (record p { bases = bases })
-      (λ keys s. record { ended = s.ended; of_sums = s.of_sums; known = λ k q below at. subst (λ (m : Changes). IsSome (get m q)) (sym is) (still_known p.bases key content q (s.known k q below at)) }) h.sums;
+  sums = sums_still p.sums p (record p { touched = record p.touched { bases = bases } })
+      (λ keys s. record { ended = s.ended; of_sums = s.of_sums; known = λ k q below at. subst (λ (m : Changes). IsSome (get m q)) (sym is) (still_known p.touched.bases key content q (s.known k q below at)) }) h.sums;
   listed = unlisted_still p _ unlisted;
 }
   where
-    before : (store : Storage) → Agrees bases store → Agrees p.bases store
-    before store agrees = agreed_before p.bases key content store unknown (subst (λ (m : Changes). Agrees m store) is agrees)
+    before : (store : Storage) → Agrees bases store → Agrees p.touched.bases store
+    before store agrees = agreed_before p.touched.bases key content store unknown (subst (λ (m : Changes). Agrees m store) is agrees)
 
-    under : (k : Current) → IsUnderWay p.calls.items p.receipts.items k p.changes p.bases → IsUnderWay p.calls.items p.receipts.items k p.changes bases
+    under : (k : Current) → IsUnderWay p.calls.items p.receipts.items k p.touched.changes p.touched.bases → IsUnderWay p.calls.items p.receipts.items k p.touched.changes bases
     under current.Next u = u
-    under (current.Run run) u = (u.0, λ store agrees. u.1 store (agreed_before p.bases key content store unknown (subst (λ (m : Changes). Agrees m store) is agrees)))
+    under (current.Run run) u = (u.0, λ store agrees. u.1 store (agreed_before p.touched.bases key content store unknown (subst (λ (m : Changes). Agrees m store) is agrees)))
     under (current.Ended receipt count) u = u
 
 -- the same for an answer that may be refused, and then nothing changes
-pub base_tried : (p : Parts) (key : List ℕ) (content : Content) (bases : Changes) (tried : Result (Unit {0}) AllocError) → IsInOrder p → get p.bases key ≡ None → p.listed ≡ None
-    → OnOk tried (bases ≡ insert p.bases key content) → OnErr tried (bases ≡ p.bases) → IsInOrder (record p { bases = bases })
-base_tried p key content bases (Ok done) h unknown unlisted kept stays = base_kept p key content bases h unknown unlisted kept
-base_tried p key content bases (Err error) h unknown unlisted kept stays = subst (λ (m : Changes). IsInOrder (record p { bases = m })) (sym stays) h
+pub base_tried : (p : Parts) (key : List ℕ) (content : Content) (touched : TouchedView) (tried : Result (Unit {0}) AllocError) → IsInOrder p → get p.touched.bases key ≡ None → p.listed ≡ None
+    → OnOk tried (touched ≡ record p.touched { bases = insert p.touched.bases key content }) → OnErr tried (touched ≡ p.touched) → IsInOrder (record p { touched = touched })
+base_tried p key content touched (Ok done) h unknown unlisted kept stays =
+    subst (λ (t : TouchedView). IsInOrder (record p { touched = t })) (sym kept) (base_kept p key content (insert p.touched.bases key content) h unknown unlisted refl)
+base_tried p key content touched (Err error) h unknown unlisted kept stays = subst (λ (t : TouchedView). IsInOrder (record p { touched = t })) (sym stays) h
 
 -- ---- the end
 
@@ -251,17 +262,17 @@ pub are_results : (p : Parts) (asked : Option (List ℕ)) (v : OrderedView) (lis
     × ((key : List ℕ) → Contains (keys_of changes) key → IsWritten receipts key)
 are_results p asked v list receipts changes h view is rs cs =
     let l : IsListed p list.items = subst (λ o. IfSome o (λ (x : Vec (List ℕ × Content)). IsListed p x.items)) is h.listed in
-    let all : changes ≡ listed_changes p.bases p.changes = cs ∙ l.of_changes in
+    let all : changes ≡ listed_changes p.touched.bases p.touched.changes = cs ∙ l.of_changes in
     subst (λ (w : OrderedView). (w.result ≡ Some changes) × (receipts ≡ w.receipts) × IsResult w.calls w.bases receipts changes × AreAscending changes
     × ((key : List ℕ) → Contains (keys_of changes) key → IsWritten receipts key)) view (
       ap (λ o. option_map (λ (x : Vec (List ℕ × Content)). x.items) o) is ∙ ap Some (sym cs),
       rs,
       (λ store agrees.
-          let both = all_ended p.calls.items p.receipts.items p.current p.changes p.bases store (h.serial store agrees) h.under_way l.ended in
-          (rs ∙ both.0, ap (with_contents store) all ∙ listed_leads p.bases p.changes store agrees l.known ∙ both.1)),
-      subst AreAscending (sym all) (listed_ascends p.bases p.changes),
-      (λ key has. subst (λ (xs : List Receipt). IsWritten xs key) (receipts_at_end p.calls.items p.receipts.items p.current p.changes p.bases h.under_way l.ended ∙ sym rs)
-          (h.written key (listed_is_changed p.bases p.changes key (subst (λ (xs : List (List ℕ × Content)). Contains (keys_of xs) key) all has)))),
+          let both = all_ended p.calls.items p.receipts.items p.current p.touched.changes p.touched.bases store (h.serial store agrees) h.under_way l.ended in
+          (rs ∙ both.0, ap (with_contents store) all ∙ listed_leads p.touched.bases p.touched.changes store agrees l.known ∙ both.1)),
+      subst AreAscending (sym all) (listed_ascends p.touched.bases p.touched.changes),
+      (λ key has. subst (λ (xs : List Receipt). IsWritten xs key) (receipts_at_end p.calls.items p.receipts.items p.current p.touched.changes p.touched.bases h.under_way l.ended ∙ sym rs)
+          (h.written key (listed_is_changed p.touched.bases p.touched.changes key (subst (λ (xs : List (List ℕ × Content)). Contains (keys_of xs) key) all has)))),
     )
 
 -- no more calls have receipts than there are

@@ -1,3 +1,5 @@
 pub mod Changes
 pub mod Known
+pub mod Positions
+pub mod Slots
 pub mod Ordered

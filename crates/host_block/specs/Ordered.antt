@@ -101,29 +101,29 @@ AreSumsKnown changes bases = (key : List ℕ) (amount : ℕ) → map.get changes
 -- the keys to which the calls only added, and how many of them were answered
 pub record AreSums (p : Parts) (keys : List (List ℕ)) : Type 0 where
   pub ended : length p.receipts.items ≡ length p.calls.items
-  pub of_sums : keys ≡ sum_keys (map.entries p.changes)
-  pub known : (k : ℕ) (key : List ℕ) → k < p.known_sums → slice_get keys k ≡ Some key → IsSome (map.get p.bases key)
+  pub of_sums : keys ≡ sum_keys (map.entries p.touched.changes)
+  pub known : (k : ℕ) (key : List ℕ) → k < p.known_sums → slice_get keys k ≡ Some key → IsSome (map.get p.touched.bases key)
 
 -- the changes of the result
 pub record IsListed (p : Parts) (list : List (List ℕ × Content)) : Type 0 where
   pub ended : length p.receipts.items ≡ length p.calls.items
-  pub of_changes : list ≡ listed_changes p.bases p.changes
-  pub known : AreSumsKnown p.changes p.bases
+  pub of_changes : list ≡ listed_changes p.touched.bases p.touched.changes
+  pub known : AreSumsKnown p.touched.changes p.touched.bases
 
 pub record IsInOrder (p : Parts) : Type 0 where
-  pub serial : (store : Storage) → Agrees p.bases store → AreCallsSerial p.calls.items p.receipts.items p.current p.changes store
-  pub under_way : IsUnderWay p.calls.items p.receipts.items p.current p.changes p.bases
-  pub written : (key : List ℕ) → map.contains_key p.changes key ≡ true → IsWritten (receipts_with p.receipts.items p.current) key
+  pub serial : (store : Storage) → Agrees p.touched.bases store → AreCallsSerial p.calls.items p.receipts.items p.current p.touched.changes store
+  pub under_way : IsUnderWay p.calls.items p.receipts.items p.current p.touched.changes p.touched.bases
+  pub written : (key : List ℕ) → map.contains_key p.touched.changes key ≡ true → IsWritten (receipts_with p.receipts.items p.current) key
   pub sums : IfSome p.sums (λ keys. AreSums p keys.items)
   pub listed : IfSome p.listed (λ list. IsListed p list.items)
 
 -- the calls and the answers stay
 abbrev pub SameParts : Parts → Parts → Type 0
-SameParts before after = (after.calls ≡ before.calls) × (after.bases ≡ before.bases)
+SameParts before after = (after.calls ≡ before.calls) × (after.touched.bases ≡ before.touched.bases)
 
 -- a key is wanted
 abbrev pub Wants : Parts → List ℕ → Type 0
-Wants p key = IsWanted p.calls.items p.receipts.items p.changes p.bases key × (p.listed ≡ None)
+Wants p key = IsWanted p.calls.items p.receipts.items p.touched.changes p.touched.bases key × (p.listed ≡ None)
 
 -- a run stopped at a key, or at its end
 abbrev pub IsStop : Option (List ℕ) → Parts → Type 0
@@ -168,8 +168,8 @@ now_with changes writes count store = apply_each (apply_writes store changes) (d
 
 -- the next sum that is not known, or none
 abbrev pub IsNextSum : Option (List ℕ) → Parts → Type 0
-IsNextSum (Some key) p = IsWanted p.calls.items p.receipts.items p.changes p.bases key
-IsNextSum None p = AreSumsKnown p.changes p.bases
+IsNextSum (Some key) p = IsWanted p.calls.items p.receipts.items p.touched.changes p.touched.bases key
+IsNextSum None p = AreSumsKnown p.touched.changes p.touched.bases
 
 -- ---- what callers of a run in order see
 
@@ -177,8 +177,8 @@ abbrev pub ordered_view : Parts → Option (List ℕ) → OrderedView
 ordered_view p asked = record {
   calls = p.calls.items;
   receipts = p.receipts.items;
-  changes = p.changes;
-  bases = p.bases;
+  changes = p.touched.changes;
+  bases = p.touched.bases;
   asked = asked;
   result = option_map (λ list. list.items) p.listed;
 }

@@ -5,8 +5,8 @@ ghost use Rattle.std.specs.FinMap as map;
 ghost use Rattle.host_block.specs.Changes.{known_after};
 ghost use Rattle.host_block.specs.Known.{known_content};
 
-use crate::change_map::ChangeMap;
-use overlay::Overlay;
+use crate::slot::Slot;
+use crate::touched_keys::TouchedKeys;
 use rv_ledger::{Change, Key, LentValue, StoredValue, Value, add};
 
 /// What is known of a key.
@@ -21,17 +21,27 @@ pub(crate) enum Known<'a> {
 
 /// Looks up what a call of the block reads at a key: what earlier calls left there. Only a key with a value or a removal among the changes
 /// needs no answer of the host. Takes no memory.
-pub(crate) fn look_up<'a>(changes: &'a ChangeMap, bases: &'a Overlay, key: &Key) -> Known<'a>
-    ensures { known_content result ≡ known_after (map.get changes.now key.now) (map.get bases.now key.now) }
+pub(crate) fn look_up<'a>(touched: &'a TouchedKeys, key: &Key) -> Known<'a>
+    ensures { known_content result ≡ known_after (map.get touched.now.changes key.now) (map.get touched.now.bases key.now) }
 {
-    match changes.get(key) {
+    match touched.get(key) {
+        Some(slot) => known_of(slot),
+        None => Known::Nothing,
+    }
+}
+
+/// What a slot tells of its key.
+fn known_of(slot: &Slot) -> Known<'_>
+    ensures { known_content result ≡ known_after slot.now.change slot.now.base }
+{
+    match &slot.change {
         Some(Change::Value(value)) => Known::Content(Some(value)),
         Some(Change::Gone) => Known::Content(None),
-        Some(Change::Sum(amount)) => match bases.get(key) {
+        Some(Change::Sum(amount)) => match &slot.base {
             Some(base) => Known::Sum(add(LentValue::of_stored(base.as_ref()), *amount)),
             None => Known::Nothing,
         },
-        None => match bases.get(key) {
+        None => match &slot.base {
             Some(base) => Known::Content(base.as_ref()),
             None => Known::Nothing,
         },

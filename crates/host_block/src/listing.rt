@@ -6,18 +6,17 @@ ghost use Rattle.std.specs.Option.{option_copied};
 ghost use Rattle.host_block.specs.Changes.{listed_changes, resolved};
 ghost use Rattle.host_block.specs.Ordered.{sum_keys};
 
-use crate::change_map::ChangeMap;
-use overlay::Overlay;
+use crate::touched_keys::TouchedKeys;
 use rv_ledger::{Change, Key, LentValue, StoredValue, add};
 use std::alloc::{AllocError, Global};
 
 /// The keys to which the calls only add, ascending; refused if memory ran out.
-pub(crate) fn sum_keys(changes: &ChangeMap) -> Result<Vec<Key>, AllocError>
-    ensures { IfOk result (λ keys. keys.items ≡ sum_keys (map.entries changes.now)) }
+pub(crate) fn sum_keys(touched: &TouchedKeys) -> Result<Vec<Key>, AllocError>
+    ensures { IfOk result (λ keys. keys.items ≡ sum_keys (map.entries touched.now.changes)) }
 {
-    let mut keys = Vec::new(changes.allocator());
-    for (key, change) in changes.iter() {
-        if let Change::Sum(_) = change {
+    let mut keys = Vec::new(touched.allocator());
+    for (key, slot) in touched.iter() {
+        if let Some(Change::Sum(_)) = &slot.change {
             keys.push(*key)?;
         }
     }
@@ -27,15 +26,16 @@ pub(crate) fn sum_keys(changes: &ChangeMap) -> Result<Vec<Key>, AllocError>
 /// The changed keys, ascending, each with what it has after the block. Added amounts are resolved over what is known. Refused if
 /// memory ran out.
 pub(crate) fn listed(
-    changes: &ChangeMap,
-    bases: &Overlay,
+    touched: &TouchedKeys,
 ) -> Result<Vec<(Key, Option<StoredValue>)>, AllocError>
-    ensures { IfOk result (λ list. list.items ≡ listed_changes bases.now changes.now) }
+    ensures { IfOk result (λ list. list.items ≡ listed_changes touched.now.bases touched.now.changes) }
 {
-    let alloc = changes.allocator();
+    let alloc = touched.allocator();
     let mut list = Vec::new(alloc);
-    for (key, change) in changes.iter() {
-        list.push((*key, resolved(alloc, change, bases.get(key))?))?;
+    for (key, slot) in touched.iter() {
+        if let Some(change) = &slot.change {
+            list.push((*key, resolved(alloc, change, slot.base.as_ref())?))?;
+        }
     }
     Ok(list)
 }

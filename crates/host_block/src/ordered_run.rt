@@ -3,9 +3,8 @@
 ghost use Rattle.std.specs.Prelude.{◌≡◌, IfOk};
 ghost use Rattle.rv_ledger.specs.Lent.{lent_content};
 
-use crate::change_map::ChangeMap;
 use crate::parts::{Current, Parts, keep_base, run_block};
-use overlay::Overlay;
+use crate::touched_keys::TouchedKeys;
 use rv_ledger::{Call, Key, LentValue, Receipt, StoredValue};
 use rv_step::SpareRun;
 use std::alloc::{AllocError, Global};
@@ -71,8 +70,7 @@ impl OrderedRun {
                 calls,
                 receipts: Vec::new(alloc),
                 current: Current::Next,
-                changes: ChangeMap::new(alloc),
-                bases: Overlay::new(alloc),
+                touched: TouchedKeys::new(alloc),
                 spare: SpareRun::new(alloc),
                 sums: None,
                 known_sums: 0,

@@ -1,14 +1,13 @@
 //! The parts of a block's run in order, and how they change.
 
-ghost use Rattle.std.specs.Prelude.{◌≡◌, ◌⊎◌, ◌<◌, ◌≤◌, ◌+◌, ℕ, List, [], drop, true, IfOk, IsSome, OnErr, OnOk, None, Some, length, slice_get, vec_capacity, vec_len};
+ghost use Rattle.std.specs.Prelude.{◌≡◌, ◌⊎◌, ◌<◌, ◌≤◌, ◌+◌, ℕ, List, [], drop, true, IfOk, IsSome, OnErr, OnOk, None, Some, is_some, length, slice_get, vec_capacity, vec_len};
 ghost use Rattle.std.specs.FinMap as map;
 ghost use Rattle.host_block.specs.Ordered.{HasAllWrites, HasBegun, IsCallOver, HasEndedRun, IsCallStop, IsInOrder, IsNextSum, IsRunStop, IsStop, SameParts, now_with};
 ghost use Rattle.rv_ledger.specs.Key.{Storage};
 
-use crate::change_map::ChangeMap;
 use crate::listing::{listed, sum_keys};
 use crate::run_call::run_call;
-use overlay::Overlay;
+use crate::touched_keys::TouchedKeys;
 use rv_ledger::{Call, Key, Receipt, StoredValue, Writes};
 use rv_step::{EndedRun, Run, SpareRun, one_receipt};
 use std::alloc::{AllocError, Global};
@@ -36,10 +35,8 @@ pub struct Parts {
     pub(crate) receipts: Vec<Receipt>,
     /// The call after them.
     pub(crate) current: Current,
-    /// What the calls changed.
-    pub(crate) changes: ChangeMap,
-    /// What the host answered.
-    pub(crate) bases: Overlay,
+    /// What the host answered, and what the calls changed.
+    pub(crate) touched: TouchedKeys,
     /// The machine and the list of an earlier run.
     pub(crate) spare: SpareRun,
     /// After the last call: the keys to which the calls only add.
@@ -110,7 +107,7 @@ fn run_on(p: &mut Parts) -> Result<Option<Key>, AllocError>
     ensures stop { IfOk result (λ asked. IsRunStop asked p.new) }
 {
     if let Current::Run(run) = &mut p.current {
-        if let Some(key) = run_call(run, &p.changes, &p.bases)? {
+        if let Some(key) = run_call(run, &p.touched)? {
             return Ok(Some(key));
         }
         end_call(p);
@@ -154,7 +151,7 @@ fn keep(p: &mut Parts) -> Result<(), AllocError>
 {
     p.receipts.reserve(1)?;
     match &mut p.current {
-        Current::Ended(receipt, count) => add_writes(&mut p.changes, &receipt.writes, count)?,
+        Current::Ended(receipt, count) => add_writes(&mut p.touched, &receipt.writes, count)?,
         _ => unreachable!(),
     }
     keep_receipt(p);
@@ -163,15 +160,16 @@ fn keep(p: &mut Parts) -> Result<(), AllocError>
 
 /// Adds writes of a call to the changes, from the one of an index on. Refused if memory ran out; then the index is that of the first
 /// one that was not added.
-fn add_writes(changes: &mut ChangeMap, writes: &Writes, count: &mut usize) -> Result<(), AllocError>
-    ensures same { (store : Storage) → now_with changes.new writes.now count.new store ≡ now_with changes.old writes.now count.old store }
-    ensures written { (key : List ℕ) → map.contains_key changes.new key ≡ true → (map.contains_key changes.old key ≡ true) ⊎ (map.contains_key writes.now key ≡ true) }
+fn add_writes(touched: &mut TouchedKeys, writes: &Writes, count: &mut usize) -> Result<(), AllocError>
+    ensures bases { touched.new.bases ≡ touched.old.bases }
+    ensures same { (store : Storage) → now_with touched.new.changes writes.now count.new store ≡ now_with touched.old.changes writes.now count.old store }
+    ensures written { (key : List ℕ) → map.contains_key touched.new.changes key ≡ true → (map.contains_key touched.old.changes key ≡ true) ⊎ (map.contains_key writes.now key ≡ true) }
     ensures all { OnOk result (drop count.new (map.entries writes.now) ≡ []) }
 {
     let entries = writes.as_slice();
     while *count < entries.len() {
         let (key, change) = &entries[*count];
-        changes.add_write(key, change)?;
+        touched.add_write(key, change)?;
         *count += 1;
     }
     Ok(())
@@ -208,7 +206,7 @@ fn settle(p: &mut Parts) -> Result<Option<Key>, AllocError>
     if let Some(key) = next_sum(p) {
         return Ok(Some(key));
     }
-    p.listed = Some(listed(&p.changes, &p.bases)?);
+    p.listed = Some(listed(&p.touched)?);
     Ok(None)
 }
 
@@ -226,7 +224,7 @@ fn find_sums(p: &mut Parts) -> Result<(), AllocError>
     if p.sums.is_some() {
         return Ok(());
     }
-    p.sums = Some(sum_keys(&p.changes)?);
+    p.sums = Some(sum_keys(&p.touched)?);
     p.known_sums = 0;
     Ok(())
 }
@@ -244,7 +242,7 @@ fn next_sum(p: &mut Parts) -> Option<Key>
     ensures ended { length p.new.receipts.items ≡ length p.new.calls.items }
 {
     let Some(keys) = &p.sums else { unreachable!() };
-    p.known_sums = first_unknown(keys, &p.bases, p.known_sums);
+    p.known_sums = first_unknown(keys, &p.touched, p.known_sums);
     match keys.get(p.known_sums) {
         Some(key) => Some(*key),
         None => None,
@@ -252,18 +250,28 @@ fn next_sum(p: &mut Parts) -> Option<Key>
 }
 
 /// The index of the first key, from an index on, that is not known; the number of keys or more if all are known.
-fn first_unknown(keys: &[Key], bases: &Overlay, from: usize) -> usize
-    ensures known { (k : ℕ) (key : List ℕ) → from ≤ k → k < result → slice_get keys.now k ≡ Some key → IsSome (map.get bases.now key) }
-    ensures unknown { (key : List ℕ) → slice_get keys.now result ≡ Some key → map.get bases.now key ≡ None }
+fn first_unknown(keys: &[Key], touched: &TouchedKeys, from: usize) -> usize
+    ensures known { (k : ℕ) (key : List ℕ) → from ≤ k → k < result → slice_get keys.now k ≡ Some key → IsSome (map.get touched.now.bases key) }
+    ensures unknown { (key : List ℕ) → slice_get keys.now result ≡ Some key → map.get touched.now.bases key ≡ None }
 {
     let mut at = from;
     while at < keys.len() {
-        if bases.get(&keys[at]).is_none() {
+        if !has_base(touched, &keys[at]) {
             return at;
         }
         at += 1;
     }
     at
+}
+
+/// Whether the host answered a key.
+fn has_base(touched: &TouchedKeys, key: &Key) -> bool
+    ensures { result ≡ is_some (map.get touched.now.bases key.now) }
+{
+    match touched.get(key) {
+        Some(slot) => slot.base.is_some(),
+        None => false,
+    }
 }
 
 /// Keeps what the host has at a key that is not known. Refused if memory ran out, and then nothing changes.
@@ -273,11 +281,11 @@ pub(crate) fn keep_base(
     content: Option<StoredValue>,
 ) -> Result<(), AllocError>
     requires in_order { IsInOrder p.old }
-    requires unknown { map.get p.old.bases key ≡ None }
+    requires unknown { map.get p.old.touched.bases key ≡ None }
     requires unlisted { p.old.listed ≡ None }
     ensures in_order { IsInOrder p.new }
-    ensures ok { OnOk result (p.new ≡ record p.old { bases = map.insert p.old.bases key content }) }
+    ensures ok { OnOk result (p.new ≡ record p.old { touched = record p.old.touched { bases = map.insert p.old.touched.bases key content } }) }
     ensures err { OnErr result (p.new ≡ p.old) }
 {
-    p.bases.set(key, content)
+    p.touched.set_base(key, content)
 }

@@ -6,9 +6,8 @@ ghost use Rattle.rv_step.specs.Run.{asked_key, steps_left};
 ghost use Rattle.host_block.specs.Changes.{known_after};
 ghost use Rattle.host_block.specs.Known.{IsAnsweredIfKnown, IsCallPause, KeepsAnswers};
 
-use crate::change_map::ChangeMap;
 use crate::known::{Known, look_up};
-use overlay::Overlay;
+use crate::touched_keys::TouchedKeys;
 use read_set::Origin;
 use rv_ledger::{Key, LentValue};
 use rv_step::{Pause, Run};
@@ -18,15 +17,14 @@ use std::alloc::AllocError;
 /// ran out; then the run is before the instruction that needed memory, or still asks, and may continue.
 pub(crate) fn run_call(
     run: &mut Run,
-    changes: &ChangeMap,
-    bases: &Overlay,
+    touched: &TouchedKeys,
 ) -> Result<Option<Key>, AllocError>
     ensures call { run.new.call ≡ run.old.call }
-    ensures from { KeepsAnswers bases.now changes.now run.old run.new }
-    ensures stopped { IfOk result (λ asked. IsCallPause asked bases.now changes.now run.new) }
+    ensures from { KeepsAnswers touched.now.bases touched.now.changes run.old run.new }
+    ensures stopped { IfOk result (λ asked. IsCallPause asked touched.now.bases touched.now.changes run.new) }
 {
     while let Pause::Ask(key) = run.go()? {
-        if !answer_known(run, changes, bases, &key)? {
+        if !answer_known(run, touched, &key)? {
             return Ok(Some(key));
         }
     }
@@ -37,16 +35,15 @@ pub(crate) fn run_call(
 /// changes.
 fn answer_known(
     run: &mut Run,
-    changes: &ChangeMap,
-    bases: &Overlay,
+    touched: &TouchedKeys,
     key: &Key,
 ) -> Result<bool, AllocError>
     requires { asked_key run.old.stage ≡ Some key.now }
-    ensures ok { IfOk result (λ is_known. IsAnsweredIfKnown (known_after (map.get changes.now key.now) (map.get bases.now key.now)) key.now is_known run.old run.new) }
+    ensures ok { IfOk result (λ is_known. IsAnsweredIfKnown (known_after (map.get touched.now.changes key.now) (map.get touched.now.bases key.now)) key.now is_known run.old run.new) }
     ensures err { OnErr result (run.new ≡ run.old) }
     ensures fewer { IfOk result (λ is_known. is_known ≡ true → steps_left run.new < steps_left run.old) }
 {
-    match look_up(changes, bases, key) {
+    match look_up(touched, key) {
         Known::Content(content) => {
             run.answer_lent(LentValue::of_stored(content), Origin::plain(None))?;
             Ok(true)

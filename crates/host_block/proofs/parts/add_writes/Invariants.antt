@@ -6,8 +6,9 @@ use Rattle.host_block.proofs.parts.add_writes.Given as goal
 
 abbrev pub invariant-loop-count : goal.invariant-loop-count
 invariant-loop-count l = record {
-  same : (store : Storage) → now_with l.changes l.writes l.count store ≡ now_with l.fn.changes l.writes l.fn.count store;
-  written : (key : List ℕ) → map.contains_key l.changes key ≡ true → (map.contains_key l.fn.changes key ≡ true) ⊎ (map.contains_key l.writes key ≡ true);
+  bases : l.touched.bases ≡ l.fn.touched.bases;
+  same : (store : Storage) → now_with l.touched.changes l.writes l.count store ≡ now_with l.fn.touched.changes l.writes l.fn.count store;
+  written : (key : List ℕ) → map.contains_key l.touched.changes key ≡ true → (map.contains_key l.fn.touched.changes key ≡ true) ⊎ (map.contains_key l.writes key ≡ true);
 }
 
 abbrev pub decreases-loop-count : goal.decreases-loop-count

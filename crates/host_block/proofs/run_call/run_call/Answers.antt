@@ -5,7 +5,7 @@ use Rattle.host_block.proofs.run_call.run_call.Goals as goal
 
 pub loop-key-preserved : goal.loop-key-preserved
 loop-key-preserved c =
-    let gone : KeepsAnswers c.args.bases.now c.args.changes.now c.go.new.self c.answer_known.new.run = is_answered_from c.args.bases.now c.args.changes.now c.in-Ask.key _ c.in_ok-answer_known.field-0 c.go.new.self c.answer_known.new.run refl c.in_ok-answer_known.ensures.ok in
+    let gone : KeepsAnswers c.args.touched.now.bases c.args.touched.now.changes c.go.new.self c.answer_known.new.run = is_answered_from c.args.touched.now.bases c.args.touched.now.changes c.in-Ask.key _ c.in_ok-answer_known.field-0 c.go.new.self c.answer_known.new.run refl c.in_ok-answer_known.ensures.ok in
     record {
       call = is_answered_call _ c.in-Ask.key c.in_ok-answer_known.field-0 c.go.new.self c.answer_known.new.run c.in_ok-answer_known.ensures.ok ∙ c.go.ensures.call ∙ c.loop-key.invariant.call;
       from = λ store agrees from. gone store agrees (rw c.go.ensures.answers (c.loop-key.invariant.from store agrees from));

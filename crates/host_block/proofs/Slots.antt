@@ -1,0 +1,165 @@
+-- The parts of slots: what is found of each, what an edit changes, and how they are listed.
+use Rattle.std.proofs.Common.{◌≡◌, ℕ, Bool, true, false, cond, T, List, [], ◌∷◌, Option, None, Some, refl, sym, ap, ◌∙◌}
+use Rattle.std.specs.FinMap.{empty, entries, entries-from_sorted, entries_sorted, find, from_entries, from_sorted, get, get-empty, get-entries, get-from_entries, get-from_sorted, get-insert, insert, is_sorted, same_map}
+use Rattle.std.specs.FinMap.Entries.{below_all}
+use Rattle.std.specs.Cmp.{eq_by_cmp_equiv}
+use Rattle.std.specs.Cmp.Lexicographic.{nat_list_cmp_total}
+use Rattle.std.specs.Option.{option_map}
+use Rattle.std.specs.Ordering.{eq_by_cmp, is_eq, is_lt}
+use Rattle.std.proofs.Math.Facts.{and_yes, yes_and}
+use Rattle.overlay.specs.Overlay.{Changes}
+use Rattle.rv_ledger.proofs.Entries.{get_value, key_cmp-IsAntisymmetric, one_set}
+use Rattle.rv_ledger.proofs.SortedKeys.{less}
+use Rattle.rv_ledger.specs.Change.{Content, ContentChange}
+use Rattle.rv_ledger.specs.Key.{WriteMap, key_cmp}
+use Rattle.host_block.specs.Changes.{listed_changes, resolved}
+use Rattle.host_block.specs.Ordered.{sum_keys}
+use Rattle.host_block.specs.Positions.{IsSetAt, SlotList, slot_of, with_base, with_change}
+use Rattle.host_block.specs.Slots.{AreSlots, Slots, TouchedView, base_in, change_in, part_map, parts_of, touched_view, with_entry}
+use Rattle.host_block.specs.declared.slot.Slot.{Slot}
+use Rattle.host_block.proofs.Changing.{same_key}
+use Rattle.host_block.proofs.Settling.{list_of}
+
+find_below : {X : Type 0} (q : List ℕ) (es : List (List ℕ × X)) → T (below_all key_cmp q es) → find key_cmp q es ≡ None
+find_below q [] h = refl
+find_below q (e ∷ es) h =
+    let both = and_yes (is_lt (key_cmp q e.0)) (below_all key_cmp q es) h in
+    ap (λ r. cond (is_eq r) (Some e.1) (find key_cmp q es)) (less (key_cmp q e.0) both.0) ∙ find_below q es both.1
+
+-- the key of the first entry is not among the others
+first_only : {X : Type 0} (e : List ℕ × X) (es : List (List ℕ × X)) (q : List ℕ) → T (is_sorted key_cmp (e ∷ es)) → eq_by_cmp key_cmp q e.0 ≡ true → find key_cmp q es ≡ None
+first_only e es q h same =
+    let both = and_yes (below_all key_cmp e.0 es) (is_sorted key_cmp es) h in
+    ap (λ k. find key_cmp k es) (same_key q e.0 same) ∙ find_below e.0 es both.0
+
+rest_sorted : {X : Type 0} (e : List ℕ × X) (es : List (List ℕ × X)) → T (is_sorted key_cmp (e ∷ es)) → T (is_sorted key_cmp es)
+rest_sorted e es h = (and_yes (below_all key_cmp e.0 es) (is_sorted key_cmp es) h).1
+
+-- ---- a part of slots
+
+module _ {X : Type 0} (part : Option Slot → Option X) (none : part None ≡ None) where
+  below_parts : (k : List ℕ) (es : SlotList) → T (below_all key_cmp k es) → T (below_all key_cmp k (parts_of part es))
+  below_parts k [] h = tt
+  below_parts k (e ∷ es) h = let both = and_yes (is_lt (key_cmp k e.0)) (below_all key_cmp k es) h in by (part (Some e.1)) both.0 (below_parts k es both.1)
+    where
+      by : (o : Option X) → T (is_lt (key_cmp k e.0)) → T (below_all key_cmp k (parts_of part es)) → T (below_all key_cmp k (with_entry e.0 o (parts_of part es)))
+      by None first rest = rest
+      by (Some x) first rest = yes_and _ _ first rest
+
+  sorted_parts : (es : SlotList) → T (is_sorted key_cmp es) → T (is_sorted key_cmp (parts_of part es))
+  sorted_parts [] h = tt
+  sorted_parts (e ∷ es) h = let both = and_yes (below_all key_cmp e.0 es) (is_sorted key_cmp es) h in by (part (Some e.1)) both.0 (sorted_parts es both.1)
+    where
+      by : (o : Option X) → T (below_all key_cmp e.0 es) → T (is_sorted key_cmp (parts_of part es)) → T (is_sorted key_cmp (with_entry e.0 o (parts_of part es)))
+      by None first rest = rest
+      by (Some x) first rest = yes_and _ _ (below_parts e.0 es first) rest
+
+  find_part : (es : SlotList) → T (is_sorted key_cmp es) → (q : List ℕ) → find key_cmp q (parts_of part es) ≡ part (find key_cmp q es)
+  find_part [] h q = sym none
+  find_part (e ∷ es) h q = by (find_part es (rest_sorted e es h) q) (part (Some e.1)) refl (eq_by_cmp key_cmp q e.0) refl
+    where
+      by : find key_cmp q (parts_of part es) ≡ part (find key_cmp q es) → (o : Option X) → part (Some e.1) ≡ o → (b : Bool) → eq_by_cmp key_cmp q e.0 ≡ b → find key_cmp q (with_entry e.0 o (parts_of part es)) ≡ part (cond b (Some e.1) (find key_cmp q es))
+      by rest None is true same = rest ∙ ap part (first_only e es q h same) ∙ none ∙ sym is
+      by rest None is false same = rest
+      by rest (Some x) is true same = ap (λ b. cond b (Some x) (find key_cmp q (parts_of part es))) same ∙ sym is
+      by rest (Some x) is false same = ap (λ b. cond b (Some x) (find key_cmp q (parts_of part es))) same ∙ rest
+
+  -- what the part of slots has at a key
+  pub get_part : (m : Slots) (q : List ℕ) → get (part_map part m) q ≡ part (get m q)
+  get_part m q = get-from_entries nat_list_cmp_total (parts_of part (entries m)) q ∙ find_part (entries m) (entries_sorted m) q ∙ ap part (sym (get-entries m q))
+
+  -- its entries are those of the slots that have it
+  pub entries_part : (m : Slots) → entries (part_map part m) ≡ parts_of part (entries m)
+  entries_part m =
+      let es : List (List ℕ × X) = parts_of part (entries m) in
+      let test : T (is_sorted key_cmp es) = sorted_parts (entries m) (entries_sorted m) in
+      ap entries (same_map nat_list_cmp_total key_cmp-IsAntisymmetric (from_entries es) (from_sorted es) (λ q. get-from_entries nat_list_cmp_total es q ∙ sym (get-from_sorted key_cmp es q test)))
+      ∙ entries-from_sorted key_cmp es test
+
+  -- a slot with another part was set
+  part_set : (m : Slots) (key : List ℕ) (slot : Slot) (x : X) → part (Some slot) ≡ Some x → part_map part (insert m key slot) ≡ insert (part_map part m) key x
+  part_set m key slot x is = same_map nat_list_cmp_total key_cmp-IsAntisymmetric _ _ (λ q.
+      get_part (insert m key slot) q ∙ ap part (get-insert nat_list_cmp_total m key slot q) ∙ by q (eq_by_cmp key_cmp q key)
+      ∙ sym (get-insert nat_list_cmp_total (part_map part m) key x q ∙ ap (cond (eq_by_cmp key_cmp q key) (Some x)) (get_part m q)))
+    where
+      by : (q : List ℕ) (b : Bool) → part (cond b (Some slot) (get m q)) ≡ cond b (Some x) (part (get m q))
+      by q true = is
+      by q false = refl
+
+  -- a slot with the same part was set
+  part_kept : (m : Slots) (key : List ℕ) (slot : Slot) → part (Some slot) ≡ part (get m key) → part_map part (insert m key slot) ≡ part_map part m
+  part_kept m key slot is = same_map nat_list_cmp_total key_cmp-IsAntisymmetric _ _ (λ q.
+      get_part (insert m key slot) q ∙ ap part (get-insert nat_list_cmp_total m key slot q) ∙ by q (eq_by_cmp key_cmp q key) refl ∙ sym (get_part m q))
+    where
+      by : (q : List ℕ) (b : Bool) → eq_by_cmp key_cmp q key ≡ b → part (cond b (Some slot) (get m q)) ≡ part (get m q)
+      by q true same = is ∙ ap (λ k. part (get m k)) (sym (same_key q key same))
+      by q false same = refl
+
+  part_of_none : part_map part (from_entries []) ≡ empty
+  part_of_none = same_map nat_list_cmp_total key_cmp-IsAntisymmetric _ _ (λ q. get_part (from_entries []) q ∙ ap part (get_value [] q) ∙ none ∙ sym (get-empty key_cmp q))
+
+-- ---- the keys that were touched
+
+abbrev view_of : Changes → WriteMap → TouchedView
+view_of bases changes = record { bases = bases; changes = changes }
+
+views : (bases bases' : Changes) (changes changes' : WriteMap) → bases ≡ bases' → changes ≡ changes' → view_of bases changes ≡ view_of bases' changes'
+views bases bases' changes changes' b c = ap (λ (m : Changes). view_of m changes) b ∙ ap (view_of bases') c
+
+pub none_touched : (es : SlotList) → es ≡ [] → touched_view (from_entries es) ≡ view_of empty empty
+none_touched es is = ap (λ (xs : SlotList). touched_view (from_entries xs)) is ∙ views _ _ _ _ (part_of_none base_in refl) (part_of_none change_in refl)
+
+pub base_set : (es fs : SlotList) (key : List ℕ) (content : Content) → IsSetAt es fs key (with_base content (slot_of es key))
+    → touched_view (from_entries fs) ≡ view_of (insert (part_map base_in (from_entries es)) key content) (part_map change_in (from_entries es))
+base_set es fs key content h =
+    let slot : Slot = with_base content (slot_of es key) in
+    ap touched_view (one_set es fs key slot h)
+    ∙ views _ _ _ _ (part_set base_in refl (from_entries es) key slot content refl) (part_kept change_in refl (from_entries es) key slot (sym (ap change_in (get_value es key))))
+
+pub change_set : (es fs : SlotList) (key : List ℕ) (change : ContentChange) → IsSetAt es fs key (with_change change (slot_of es key))
+    → touched_view (from_entries fs) ≡ view_of (part_map base_in (from_entries es)) (insert (part_map change_in (from_entries es)) key change)
+change_set es fs key change h =
+    let slot : Slot = with_change change (slot_of es key) in
+    ap touched_view (one_set es fs key slot h)
+    ∙ views _ _ _ _ (part_kept base_in refl (from_entries es) key slot (sym (ap base_in (get_value es key)))) (part_set change_in refl (from_entries es) key slot change refl)
+
+-- ---- the list of the result
+
+-- what a slot lists
+abbrev pub listed_in : Option Slot → Option Content
+listed_in None = None
+listed_in (Some slot) = option_map (λ change. resolved change slot.base) slot.change
+
+abbrev HasBases : Changes → SlotList → Type 0
+HasBases bases es = (q : List ℕ) (slot : Slot) → find key_cmp q es ≡ Some slot → get bases q ≡ slot.base
+
+rest_bases : (bases : Changes) (e : List ℕ × Slot) (es : SlotList) → T (is_sorted key_cmp (e ∷ es)) → HasBases bases (e ∷ es) → HasBases bases es
+rest_bases bases e es h has q slot found = by (eq_by_cmp key_cmp q e.0) refl
+  where
+    by : (b : Bool) → eq_by_cmp key_cmp q e.0 ≡ b → get bases q ≡ slot.base
+    by true same = let none : find key_cmp q es ≡ None = first_only e es q h same in cc
+    by false other = has q slot (ap (λ b. cond b (Some e.1) (find key_cmp q es)) other ∙ found)
+
+listed_each : (bases : Changes) (es : SlotList) → T (is_sorted key_cmp es) → HasBases bases es → parts_of listed_in es ≡ list_of bases (parts_of change_in es)
+listed_each bases [] h has = refl
+listed_each bases ((key, slot) ∷ es) h has = by (listed_each bases es (rest_sorted (key, slot) es h) (rest_bases bases (key, slot) es h has)) slot.change refl
+  where
+    here : get bases key ≡ slot.base
+    here = has key slot (ap (λ b. cond b (Some slot) (find key_cmp key es)) ((eq_by_cmp_equiv nat_list_cmp_total).refl key))
+
+    by : parts_of listed_in es ≡ list_of bases (parts_of change_in es) → (o : Option ContentChange) → slot.change ≡ o → with_entry key (option_map (λ change. resolved change slot.base) o) (parts_of listed_in es) ≡ list_of bases (with_entry key o (parts_of change_in es))
+    by rest None is = rest
+    by rest (Some change) is = ap (λ (b : Option Content). (key, resolved change b) ∷ parts_of listed_in es) (sym here) ∙ ap (λ (xs : List (List ℕ × Content)). (key, resolved change (get bases key)) ∷ xs) rest
+
+-- the slots list the changes of the result
+pub listed_slots : (m : Slots) → parts_of listed_in (entries m) ≡ listed_changes (part_map base_in m) (part_map change_in m)
+listed_slots m =
+    listed_each (part_map base_in m) (entries m) (entries_sorted m) (λ q slot found. get_part base_in refl m q ∙ ap base_in (get-entries m q ∙ found))
+    ∙ ap (list_of (part_map base_in m)) (sym (entries_part change_in refl m))
+
+pub listed_at_start : (es : SlotList) (touched : TouchedView) → AreSlots es touched → parts_of listed_in es ≡ listed_changes touched.bases touched.changes
+listed_at_start es touched are = ap (parts_of listed_in) are.1 ∙ listed_slots are.0 ∙ ap (λ (t : TouchedView). listed_changes t.bases t.changes) (sym are.2)
+
+pub sums_at_start : (es : SlotList) (touched : TouchedView) → AreSlots es touched → sum_keys (parts_of change_in es) ≡ sum_keys (entries touched.changes)
+sums_at_start es touched are =
+    ap (λ (xs : SlotList). sum_keys (parts_of change_in xs)) are.1 ∙ ap sum_keys (sym (entries_part change_in refl are.0)) ∙ ap (λ (t : TouchedView). sum_keys (entries t.changes)) (sym are.2)
