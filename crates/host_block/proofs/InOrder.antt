@@ -8,7 +8,7 @@ use Rattle.std.specs.Map.{keys_of}
 use Rattle.std.specs.Option.{option_map}
 use Rattle.std.specs.Ordering.{eq_by_cmp}
 use Rattle.std.proofs.Math.Seq.{drop-length}
-use Rattle.std.proofs.lemmas.List.{append-nil, length-append}
+use Rattle.std.proofs.lemmas.List.{append-nil, append_assoc, length-append}
 use Rattle.std.proofs.lemmas.Option.{slice_get_within}
 use Rattle.overlay.proofs.WithChanges.{same_at_all}
 use Rattle.overlay.specs.Overlay.{Changes, with_contents}
@@ -29,7 +29,7 @@ use Rattle.rv_step.specs.declared.spare_run.SpareRun.{SpareRun}
 use Rattle.stm_state.proofs.Writes.{applied_get, content_after}
 use Rattle.host_block.specs.Changes.{Agrees, listed_changes}
 use Rattle.host_block.specs.Known.{KeepsAnswers}
-use Rattle.host_block.specs.Ordered.{AreSums, AreSumsKnown, HasAllWrites, IsInOrder, IsListed, IsRestOf, IsResult, AreCallsSerial, IsUnderWay, IsWritten, OrderedView, now_with, receipts_with, ordered_view}
+use Rattle.host_block.specs.Ordered.{AreSums, AreSumsKnown, HasAllWrites, IsInOrder, IsListed, IsRestOf, IsResult, AreCallsSerial, IsUnderWay, IsWritten, KeepsReceipts, OrderedView, now_with, receipts_with, ordered_view}
 use Rattle.host_block.specs.Slots.{TouchedView}
 use Rattle.host_block.specs.declared.parts.Current.{Current}
 use Rattle.host_block.specs.declared.parts.Current.TheVariants as current
@@ -280,3 +280,11 @@ pub within : (calls : List Invocation) (receipts : List Receipt) (k : Current) (
 within calls receipts current.Next changes bases under = under
 within calls receipts (current.Run run) changes bases under = let less : length receipts < length calls = slice_get_within calls (length receipts) run.call under.0 in omega (arith, less)
 within calls receipts (current.Ended receipt count) changes bases under = omega (arith, under)
+
+-- ---- the receipts stay
+
+pub same_receipts : (before after : List Receipt) → after ≡ before → KeepsReceipts before after
+same_receipts before after is = ([], is ∙ sym (append-nil before))
+
+pub more_receipts : (first before after : List Receipt) → KeepsReceipts first before → KeepsReceipts before after → KeepsReceipts first after
+more_receipts first before after earlier later = (earlier.0 ++ later.0, later.1 ∙ ap (λ (rs : List Receipt). rs ++ later.0) earlier.1 ∙ append_assoc first earlier.0 later.0)

@@ -121,6 +121,10 @@ pub record IsInOrder (p : Parts) : Type 0 where
 abbrev pub SameParts : Parts → Parts → Type 0
 SameParts before after = (after.calls ≡ before.calls) × (after.touched.bases ≡ before.touched.bases)
 
+-- receipts are kept, and others may come after them
+abbrev pub KeepsReceipts : List Receipt → List Receipt → Type 0
+KeepsReceipts before after = (more : List Receipt) × (after ≡ before ++ more)
+
 -- a key is wanted
 abbrev pub Wants : Parts → List ℕ → Type 0
 Wants p key = IsWanted p.calls.items p.receipts.items p.touched.changes p.touched.bases key × (p.listed ≡ None)
@@ -199,7 +203,8 @@ IsStopped None v = (v.asked ≡ None) × IsSome v.result
 
 -- the key that was asked for has this content, and nothing else changes
 abbrev pub IsBaseKept : Content → OrderedView → OrderedView → Type 0
-IsBaseKept content before after = IfSome before.asked (λ key. after ≡ record before { bases = map.insert before.bases key content; asked = None })
+IsBaseKept content before after =
+    (key : List ℕ) × (before.asked ≡ Some key) × (after ≡ record before { bases = map.insert before.bases key content; asked = None })
 
 -- an answer is refused because no key is asked for; or one is, and memory ran out
 abbrev pub IsBaseFault : BaseFault → OrderedView → Type 0

@@ -55,10 +55,10 @@ pub struct BlockResult<'a> {
 }
 
 impl OrderedRun {
-    ghost use Rattle.std.specs.Prelude.{◌≡◌, [], IfOk, IfErr, IfSome, OnErr, OnOk, None, Some};
+    ghost use Rattle.std.specs.Prelude.{◌≡◌, [], IfOk, IfErr, IfSome, OnErr, OnOk, None, Ok, Some};
     ghost use Rattle.std.specs.FinMap as map;
     ghost use Rattle.rv_ledger.specs.Lent.{lent_content};
-    ghost use Rattle.host_block.specs.Ordered.{AreResults, IsBaseFault, IsBaseKept, IsStopped, SameGiven};
+    ghost use Rattle.host_block.specs.Ordered.{AreResults, IsBaseFault, IsBaseKept, IsStopped, KeepsReceipts, SameGiven};
 
     /// The run of some calls before its first step. Takes no memory.
     pub fn new(alloc: Global, calls: Vec<Call>) -> OrderedRun
@@ -88,15 +88,21 @@ impl OrderedRun {
     }
 
     /// Continues until a key is needed that the host did not answer, which is returned, or until all calls have ended. A run that
-    /// waits for an answer stays as it is. Refused if memory ran out; then the run is before the instruction that needed memory, and may continue.
+    /// waits for an answer, or that has its result, stays as it is. Refused if memory ran out; then the run is before the instruction
+    /// that needed memory, and may continue.
     pub fn go(&mut self) -> Result<Option<Key>, AllocError>
         ensures stays { SameGiven self.old self.new }
+        ensures keeps { KeepsReceipts self.old.receipts self.new.receipts }
         ensures stop { IfOk result (λ asked. IsStopped asked self.new) }
         ensures asked { IfSome self.old.asked (λ key. self.new ≡ self.old) }
-        ensures err { OnErr result (self.new.asked ≡ None) }
+        ensures ended { IfSome self.old.result (λ changes. (self.new ≡ self.old) × (result ≡ Ok None)) }
+        ensures err { OnErr result ((self.new.asked ≡ None) × (self.new.result ≡ None)) }
     {
         if let Some(key) = self.asked {
             return Ok(Some(key));
+        }
+        if self.parts.listed.is_some() {
+            return Ok(None);
         }
         match run_block(&mut self.parts)? {
             Some(key) => {

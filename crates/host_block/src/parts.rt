@@ -2,7 +2,7 @@
 
 ghost use Rattle.std.specs.Prelude.{◌≡◌, ◌⊎◌, ◌<◌, ◌≤◌, ◌+◌, ℕ, List, [], drop, true, IfOk, IsSome, OnErr, OnOk, None, Some, is_some, length, slice_get, vec_capacity, vec_len};
 ghost use Rattle.std.specs.FinMap as map;
-ghost use Rattle.host_block.specs.Ordered.{HasAllWrites, HasBegun, IsCallOver, HasEndedRun, IsCallStop, IsInOrder, IsNextSum, IsRunStop, IsStop, SameParts, now_with};
+ghost use Rattle.host_block.specs.Ordered.{HasAllWrites, HasBegun, IsCallOver, HasEndedRun, IsCallStop, IsInOrder, IsNextSum, IsRunStop, IsStop, KeepsReceipts, SameParts, now_with};
 ghost use Rattle.rv_ledger.specs.Key.{Storage};
 
 use crate::listing::{listed, sum_keys};
@@ -47,13 +47,17 @@ pub struct Parts {
     pub(crate) listed: Option<Vec<(Key, Option<StoredValue>)>>,
 }
 
+#[tactic(auto, using(crate::proofs::InOrder::same_receipts, crate::proofs::InOrder::more_receipts))]
 /// Continues until a key is needed that is not known, which is returned, or until the changes are listed. Refused if memory ran
 /// out; then nothing is lost, and it may continue.
 pub(crate) fn run_block(p: &mut Parts) -> Result<Option<Key>, AllocError>
-    requires { IsInOrder p.old }
+    requires in_order { IsInOrder p.old }
+    requires unlisted { p.old.listed ≡ None }
     ensures in_order { IsInOrder p.new }
     ensures leaves { SameParts p.old p.new }
+    ensures keeps { KeepsReceipts p.old.receipts.items p.new.receipts.items }
     ensures stop { IfOk result (λ asked. IsStop asked p.new) }
+    ensures unlisted { OnErr result (p.new.listed ≡ None) }
 {
     while p.receipts.len() < p.calls.len() {
         if let Some(key) = go_call(p)? {
@@ -69,6 +73,8 @@ fn go_call(p: &mut Parts) -> Result<Option<Key>, AllocError>
     requires more { length p.old.receipts.items < length p.old.calls.items }
     ensures in_order { IsInOrder p.new }
     ensures leaves { SameParts p.old p.new }
+    ensures listed { p.new.listed ≡ p.old.listed }
+    ensures keeps { KeepsReceipts p.old.receipts.items p.new.receipts.items }
     ensures stop { IfOk result (λ asked. IsCallStop asked (length p.old.receipts.items) p.new) }
 {
     begin(p)?;
@@ -85,6 +91,7 @@ fn begin(p: &mut Parts) -> Result<(), AllocError>
     requires more { length p.old.receipts.items < length p.old.calls.items }
     ensures in_order { IsInOrder p.new }
     ensures leaves { SameParts p.old p.new }
+    ensures listed { p.new.listed ≡ p.old.listed }
     ensures receipts { p.new.receipts ≡ p.old.receipts }
     ensures begun { OnOk result (HasBegun p.new) }
 {
@@ -103,6 +110,7 @@ fn run_on(p: &mut Parts) -> Result<Option<Key>, AllocError>
     requires more { length p.old.receipts.items < length p.old.calls.items }
     ensures in_order { IsInOrder p.new }
     ensures leaves { SameParts p.old p.new }
+    ensures listed { p.new.listed ≡ p.old.listed }
     ensures receipts { p.new.receipts ≡ p.old.receipts }
     ensures stop { IfOk result (λ asked. IsRunStop asked p.new) }
 {
@@ -122,6 +130,7 @@ fn end_call(p: &mut Parts)
     requires more { length p.old.receipts.items < length p.old.calls.items }
     ensures in_order { IsInOrder p.new }
     ensures leaves { SameParts p.old p.new }
+    ensures listed { p.new.listed ≡ p.old.listed }
     ensures receipts { p.new.receipts ≡ p.old.receipts }
     ensures ended { IsCallOver p.new }
 {
@@ -147,6 +156,8 @@ fn keep(p: &mut Parts) -> Result<(), AllocError>
     requires ended { IsCallOver p.old }
     ensures in_order { IsInOrder p.new }
     ensures leaves { SameParts p.old p.new }
+    ensures listed { p.new.listed ≡ p.old.listed }
+    ensures keeps { KeepsReceipts p.old.receipts.items p.new.receipts.items }
     ensures receipts { OnOk result (length p.new.receipts.items ≡ length p.old.receipts.items + 1) }
 {
     p.receipts.reserve(1)?;
@@ -182,6 +193,8 @@ fn keep_receipt(p: &mut Parts)
     requires room { vec_len p.old.receipts < vec_capacity p.old.receipts }
     ensures in_order { IsInOrder p.new }
     ensures leaves { SameParts p.old p.new }
+    ensures listed { p.new.listed ≡ p.old.listed }
+    ensures keeps { KeepsReceipts p.old.receipts.items p.new.receipts.items }
     ensures receipts { length p.new.receipts.items ≡ length p.old.receipts.items + 1 }
 {
     match replace(&mut p.current, Current::Next) {
@@ -195,13 +208,13 @@ fn keep_receipt(p: &mut Parts)
 fn settle(p: &mut Parts) -> Result<Option<Key>, AllocError>
     requires in_order { IsInOrder p.old }
     requires ended { length p.old.receipts.items ≡ length p.old.calls.items }
+    requires unlisted { p.old.listed ≡ None }
     ensures in_order { IsInOrder p.new }
     ensures leaves { SameParts p.old p.new }
+    ensures receipts { p.new.receipts ≡ p.old.receipts }
     ensures stop { IfOk result (λ asked. IsStop asked p.new) }
+    ensures unlisted { OnErr result (p.new.listed ≡ None) }
 {
-    if p.listed.is_some() {
-        return Ok(None);
-    }
     find_sums(p)?;
     if let Some(key) = next_sum(p) {
         return Ok(Some(key));
@@ -218,6 +231,7 @@ fn find_sums(p: &mut Parts) -> Result<(), AllocError>
     ensures in_order { IsInOrder p.new }
     ensures leaves { SameParts p.old p.new }
     ensures ended { length p.new.receipts.items ≡ length p.new.calls.items }
+    ensures receipts { p.new.receipts ≡ p.old.receipts }
     ensures unlisted { p.new.listed ≡ None }
     ensures found { OnOk result (IsSome p.new.sums) }
 {
@@ -237,6 +251,7 @@ fn next_sum(p: &mut Parts) -> Option<Key>
     requires ended { length p.old.receipts.items ≡ length p.old.calls.items }
     ensures in_order { IsInOrder p.new }
     ensures leaves { SameParts p.old p.new }
+    ensures receipts { p.new.receipts ≡ p.old.receipts }
     ensures unlisted { p.new.listed ≡ None }
     ensures next { IsNextSum result p.new }
     ensures ended { length p.new.receipts.items ≡ length p.new.calls.items }
