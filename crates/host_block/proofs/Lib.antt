@@ -5,3 +5,4 @@ pub mod Serials
 pub mod Positions
 pub mod Slots
 pub mod InOrder
+pub mod Hosts

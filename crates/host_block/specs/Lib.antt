@@ -3,3 +3,4 @@ pub mod Known
 pub mod Positions
 pub mod Slots
 pub mod Ordered
+pub mod Hosts

@@ -36,6 +36,10 @@ pub record OrderedView : Type 0 where
   pub asked : Option (List ℕ)
   pub result : Option (List (List ℕ × Content))
 
+-- a run before its first step
+abbrev pub new_run : List Invocation → OrderedView
+new_run calls = record { calls = calls; receipts = []; changes = map.empty; bases = map.empty; asked = None; result = None }
+
 -- the result of a block in order: for every storage that has what the host answered, the receipts are those of the calls one
 -- after another over it, and the changes lead from it to the storage after the last call
 abbrev pub IsResult : List Invocation → Changes → List Receipt → List (List ℕ × Content) → Type 0

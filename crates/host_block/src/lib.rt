@@ -3,6 +3,7 @@
 
 mod hints;
 mod known;
+mod laws;
 mod listing;
 mod ordered_run;
 mod parts;
@@ -12,4 +13,5 @@ mod slot_iter;
 mod slot_table;
 mod touched_keys;
 
+pub use laws::host_gets_calls_in_order;
 pub use ordered_run::{BaseFault, BlockResult, OrderedRun};

@@ -55,14 +55,14 @@ pub struct BlockResult<'a> {
 }
 
 impl OrderedRun {
-    ghost use Rattle.std.specs.Prelude.{◌≡◌, [], IfOk, IfErr, IfSome, OnErr, OnOk, None, Ok, Some};
+    ghost use Rattle.std.specs.Prelude.{◌≡◌, IfOk, IfErr, IfSome, OnErr, OnOk, None, Ok, Some};
     ghost use Rattle.std.specs.FinMap as map;
     ghost use Rattle.rv_ledger.specs.Lent.{lent_content};
-    ghost use Rattle.host_block.specs.Ordered.{AreResults, IsBaseFault, IsBaseKept, IsStopped, KeepsReceipts, SameGiven};
+    ghost use Rattle.host_block.specs.Ordered.{AreResults, IsBaseFault, IsBaseKept, IsStopped, KeepsReceipts, SameGiven, new_run};
 
     /// The run of some calls before its first step. Takes no memory.
     pub fn new(alloc: Global, calls: Vec<Call>) -> OrderedRun
-        ensures { result ≡ record { calls = calls.items; receipts = []; changes = map.empty; bases = map.empty; asked = None; result = None } }
+        ensures { result ≡ new_run calls.items }
     {
         OrderedRun {
             parts: Parts {

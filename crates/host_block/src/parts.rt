@@ -47,9 +47,9 @@ pub struct Parts {
     pub(crate) listed: Option<Vec<(Key, Option<StoredValue>)>>,
 }
 
-#[tactic(auto, using(crate::proofs::InOrder::same_receipts, crate::proofs::InOrder::more_receipts))]
 /// Continues until a key is needed that is not known, which is returned, or until the changes are listed. Refused if memory ran
 /// out; then nothing is lost, and it may continue.
+#[tactic(auto, using(crate::proofs::InOrder::same_receipts, crate::proofs::InOrder::more_receipts))]
 pub(crate) fn run_block(p: &mut Parts) -> Result<Option<Key>, AllocError>
     requires in_order { IsInOrder p.old }
     requires unlisted { p.old.listed ≡ None }

@@ -1,11 +1,10 @@
 -- What the calls on a block return, and what they make of it.
 use Rattle.std.specs.Prelude.{◌≡◌, ◌⊎◌, ◌&&◌, ℕ, Bool, true, false, nat_le, nat_lt, ◌==◌, if◌then◌else◌, List, [], ◌∷◌, ◌++◌, length, Contains, Option, Some, None, IfSome, Result, Ok, Err}
-use Rattle.std.specs.FinMap as map
 use Rattle.std.specs.Map.{keys_of}
 use Rattle.std.specs.Option.{option_map}
 use Rattle.std.specs.declared.alloc.AllocError.{AllocError}
 use Rattle.elf32.specs.Layout.{Layout}
-use Rattle.host_block.specs.Ordered.{AreResults, IsBaseKept, IsResult, IsStopped, IsWanted, IsWritten, OrderedView, SameGiven}
+use Rattle.host_block.specs.Ordered.{AreResults, IsBaseKept, IsResult, IsStopped, IsWanted, IsWritten, KeepsReceipts, OrderedView, SameGiven, new_run}
 use Rattle.host_block.specs.declared.ordered_run.BlockResult.{BlockResult}
 use Rattle.rv_ledger.specs.Call.{Invocation, call_of}
 use Rattle.rv_ledger.specs.Change.{Content}
@@ -103,10 +102,6 @@ AddsCallOf (Some program) gas input before status after = AddsCall program gas i
 
 -- ---- the run
 
--- a run before its first step
-abbrev pub new_run : List Invocation → OrderedView
-new_run calls = record { calls = calls; receipts = []; changes = map.empty; bases = map.empty; asked = None; result = None }
-
 -- the run of a block, which begins if it has not
 abbrev pub run_at : BlockStage → OrderedView
 run_at (Calls calls) = new_run calls
@@ -119,14 +114,23 @@ HasBegunRun before after = (after.rules ≡ before.rules) × (after.stage ≡ Ru
 abbrev pub Waits : OrderedView → OrderedView → Type 0
 Waits before after = IfSome before.asked (λ key. after ≡ before)
 
+-- a run that has its result stays, and says so again
+abbrev pub StaysEnded : {X : Type 0} → X → X → OrderedView → OrderedView → Type 0
+StaysEnded ended said before after = IfSome before.result (λ changes. (after ≡ before) × (said ≡ ended))
+
+-- what a run keeps while it goes on: the calls, the answers and the receipts
+abbrev pub Keeps : OrderedView → OrderedView → Type 0
+Keeps before after = SameGiven before after × KeepsReceipts before.receipts after.receipts × Waits before after
+
 -- a run went on: to a key or its end, or memory ran out
 abbrev pub IsGoneTo : Result (Option (List ℕ)) AllocError → OrderedView → Type 0
 IsGoneTo (Ok asked) run = IsStopped asked run
-IsGoneTo (Err error) run = run.asked ≡ None
+IsGoneTo (Err error) run = (run.asked ≡ None) × (run.result ≡ None)
 
 abbrev pub IsGone : BlockView → Result (Option (List ℕ)) AllocError → BlockView → Type 0
 IsGone before stopped after =
-    (after.rules ≡ before.rules) × (run : OrderedView) × (after.stage ≡ Runs run) × SameGiven (run_at before.stage) run × Waits (run_at before.stage) run × IsGoneTo stopped run
+    (after.rules ≡ before.rules) × (run : OrderedView) × (after.stage ≡ Runs run) × Keeps (run_at before.stage) run × StaysEnded (Ok None) stopped (run_at before.stage) run
+    × IsGoneTo stopped run
 
 -- the result of a run: for every storage that has what was answered, the receipts are those of the calls in order over it, and the
 -- changes lead from it to the storage after them; the changed keys ascend, and each is written by a call
@@ -140,11 +144,11 @@ abbrev pub IsRunStatus : OrderedView → ℕ → List ℕ → List ℕ → Type 
 IsRunStatus run status before after =
     ((status ≡ key_wanted) × (run.asked ≡ Some after) × IsWanted run.calls run.receipts run.changes run.bases after)
     ⊎ ((status ≡ ended) × (after ≡ before) × (run.asked ≡ None) × IsEndedRun run)
-    ⊎ ((status ≡ paused) × (after ≡ before) × (run.asked ≡ None))
+    ⊎ ((status ≡ paused) × (after ≡ before) × (run.asked ≡ None) × (run.result ≡ None))
 
 abbrev pub RunsOn : List ℕ → List ℕ → BlockView → ℕ → BlockView → Type 0
 RunsOn key_before key_after before status after =
-    (after.rules ≡ before.rules) × (run : OrderedView) × (after.stage ≡ Runs run) × SameGiven (run_at before.stage) run × Waits (run_at before.stage) run
+    (after.rules ≡ before.rules) × (run : OrderedView) × (after.stage ≡ Runs run) × Keeps (run_at before.stage) run × StaysEnded ended status (run_at before.stage) run
     × IsRunStatus run status key_before key_after
 
 -- the content that a caller gives: a value, or none

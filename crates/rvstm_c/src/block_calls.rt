@@ -3,6 +3,7 @@
 ghost use Rattle.std.specs.Prelude.{◌≡◌, None, Some};
 ghost use Rattle.rvstm_c.specs.Blocks.{AddsCallOf, RunsOn, IsBased, IsBlockClosed, IsBlockOpened, OnBlock, block_view, rules_numbered};
 ghost use Rattle.rvstm_c.specs.Entries.{program_in};
+ghost use Rattle.rvstm_c.specs.Statuses.{closed};
 
 use crate::block::{EmbeddedBlock, Stage, rules_of};
 use crate::block_handle::{BlockHandle, put_block, take_block};
@@ -89,11 +90,11 @@ fn add_call(
 }
 
 /// Begins the run, or continues it, until a call asks for a key that is not known, or until all calls have ended. KEY, and then
-/// `key` has it; ENDED; PAUSED if memory ran out; CLOSED.
+/// `key` has it; ENDED, and each later call returns it again and changes nothing; PAUSED if memory ran out; CLOSED.
 #[unsafe(no_mangle)]
 pub extern "C" fn rvstm_run_go(alloc: Global, handle: &mut BlockHandle, key: &mut KeyForC) -> u32
     ensures gone { OnBlock (RunsOn key.old.bytes key.new.bytes) handle.old.value result handle.new.value }
-    ensures stays { result ≡ 2 → key.new ≡ key.old }
+    ensures stays { result ≡ closed → key.new ≡ key.old }
 {
     let Some(mut block) = take_block(handle, alloc) else {
         return CLOSED;

@@ -1,10 +1,10 @@
 use Rattle.std.proofs.Common.{◌≡◌, ℕ, List, Option, Result, Ok, Err, IfOk, OnErr, None, refl, sym, ap, subst, ◌∙◌}
 use Rattle.std.specs.declared.alloc.AllocError.{AllocError}
-use Rattle.host_block.specs.Ordered.{IsStopped, OrderedView, SameGiven}
-use Rattle.rvstm_c.specs.Blocks.{IsGoneTo, Waits, run_at, stage_of}
+use Rattle.host_block.specs.Ordered.{IsStopped, OrderedView}
+use Rattle.rvstm_c.specs.Blocks.{IsGoneTo, Keeps, StaysEnded, run_at, stage_of}
 use Rattle.rvstm_c.proofs.block.EmbeddedBlock.go.Goals as goal
 
-gone_to : (result : Result (Option (List ℕ)) AllocError) (run : OrderedView) → IfOk result (λ stop. IsStopped stop run) → OnErr result (run.asked ≡ None) → IsGoneTo result run
+gone_to : (result : Result (Option (List ℕ)) AllocError) (run : OrderedView) → IfOk result (λ stop. IsStopped stop run) → OnErr result ((run.asked ≡ None) × (run.result ≡ None)) → IsGoneTo result run
 gone_to (Ok stop) run stopped waits = stopped
 gone_to (Err error) run stopped waits = waits
 
@@ -14,7 +14,7 @@ returns c =
       c.begin.ensures.0,
       c.go.new.self,
       refl,
-      subst (λ r. SameGiven r c.go.new.self) same c.go.ensures.stays,
-      subst (λ r. Waits r c.go.new.self) same c.go.ensures.asked,
+      subst (λ r. Keeps r c.go.new.self) same (c.go.ensures.stays, c.go.ensures.keeps, c.go.ensures.asked),
+      subst (λ r. StaysEnded (Ok None) c.go.result r c.go.new.self) same c.go.ensures.ended,
       gone_to c.go.result c.go.new.self c.go.ensures.stop c.go.ensures.err,
     )
