@@ -83,9 +83,9 @@ begins p run call spare h less next at is = record {
   listed = no_list p _ h less;
 }
 
-pub runs_on : (p : Parts) (run after : RunView) → IsInOrder p → length p.receipts.items < length p.calls.items → p.current ≡ current.Run run
+run_goes : (p : Parts) (run after : RunView) → IsInOrder p → length p.receipts.items < length p.calls.items → p.current ≡ current.Run run
     → after.call ≡ run.call → KeepsAnswers p.touched.bases p.touched.changes run after → IsInOrder (record p { current = current.Run after })
-runs_on p run after h less is call from =
+run_goes p run after h less is call from =
     let was : IsUnderWay p.calls.items p.receipts.items (current.Run run) p.touched.changes p.touched.bases = subst (λ (k : Current). IsUnderWay p.calls.items p.receipts.items k p.touched.changes p.touched.bases) is h.under_way in
     record {
       serial = λ store agrees. subst (λ (k : Current). AreCallsSerial p.calls.items p.receipts.items k p.touched.changes store) is (h.serial store agrees);
@@ -94,6 +94,10 @@ runs_on p run after h less is call from =
       sums = no_sums p _ h less;
       listed = no_list p _ h less;
     }
+
+pub runs_on : (p : Parts) (run after : RunView) (touched : TouchedView) → IsInOrder p → length p.receipts.items < length p.calls.items → p.current ≡ current.Run run
+    → touched ≡ p.touched → after.call ≡ run.call → KeepsAnswers p.touched.bases p.touched.changes run after → IsInOrder (record p { current = current.Run after; touched = touched })
+runs_on p run after touched h less is same call from = subst (λ (t : TouchedView). IsInOrder (record p { current = current.Run after; touched = t })) (sym same) (run_goes p run after h less is call from)
 
 pub call_ends : (p : Parts) (run : RunView) (ended : EndedRun) (spare : SpareRun) → IsInOrder p → length p.receipts.items < length p.calls.items → p.current ≡ current.Run run
     → ended.call ≡ run.call → ended.answers.items ≡ run.answers → ((call : Invocation) (store : Storage) → HasOneReceipt call store)

@@ -14,8 +14,8 @@ use Rattle.rv_ledger.specs.Change.{Content, ContentChange}
 use Rattle.rv_ledger.specs.Key.{WriteMap, key_cmp}
 use Rattle.host_block.specs.Changes.{listed_changes, resolved}
 use Rattle.host_block.specs.Ordered.{sum_keys}
-use Rattle.host_block.specs.Positions.{IsSetAt, SlotList, slot_of, with_base, with_change}
-use Rattle.host_block.specs.Slots.{AreSlots, Slots, TouchedView, base_in, change_in, part_map, parts_of, touched_view, with_entry}
+use Rattle.host_block.specs.Positions.{IsSlotPlaced, IsSlotSetAt, SlotList, slot_at_key, slot_or_none, with_base, with_change}
+use Rattle.host_block.specs.Slots.{AreSlots, SlotMap, TouchedView, slot_base, slot_change, part_map, slot_parts, touched_view, with_part}
 use Rattle.host_block.specs.declared.slot.Slot.{Slot}
 use Rattle.host_block.proofs.Changing.{same_key}
 use Rattle.host_block.proofs.Settling.{list_of}
@@ -38,46 +38,46 @@ rest_sorted e es h = (and_yes (below_all key_cmp e.0 es) (is_sorted key_cmp es) 
 -- ---- a part of slots
 
 module _ {X : Type 0} (part : Option Slot → Option X) (none : part None ≡ None) where
-  below_parts : (k : List ℕ) (es : SlotList) → T (below_all key_cmp k es) → T (below_all key_cmp k (parts_of part es))
+  below_parts : (k : List ℕ) (es : SlotList) → T (below_all key_cmp k es) → T (below_all key_cmp k (slot_parts part es))
   below_parts k [] h = tt
   below_parts k (e ∷ es) h = let both = and_yes (is_lt (key_cmp k e.0)) (below_all key_cmp k es) h in by (part (Some e.1)) both.0 (below_parts k es both.1)
     where
-      by : (o : Option X) → T (is_lt (key_cmp k e.0)) → T (below_all key_cmp k (parts_of part es)) → T (below_all key_cmp k (with_entry e.0 o (parts_of part es)))
+      by : (o : Option X) → T (is_lt (key_cmp k e.0)) → T (below_all key_cmp k (slot_parts part es)) → T (below_all key_cmp k (with_part e.0 o (slot_parts part es)))
       by None first rest = rest
       by (Some x) first rest = yes_and _ _ first rest
 
-  sorted_parts : (es : SlotList) → T (is_sorted key_cmp es) → T (is_sorted key_cmp (parts_of part es))
+  sorted_parts : (es : SlotList) → T (is_sorted key_cmp es) → T (is_sorted key_cmp (slot_parts part es))
   sorted_parts [] h = tt
   sorted_parts (e ∷ es) h = let both = and_yes (below_all key_cmp e.0 es) (is_sorted key_cmp es) h in by (part (Some e.1)) both.0 (sorted_parts es both.1)
     where
-      by : (o : Option X) → T (below_all key_cmp e.0 es) → T (is_sorted key_cmp (parts_of part es)) → T (is_sorted key_cmp (with_entry e.0 o (parts_of part es)))
+      by : (o : Option X) → T (below_all key_cmp e.0 es) → T (is_sorted key_cmp (slot_parts part es)) → T (is_sorted key_cmp (with_part e.0 o (slot_parts part es)))
       by None first rest = rest
       by (Some x) first rest = yes_and _ _ (below_parts e.0 es first) rest
 
-  find_part : (es : SlotList) → T (is_sorted key_cmp es) → (q : List ℕ) → find key_cmp q (parts_of part es) ≡ part (find key_cmp q es)
+  find_part : (es : SlotList) → T (is_sorted key_cmp es) → (q : List ℕ) → find key_cmp q (slot_parts part es) ≡ part (find key_cmp q es)
   find_part [] h q = sym none
   find_part (e ∷ es) h q = by (find_part es (rest_sorted e es h) q) (part (Some e.1)) refl (eq_by_cmp key_cmp q e.0) refl
     where
-      by : find key_cmp q (parts_of part es) ≡ part (find key_cmp q es) → (o : Option X) → part (Some e.1) ≡ o → (b : Bool) → eq_by_cmp key_cmp q e.0 ≡ b → find key_cmp q (with_entry e.0 o (parts_of part es)) ≡ part (cond b (Some e.1) (find key_cmp q es))
+      by : find key_cmp q (slot_parts part es) ≡ part (find key_cmp q es) → (o : Option X) → part (Some e.1) ≡ o → (b : Bool) → eq_by_cmp key_cmp q e.0 ≡ b → find key_cmp q (with_part e.0 o (slot_parts part es)) ≡ part (cond b (Some e.1) (find key_cmp q es))
       by rest None is true same = rest ∙ ap part (first_only e es q h same) ∙ none ∙ sym is
       by rest None is false same = rest
-      by rest (Some x) is true same = ap (λ b. cond b (Some x) (find key_cmp q (parts_of part es))) same ∙ sym is
-      by rest (Some x) is false same = ap (λ b. cond b (Some x) (find key_cmp q (parts_of part es))) same ∙ rest
+      by rest (Some x) is true same = ap (λ b. cond b (Some x) (find key_cmp q (slot_parts part es))) same ∙ sym is
+      by rest (Some x) is false same = ap (λ b. cond b (Some x) (find key_cmp q (slot_parts part es))) same ∙ rest
 
   -- what the part of slots has at a key
-  pub get_part : (m : Slots) (q : List ℕ) → get (part_map part m) q ≡ part (get m q)
-  get_part m q = get-from_entries nat_list_cmp_total (parts_of part (entries m)) q ∙ find_part (entries m) (entries_sorted m) q ∙ ap part (sym (get-entries m q))
+  pub get_part : (m : SlotMap) (q : List ℕ) → get (part_map part m) q ≡ part (get m q)
+  get_part m q = get-from_entries nat_list_cmp_total (slot_parts part (entries m)) q ∙ find_part (entries m) (entries_sorted m) q ∙ ap part (sym (get-entries m q))
 
   -- its entries are those of the slots that have it
-  pub entries_part : (m : Slots) → entries (part_map part m) ≡ parts_of part (entries m)
+  pub entries_part : (m : SlotMap) → entries (part_map part m) ≡ slot_parts part (entries m)
   entries_part m =
-      let es : List (List ℕ × X) = parts_of part (entries m) in
+      let es : List (List ℕ × X) = slot_parts part (entries m) in
       let test : T (is_sorted key_cmp es) = sorted_parts (entries m) (entries_sorted m) in
       ap entries (same_map nat_list_cmp_total key_cmp-IsAntisymmetric (from_entries es) (from_sorted es) (λ q. get-from_entries nat_list_cmp_total es q ∙ sym (get-from_sorted key_cmp es q test)))
       ∙ entries-from_sorted key_cmp es test
 
   -- a slot with another part was set
-  part_set : (m : Slots) (key : List ℕ) (slot : Slot) (x : X) → part (Some slot) ≡ Some x → part_map part (insert m key slot) ≡ insert (part_map part m) key x
+  part_set : (m : SlotMap) (key : List ℕ) (slot : Slot) (x : X) → part (Some slot) ≡ Some x → part_map part (insert m key slot) ≡ insert (part_map part m) key x
   part_set m key slot x is = same_map nat_list_cmp_total key_cmp-IsAntisymmetric _ _ (λ q.
       get_part (insert m key slot) q ∙ ap part (get-insert nat_list_cmp_total m key slot q) ∙ by q (eq_by_cmp key_cmp q key)
       ∙ sym (get-insert nat_list_cmp_total (part_map part m) key x q ∙ ap (cond (eq_by_cmp key_cmp q key) (Some x)) (get_part m q)))
@@ -87,7 +87,7 @@ module _ {X : Type 0} (part : Option Slot → Option X) (none : part None ≡ No
       by q false = refl
 
   -- a slot with the same part was set
-  part_kept : (m : Slots) (key : List ℕ) (slot : Slot) → part (Some slot) ≡ part (get m key) → part_map part (insert m key slot) ≡ part_map part m
+  part_kept : (m : SlotMap) (key : List ℕ) (slot : Slot) → part (Some slot) ≡ part (get m key) → part_map part (insert m key slot) ≡ part_map part m
   part_kept m key slot is = same_map nat_list_cmp_total key_cmp-IsAntisymmetric _ _ (λ q.
       get_part (insert m key slot) q ∙ ap part (get-insert nat_list_cmp_total m key slot q) ∙ by q (eq_by_cmp key_cmp q key) refl ∙ sym (get_part m q))
     where
@@ -100,6 +100,20 @@ module _ {X : Type 0} (part : Option Slot → Option X) (none : part None ≡ No
 
 -- ---- the keys that were touched
 
+base_or_none : (o : Option Slot) → (slot_or_none o).base ≡ slot_base o
+base_or_none None = refl
+base_or_none (Some slot) = refl
+
+change_or_none : (o : Option Slot) → (slot_or_none o).change ≡ slot_change o
+change_or_none None = refl
+change_or_none (Some slot) = refl
+
+same_base : (es : SlotList) (key : List ℕ) → (slot_or_none (slot_at_key es key)).base ≡ slot_base (get {R = key_cmp} (from_entries es) key)
+same_base es key = base_or_none (slot_at_key es key) ∙ sym (ap slot_base (get_value es key))
+
+same_change : (es : SlotList) (key : List ℕ) → (slot_or_none (slot_at_key es key)).change ≡ slot_change (get {R = key_cmp} (from_entries es) key)
+same_change es key = change_or_none (slot_at_key es key) ∙ sym (ap slot_change (get_value es key))
+
 abbrev view_of : Changes → WriteMap → TouchedView
 view_of bases changes = record { bases = bases; changes = changes }
 
@@ -107,21 +121,27 @@ views : (bases bases' : Changes) (changes changes' : WriteMap) → bases ≡ bas
 views bases bases' changes changes' b c = ap (λ (m : Changes). view_of m changes) b ∙ ap (view_of bases') c
 
 pub none_touched : (es : SlotList) → es ≡ [] → touched_view (from_entries es) ≡ view_of empty empty
-none_touched es is = ap (λ (xs : SlotList). touched_view (from_entries xs)) is ∙ views _ _ _ _ (part_of_none base_in refl) (part_of_none change_in refl)
+none_touched es is = ap (λ (xs : SlotList). touched_view (from_entries xs)) is ∙ views _ _ _ _ (part_of_none slot_base refl) (part_of_none slot_change refl)
 
-pub base_set : (es fs : SlotList) (key : List ℕ) (content : Content) → IsSetAt es fs key (with_base content (slot_of es key))
-    → touched_view (from_entries fs) ≡ view_of (insert (part_map base_in (from_entries es)) key content) (part_map change_in (from_entries es))
+pub placed_same : (es fs : SlotList) (key : List ℕ) → IsSlotPlaced es fs key → touched_view (from_entries fs) ≡ touched_view (from_entries es)
+placed_same es fs key h =
+    let slot : Slot = slot_or_none (slot_at_key es key) in
+    ap touched_view (one_set es fs key slot h)
+    ∙ views _ _ _ _ (part_kept slot_base refl (from_entries es) key slot (same_base es key)) (part_kept slot_change refl (from_entries es) key slot (same_change es key))
+
+pub base_set : (es fs : SlotList) (key : List ℕ) (content : Content) → IsSlotSetAt es fs key (with_base content (slot_at_key es key))
+    → touched_view (from_entries fs) ≡ view_of (insert (part_map slot_base (from_entries es)) key content) (part_map slot_change (from_entries es))
 base_set es fs key content h =
-    let slot : Slot = with_base content (slot_of es key) in
+    let slot : Slot = with_base content (slot_at_key es key) in
     ap touched_view (one_set es fs key slot h)
-    ∙ views _ _ _ _ (part_set base_in refl (from_entries es) key slot content refl) (part_kept change_in refl (from_entries es) key slot (sym (ap change_in (get_value es key))))
+    ∙ views _ _ _ _ (part_set slot_base refl (from_entries es) key slot content refl) (part_kept slot_change refl (from_entries es) key slot (same_change es key))
 
-pub change_set : (es fs : SlotList) (key : List ℕ) (change : ContentChange) → IsSetAt es fs key (with_change change (slot_of es key))
-    → touched_view (from_entries fs) ≡ view_of (part_map base_in (from_entries es)) (insert (part_map change_in (from_entries es)) key change)
+pub change_set : (es fs : SlotList) (key : List ℕ) (change : ContentChange) → IsSlotSetAt es fs key (with_change change (slot_at_key es key))
+    → touched_view (from_entries fs) ≡ view_of (part_map slot_base (from_entries es)) (insert (part_map slot_change (from_entries es)) key change)
 change_set es fs key change h =
-    let slot : Slot = with_change change (slot_of es key) in
+    let slot : Slot = with_change change (slot_at_key es key) in
     ap touched_view (one_set es fs key slot h)
-    ∙ views _ _ _ _ (part_kept base_in refl (from_entries es) key slot (sym (ap base_in (get_value es key)))) (part_set change_in refl (from_entries es) key slot change refl)
+    ∙ views _ _ _ _ (part_kept slot_base refl (from_entries es) key slot (same_base es key)) (part_set slot_change refl (from_entries es) key slot change refl)
 
 -- ---- the list of the result
 
@@ -140,26 +160,26 @@ rest_bases bases e es h has q slot found = by (eq_by_cmp key_cmp q e.0) refl
     by true same = let none : find key_cmp q es ≡ None = first_only e es q h same in cc
     by false other = has q slot (ap (λ b. cond b (Some e.1) (find key_cmp q es)) other ∙ found)
 
-listed_each : (bases : Changes) (es : SlotList) → T (is_sorted key_cmp es) → HasBases bases es → parts_of listed_in es ≡ list_of bases (parts_of change_in es)
+listed_each : (bases : Changes) (es : SlotList) → T (is_sorted key_cmp es) → HasBases bases es → slot_parts listed_in es ≡ list_of bases (slot_parts slot_change es)
 listed_each bases [] h has = refl
 listed_each bases ((key, slot) ∷ es) h has = by (listed_each bases es (rest_sorted (key, slot) es h) (rest_bases bases (key, slot) es h has)) slot.change refl
   where
     here : get bases key ≡ slot.base
     here = has key slot (ap (λ b. cond b (Some slot) (find key_cmp key es)) ((eq_by_cmp_equiv nat_list_cmp_total).refl key))
 
-    by : parts_of listed_in es ≡ list_of bases (parts_of change_in es) → (o : Option ContentChange) → slot.change ≡ o → with_entry key (option_map (λ change. resolved change slot.base) o) (parts_of listed_in es) ≡ list_of bases (with_entry key o (parts_of change_in es))
+    by : slot_parts listed_in es ≡ list_of bases (slot_parts slot_change es) → (o : Option ContentChange) → slot.change ≡ o → with_part key (option_map (λ change. resolved change slot.base) o) (slot_parts listed_in es) ≡ list_of bases (with_part key o (slot_parts slot_change es))
     by rest None is = rest
-    by rest (Some change) is = ap (λ (b : Option Content). (key, resolved change b) ∷ parts_of listed_in es) (sym here) ∙ ap (λ (xs : List (List ℕ × Content)). (key, resolved change (get bases key)) ∷ xs) rest
+    by rest (Some change) is = ap (λ (b : Option Content). (key, resolved change b) ∷ slot_parts listed_in es) (sym here) ∙ ap (λ (xs : List (List ℕ × Content)). (key, resolved change (get bases key)) ∷ xs) rest
 
 -- the slots list the changes of the result
-pub listed_slots : (m : Slots) → parts_of listed_in (entries m) ≡ listed_changes (part_map base_in m) (part_map change_in m)
+pub listed_slots : (m : SlotMap) → slot_parts listed_in (entries m) ≡ listed_changes (part_map slot_base m) (part_map slot_change m)
 listed_slots m =
-    listed_each (part_map base_in m) (entries m) (entries_sorted m) (λ q slot found. get_part base_in refl m q ∙ ap base_in (get-entries m q ∙ found))
-    ∙ ap (list_of (part_map base_in m)) (sym (entries_part change_in refl m))
+    listed_each (part_map slot_base m) (entries m) (entries_sorted m) (λ q slot found. get_part slot_base refl m q ∙ ap slot_base (get-entries m q ∙ found))
+    ∙ ap (list_of (part_map slot_base m)) (sym (entries_part slot_change refl m))
 
-pub listed_at_start : (es : SlotList) (touched : TouchedView) → AreSlots es touched → parts_of listed_in es ≡ listed_changes touched.bases touched.changes
-listed_at_start es touched are = ap (parts_of listed_in) are.1 ∙ listed_slots are.0 ∙ ap (λ (t : TouchedView). listed_changes t.bases t.changes) (sym are.2)
+pub listed_at_start : (es : SlotList) (touched : TouchedView) → AreSlots es touched → slot_parts listed_in es ≡ listed_changes touched.bases touched.changes
+listed_at_start es touched are = ap (slot_parts listed_in) are.1 ∙ listed_slots are.0 ∙ ap (λ (t : TouchedView). listed_changes t.bases t.changes) (sym are.2)
 
-pub sums_at_start : (es : SlotList) (touched : TouchedView) → AreSlots es touched → sum_keys (parts_of change_in es) ≡ sum_keys (entries touched.changes)
+pub sums_at_start : (es : SlotList) (touched : TouchedView) → AreSlots es touched → sum_keys (slot_parts slot_change es) ≡ sum_keys (entries touched.changes)
 sums_at_start es touched are =
-    ap (λ (xs : SlotList). sum_keys (parts_of change_in xs)) are.1 ∙ ap sum_keys (sym (entries_part change_in refl are.0)) ∙ ap (λ (t : TouchedView). sum_keys (entries t.changes)) (sym are.2)
+    ap (λ (xs : SlotList). sum_keys (slot_parts slot_change xs)) are.1 ∙ ap sum_keys (sym (entries_part slot_change refl are.0)) ∙ ap (λ (t : TouchedView). sum_keys (entries t.changes)) (sym are.2)

@@ -25,9 +25,7 @@ pub(crate) fn sum_keys(touched: &TouchedKeys) -> Result<Vec<Key>, AllocError>
 
 /// The changed keys, ascending, each with what it has after the block. Added amounts are resolved over what is known. Refused if
 /// memory ran out.
-pub(crate) fn listed(
-    touched: &TouchedKeys,
-) -> Result<Vec<(Key, Option<StoredValue>)>, AllocError>
+pub(crate) fn listed(touched: &TouchedKeys) -> Result<Vec<(Key, Option<StoredValue>)>, AllocError>
     ensures { IfOk result (λ list. list.items ≡ listed_changes touched.now.bases touched.now.changes) }
 {
     let alloc = touched.allocator();

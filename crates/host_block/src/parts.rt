@@ -115,7 +115,7 @@ fn run_on(p: &mut Parts) -> Result<Option<Key>, AllocError>
     ensures stop { IfOk result (λ asked. IsRunStop asked p.new) }
 {
     if let Current::Run(run) = &mut p.current {
-        if let Some(key) = run_call(run, &p.touched)? {
+        if let Some(key) = run_call(run, &mut p.touched)? {
             return Ok(Some(key));
         }
         end_call(p);
@@ -171,7 +171,11 @@ fn keep(p: &mut Parts) -> Result<(), AllocError>
 
 /// Adds writes of a call to the changes, from the one of an index on. Refused if memory ran out; then the index is that of the first
 /// one that was not added.
-fn add_writes(touched: &mut TouchedKeys, writes: &Writes, count: &mut usize) -> Result<(), AllocError>
+fn add_writes(
+    touched: &mut TouchedKeys,
+    writes: &Writes,
+    count: &mut usize,
+) -> Result<(), AllocError>
     ensures bases { touched.new.bases ≡ touched.old.bases }
     ensures same { (store : Storage) → now_with touched.new.changes writes.now count.new store ≡ now_with touched.old.changes writes.now count.old store }
     ensures written { (key : List ℕ) → map.contains_key touched.new.changes key ≡ true → (map.contains_key touched.old.changes key ≡ true) ⊎ (map.contains_key writes.now key ≡ true) }

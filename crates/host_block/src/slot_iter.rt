@@ -3,7 +3,7 @@
 ghost use Rattle.std.specs.Prelude.{◌≡◌, length};
 ghost use Rattle.std.specs.Iterator.{at_most};
 ghost use Rattle.std.specs.Map.Iter.{TakesFirst, deref_pair};
-ghost use Rattle.host_block.specs.Positions.{AreWithin, in_order};
+ghost use Rattle.host_block.specs.Positions.{AreSlotsWithin, ascending_slots};
 
 use crate::slot::Slot;
 use rv_ledger::Key;
@@ -20,20 +20,20 @@ pub(crate) struct SlotIter<'a> {
 
 impl<'a> Model for SlotIter<'a> {
     ghost use Rattle.std.specs.Prelude.{ℕ, List};
-    ghost use Rattle.host_block.specs.Positions.{AreWithin, SlotList, in_order};
+    ghost use Rattle.host_block.specs.Positions.{AreSlotsWithin, SlotList, ascending_slots};
 
     ghost Value = { SlotList };
 
-    ghost view = { λ e. in_order e.positions e.list.now };
+    ghost view = { λ e. ascending_slots e.positions e.list.now };
 
-    ghost invariant = { λ e. AreWithin e.positions e.list.now };
+    ghost invariant = { λ e. AreSlotsWithin e.positions e.list.now };
 }
 
 impl<'a> SlotIter<'a> {
     /// The slots at these positions of a list.
     pub(crate) fn new(positions: Iter<'a, Key, usize>, list: &'a [(Key, Slot)]) -> SlotIter<'a>
-        requires { AreWithin positions list.now }
-        ensures { result ≡ in_order positions.entry list.now }
+        requires { AreSlotsWithin positions list.now }
+        ensures { result ≡ ascending_slots positions.entry list.now }
     {
         SlotIter { positions, list }
     }

@@ -1,10 +1,10 @@
 //! The slots of a block: a list of them, a tree with the position of each key in the list, and hints of the same positions.
 
-ghost use Rattle.std.specs.Prelude.{◌≡◌, ◌↔◌, [], IsTrue, None, OnErr, OnOk, Some};
+ghost use Rattle.std.specs.Prelude.{◌≡◌, ◌↔◌, [], IfOk, IsTrue, None, OnErr, OnOk, Some};
 ghost use Rattle.std.specs.Option.{option_copied};
 ghost use Rattle.rv_ledger.specs.Entries.{AreAscending};
 ghost use Rattle.rv_ledger.specs.Positions.{position_of};
-ghost use Rattle.host_block.specs.Positions.{IsIndexed, IsSetAt, by_key, key_at, slot_of, with_base, with_change};
+ghost use Rattle.host_block.specs.Positions.{IsTableIndexed, IsSlotPlaced, IsSlotSetAt, table_slots, listed_key_at, slot_at_key, with_base, with_change};
 
 use crate::hints::Hints;
 use crate::slot::Slot;
@@ -27,8 +27,8 @@ pub(crate) struct SlotTable {
 impl SlotTable {
     /// No slots. Takes no memory.
     pub(crate) fn new(alloc: Global) -> SlotTable
-        ensures none { by_key result ≡ [] }
-        ensures indexed { IsIndexed result }
+        ensures none { table_slots result ≡ [] }
+        ensures indexed { IsTableIndexed result }
     {
         SlotTable {
             list: Vec::new(alloc),
@@ -39,8 +39,8 @@ impl SlotTable {
 
     /// The slot of a key.
     pub(crate) fn get(&self, key: &Key) -> Option<&Slot>
-        requires { IsIndexed self.now }
-        ensures { option_copied result ≡ slot_of (by_key self.now) key.now }
+        requires { IsTableIndexed self.now }
+        ensures { option_copied result ≡ slot_at_key (table_slots self.now) key.now }
     {
         match self.find(key) {
             Some(position) => Some(&self.list[position].1),
@@ -51,7 +51,7 @@ impl SlotTable {
     /// The position of a key.
     #[inline(always)]
     fn find(&self, key: &Key) -> Option<usize>
-        requires { IsIndexed self.now }
+        requires { IsTableIndexed self.now }
         ensures { result ≡ position_of self.now.tree.entries key.now }
     {
         match self.hints.position(key) {
@@ -63,7 +63,7 @@ impl SlotTable {
     /// Whether a key is at a position of the list.
     #[inline(always)]
     fn stands_at(&self, key: &Key, position: usize) -> bool
-        ensures { IsTrue result ↔ (key_at self.now.list.items position ≡ Some key.now) }
+        ensures { IsTrue result ↔ (listed_key_at self.now.list.items position ≡ Some key.now) }
     {
         match self.list.as_slice().get(position) {
             Some(entry) => entry.0 == *key,
@@ -85,77 +85,83 @@ impl SlotTable {
     /// Keeps what the host answered to a key. Refused if memory ran out, and then nothing changes.
     pub(crate) fn set_base(
         &mut self,
-        key: Key,
+        key: &Key,
         content: Option<StoredValue>,
     ) -> Result<(), AllocError>
-        requires { IsIndexed self.old }
-        ensures indexed { IsIndexed self.new }
-        ensures set { OnOk result (IsSetAt (by_key self.old) (by_key self.new) key (with_base content (slot_of (by_key self.old) key))) }
-        ensures unchanged { OnErr result (by_key self.new ≡ by_key self.old) }
+        requires { IsTableIndexed self.old }
+        ensures indexed { IsTableIndexed self.new }
+        ensures set { OnOk result (IsSlotSetAt (table_slots self.old) (table_slots self.new) key.now (with_base content (slot_at_key (table_slots self.old) key.now))) }
+        ensures unchanged { OnErr result (table_slots self.new ≡ table_slots self.old) }
     {
-        match self.find(&key) {
-            Some(position) => {
-                self.list[position].1.base = Some(content);
-                Ok(())
-            }
-            None => self.add(
-                key,
-                Slot {
-                    base: Some(content),
-                    change: None,
-                },
-            ),
-        }
+        let position = self.place(key)?;
+        self.list[position].1.base = Some(content);
+        Ok(())
     }
 
     /// Gives a key a change, whatever it had. Refused if memory ran out, and then nothing changes.
     pub(crate) fn set_change(
         &mut self,
-        key: Key,
+        key: &Key,
         change: Change<StoredValue>,
     ) -> Result<(), AllocError>
-        requires { IsIndexed self.old }
-        ensures indexed { IsIndexed self.new }
-        ensures set { OnOk result (IsSetAt (by_key self.old) (by_key self.new) key (with_change change (slot_of (by_key self.old) key))) }
-        ensures unchanged { OnErr result (by_key self.new ≡ by_key self.old) }
+        requires { IsTableIndexed self.old }
+        ensures indexed { IsTableIndexed self.new }
+        ensures set { OnOk result (IsSlotSetAt (table_slots self.old) (table_slots self.new) key.now (with_change change (slot_at_key (table_slots self.old) key.now))) }
+        ensures unchanged { OnErr result (table_slots self.new ≡ table_slots self.old) }
     {
-        match self.find(&key) {
-            Some(position) => {
-                self.list[position].1.change = Some(change);
-                Ok(())
-            }
-            None => self.add(
-                key,
-                Slot {
-                    base: None,
-                    change: Some(change),
-                },
-            ),
+        let position = self.place(key)?;
+        self.list[position].1.change = Some(change);
+        Ok(())
+    }
+
+    /// The position of a key. It gets a slot with nothing in it, if it has none. Refused if memory ran out, and then nothing changes.
+    #[inline(always)]
+    pub(crate) fn place(&mut self, key: &Key) -> Result<usize, AllocError>
+        requires { IsTableIndexed self.old }
+        ensures indexed { IsTableIndexed self.new }
+        ensures at { IfOk result (λ position. position_of self.new.tree.entries key.now ≡ Some position) }
+        ensures stays { OnOk result (IsSlotPlaced (table_slots self.old) (table_slots self.new) key.now) }
+        ensures unchanged { OnErr result (table_slots self.new ≡ table_slots self.old) }
+    {
+        match self.hints.position(key) {
+            Some(position) if self.stands_at(key, position) => Ok(position),
+            _ => self.place_by_tree(key),
         }
     }
 
-    /// Adds a key that is not there. Refused if memory ran out, and then nothing changes: room in the list is made first.
+    /// The same by the tree. Room in the list is made first.
     #[inline(never)]
-    fn add(&mut self, key: Key, slot: Slot) -> Result<(), AllocError>
-        requires indexed { IsIndexed self.old }
-        requires absent { position_of self.old.tree.entries key ≡ None }
-        ensures indexed { IsIndexed self.new }
-        ensures set { OnOk result (IsSetAt (by_key self.old) (by_key self.new) key slot) }
-        ensures unchanged { OnErr result (by_key self.new ≡ by_key self.old) }
+    fn place_by_tree(&mut self, key: &Key) -> Result<usize, AllocError>
+        requires { IsTableIndexed self.old }
+        ensures indexed { IsTableIndexed self.new }
+        ensures at { IfOk result (λ position. position_of self.new.tree.entries key.now ≡ Some position) }
+        ensures stays { OnOk result (IsSlotPlaced (table_slots self.old) (table_slots self.new) key.now) }
+        ensures unchanged { OnErr result (table_slots self.new ≡ table_slots self.old) }
     {
-        let position = self.list.len();
+        let last = self.list.len();
         self.list.reserve(1)?;
-        self.tree.insert(key, position)?;
-        self.list.push_reserved((key, slot));
-        self.hints.note(self.list.as_slice());
-        Ok(())
+        match self.tree.insert(*key, last)? {
+            None => {
+                let slot = Slot {
+                    base: None,
+                    change: None,
+                };
+                self.list.push_reserved((*key, slot));
+                self.hints.note(self.list.as_slice());
+                Ok(last)
+            }
+            Some(position) => match self.tree.insert(*key, position) {
+                Ok(_) => Ok(position),
+                Err(_) => unreachable!(),
+            },
+        }
     }
 
     /// The keys, ascending, each with its slot.
     pub(crate) fn iter(&self) -> SlotIter<'_>
-        requires { IsIndexed self.now }
-        ensures all { result ≡ by_key self.now }
-        ensures ascending { AreAscending (by_key self.now) }
+        requires { IsTableIndexed self.now }
+        ensures all { result ≡ table_slots self.now }
+        ensures ascending { AreAscending (table_slots self.now) }
     {
         SlotIter::new(self.tree.iter(), self.list.as_slice())
     }

@@ -23,16 +23,16 @@ impl Model for TouchedKeys {
     ghost use Rattle.std.specs.Coded.{codes, coded_list, coded_option, coded_ℕ};
     ghost use Rattle.rv_ledger.specs.Change.{coded_change};
     ghost use Rattle.rv_ledger.specs.Key.{key_cmp};
-    ghost use Rattle.host_block.specs.Positions.{IsIndexed, by_key};
+    ghost use Rattle.host_block.specs.Positions.{IsTableIndexed, table_slots};
     ghost use Rattle.host_block.specs.Slots.{TouchedView, touched_view};
 
     ghost Value = { TouchedView };
 
     ghost coded = { Prim.hlevel (codes, map.code {R = key_cmp} (coded_list coded_ℕ) coded_change, map.code {R = key_cmp} (coded_list coded_ℕ) (coded_option (coded_list coded_ℕ))) };
 
-    ghost view = { λ t. touched_view (map.from_entries (by_key t.table)) };
+    ghost view = { λ t. touched_view (map.from_entries (table_slots t.table)) };
 
-    ghost invariant = { λ t. IsIndexed t.table };
+    ghost invariant = { λ t. IsTableIndexed t.table };
 }
 
 impl TouchedKeys {
@@ -40,7 +40,7 @@ impl TouchedKeys {
     ghost use Rattle.std.specs.FinMap as map;
     ghost use Rattle.std.specs.Option.{option_copied};
     ghost use Rattle.host_block.specs.Changes.{change_after};
-    ghost use Rattle.host_block.specs.Slots.{AreSlots, base_in, change_in};
+    ghost use Rattle.host_block.specs.Slots.{AreSlots, slot_base, slot_change};
 
     /// No keys. Takes no memory.
     pub(crate) fn new(alloc: Global) -> TouchedKeys
@@ -54,10 +54,18 @@ impl TouchedKeys {
 
     /// What is kept of a key.
     pub(crate) fn get(&self, key: &Key) -> Option<&Slot>
-        ensures base { base_in (option_copied result) ≡ map.get self.now.bases key.now }
-        ensures change { change_in (option_copied result) ≡ map.get self.now.changes key.now }
+        ensures base { slot_base (option_copied result) ≡ map.get self.now.bases key.now }
+        ensures change { slot_change (option_copied result) ≡ map.get self.now.changes key.now }
     {
         self.table.get(key)
+    }
+
+    /// Makes room for what will be kept of a key, which changes nothing that is seen. Refused if memory ran out.
+    pub(crate) fn touch(&mut self, key: &Key) -> Result<(), AllocError>
+        ensures { self.new ≡ self.old }
+    {
+        let _position = self.table.place(key)?;
+        Ok(())
     }
 
     /// The keys, ascending, each with what is kept of it.
@@ -81,7 +89,7 @@ impl TouchedKeys {
         ensures ok { OnOk result (self.new ≡ record self.old { bases = map.insert self.old.bases key content }) }
         ensures err { OnErr result (self.new ≡ self.old) }
     {
-        self.table.set_base(key, content)
+        self.table.set_base(&key, content)
     }
 
     /// Adds a write of a call to the changes of its key. Refused if memory ran out, and then nothing changes.
@@ -116,7 +124,7 @@ impl TouchedKeys {
         ensures ok { OnOk result (self.new ≡ record self.old { changes = map.insert self.old.changes key change }) }
         ensures err { OnErr result (self.new ≡ self.old) }
     {
-        self.table.set_change(key, change)
+        self.table.set_change(&key, change)
     }
 }
 /// The change of a key after an amount is added to it; refused if memory ran out.

@@ -1,8 +1,8 @@
 use Rattle.std.proofs.Common.{sym, ◌∙◌}
 use Rattle.std.specs.FinMap as map
 use Rattle.rv_ledger.proofs.Entries.{entries_in_order}
-use Rattle.host_block.specs.Positions.{by_key}
+use Rattle.host_block.specs.Positions.{table_slots}
 use Rattle.host_block.proofs.touched_keys.TouchedKeys.iter.Goals as goal
 
 pub returns : goal.returns
-returns c = (map.from_entries (by_key c.self.inside.table), c.iter.ensures.all ∙ sym (entries_in_order (by_key c.self.inside.table) c.iter.ensures.ascending), sym c.self.view_is)
+returns c = (map.from_entries (table_slots c.self.inside.table), c.iter.ensures.all ∙ sym (entries_in_order (table_slots c.self.inside.table) c.iter.ensures.ascending), sym c.self.view_is)
