@@ -13,6 +13,9 @@ use rv_step::{EndedRun, Run, SpareRun, one_receipt};
 use std::alloc::{AllocError, Global};
 use std::mem::replace;
 
+/// For how many keys of each call there is room at first. So most blocks move no slots.
+const KEYS_PER_CALL: usize = 2;
+
 /// The call after those that have receipts.
 #[derive(Drop)]
 pub enum Current {
@@ -95,10 +98,22 @@ fn begin(p: &mut Parts) -> Result<(), AllocError>
     ensures receipts { p.new.receipts ≡ p.old.receipts }
     ensures begun { OnOk result (HasBegun p.new) }
 {
+    make_room(p)?;
     if let Current::Next = &p.current {
         let spare = replace(&mut p.spare, SpareRun::new(p.alloc));
         let run = Run::start_in(p.alloc, spare, &p.calls[p.receipts.len()])?;
         p.current = Current::Run(run);
+    }
+    Ok(())
+}
+
+/// Before the first receipt: makes room for the keys of the calls. Refused if memory ran out.
+fn make_room(p: &mut Parts) -> Result<(), AllocError>
+    ensures { p.new ≡ p.old }
+{
+    if p.receipts.is_empty() {
+        let count = p.calls.len().saturating_mul(KEYS_PER_CALL);
+        p.touched.reserve(count)?;
     }
     Ok(())
 }

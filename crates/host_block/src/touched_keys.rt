@@ -68,6 +68,13 @@ impl TouchedKeys {
         Ok(())
     }
 
+    /// Makes room for this many keys more, which changes nothing that is seen. Refused if memory ran out.
+    pub(crate) fn reserve(&mut self, count: usize) -> Result<(), AllocError>
+        ensures { self.new ≡ self.old }
+    {
+        Ok(self.table.list.reserve(count)?)
+    }
+
     /// The keys, ascending, each with what is kept of it.
     pub(crate) fn iter(&self) -> SlotIter<'_>
         ensures { AreSlots result self.now }
