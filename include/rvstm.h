@@ -448,7 +448,8 @@ uint32_t rvstm_calls_add(rvstm_block *block, rvstm_image *image, uint32_t gas, c
 
 /**
  * Begins the run, or continues it, until a call asks for a key whose value the library does not know, or until all calls have
- * ended. Each call takes time in proportion to its gas limit at most, and memory for its pages, its answers and its writes.
+ * ended. Each call takes time in proportion to its gas limit at most, and memory for its pages, its answers and its writes. The
+ * first rvstm_run_go() also takes 256 bytes for each call, which is room for two keys.
  * @param block  an open one
  * @param key    gets the key at RVSTM_KEY; otherwise it stays
  * @retval RVSTM_KEY     a call asks for the key; a second rvstm_run_go() without an answer returns the same key
