@@ -7,6 +7,7 @@ from dataclasses import dataclass
 from pathlib import Path
 
 from gate.cases import TOP, Differs, Run, shown
+from rvstm_tools import commandline
 
 Word = str | Path
 
@@ -49,9 +50,8 @@ def rvstm(run: Run, *words: Word, folder: Word = ".", data: str | bytes = b"") -
 
 
 def tool_words(name: str) -> list[str]:
-    """The first words of the command line of a tool: a script of developers, or a subcommand."""
-    script = TOP / "tools/developers" / name
-    return [str(script)] if script.is_file() else [str(TOP / "tools/rvstm-tools"), name]
+    """The first words of the command line of a tool: a subcommand of the tools, or a developers' command."""
+    return [str(TOP / "tools" / ("rvstm-tools" if name in commandline.NAMES else "rvstm-developers")), name]
 
 
 def tool(run: Run, name: str, *words: Word, folder: Word = ".", data: str | bytes = b"") -> Ended:

@@ -8,11 +8,11 @@ import xml.etree.ElementTree
 from collections.abc import Callable, Sequence
 
 from gate import pages
-from gate.built import OF_LIBRARY, PROGRAM, are_noted
 from gate.calls import command, rvstm, tool, tool_words
 from gate.cases import TOP, Case, Differs, Run, holds, same
 from gate.machine import Tool
 from gate.texts import written
+from rvstm_developers.commands.built import OF_LIBRARY, PROGRAM, are_noted
 
 EXAMPLES = TOP / "examples"
 COUNTER, LOCK, TOKEN = (EXAMPLES / name for name in ("counter", "lock", "token"))

@@ -16,7 +16,7 @@ from gate.calls import command
 from gate.cases import TOP, Case, Lacks, Run, holds, same
 from gate.machine import CONTRACTS
 from gate.outside import last_lines
-from long.models.sessions import NO_DIGEST, Model
+from rvstm_developers.models.sessions import NO_DIGEST, Model
 from rvstm_tools.programs.running import Program
 from rvstm_tools.sessions import answers, requests
 from rvstm_tools.sessions import frames as texts

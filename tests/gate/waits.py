@@ -8,7 +8,7 @@ from collections.abc import Iterator, Sequence
 from pathlib import Path
 
 from gate.cases import same
-from long.models import waits
+from rvstm_developers.models import waits
 from rvstm_tools.debugging.replays import Replay, StorageStep
 from rvstm_tools.debugging.sessions import CallOf
 from rvstm_tools.debugging.charges import StorageCall

@@ -1,4 +1,4 @@
-"""Times commits of `rvstm chain --store` beside SQLite's own library: `bench/chain --store`."""
+"""Times commits of `rvstm chain --store` beside SQLite's own library: `rvstm-developers chain --store`."""
 
 import contextlib
 import random

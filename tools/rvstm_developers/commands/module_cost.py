@@ -56,7 +56,7 @@ checked the crate from nothing. What is read before the first file of a kind is 
 nothing else on the machine:
 
     cd crates/stm_core && rm -rf out/incremental && rt check --jobs 1
-    tools/developers/module-cost stm_core
+    rvstm-developers module-cost stm_core
 
 Of a function, `Lts` is what the prover writes for the borrow checker, `Proof` the proof of its clauses, `Answers` what its own file
 answers, and `Tie` what it takes from the calls that it makes.

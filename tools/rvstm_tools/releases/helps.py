@@ -11,7 +11,7 @@ from rvstm_tools.errors import UserError
 from rvstm_tools.releases.roff import escaped, roman
 
 PAGE = "man/rvstm.1"
-MAKER = "tools/developers/man-page"
+MAKER = "rvstm-developers man-page"
 HEAD = re.compile(r"^(\w[\w ]*):$")
 ITEM = re.compile(r"^ {2,}(\S.*?)(?: {2,}(\S.*))?$")
 OPTIONS = "\nOptions:\n"
