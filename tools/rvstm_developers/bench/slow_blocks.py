@@ -83,7 +83,7 @@ def halves(count: int) -> Content:
 
 
 def drawn(name: str) -> Callable[[int], Content]:
-    return lambda count: used_up([slow_programs.program_of(slow_programs.shape_of(name), name)], endless(count))
+    return lambda count: used_up([slow_programs.program_of(name)], endless(count))
 
 
 # ---- time for a call
@@ -183,8 +183,10 @@ BLOCKS = (
     Block("both", "the first half `work`, the second `reads`", Share.GAS, ALL_WAYS, halves),
     Block("fence", "FENCE alone", Share.GAS, (SEQ,), drawn("fence")),
     Block("two", "jump from each of two pages to the other", Share.GAS, (SEQ,), drawn("two")),
-    Block("jumps", "jump to another of 217 pages each time", Share.GAS, (SEQ,), drawn("jumps0")),
-    Block("random", "random operations over 217 pages, of which each sixteenth is a jump", Share.GAS, (SEQ,), drawn("random0")),
+    Block("jumps", "jump to another of 217 pages each time", Share.GAS, (SEQ,), drawn("jumps")),
+    Block("swaps", "the same in seven copies of the code at the same time", Share.GAS, (SEQ,), drawn("swaps")),
+    Block("straight", "random operations over 203 pages, in their order", Share.GAS, (SEQ,), drawn("straight")),
+    Block("random", "random operations over 217 pages, of which each sixteenth is a jump", Share.GAS, (SEQ,), drawn("random")),
     Block("writes", "write 256 bytes to each of 256 keys of their own", Share.GAS, (SEQ, RUN), writes),
     Block("traps", "trap at once", Share.CALL, (SEQ, RUN), short(paged(TRAP), 1)),
     Block("inputs", "the same with inputs of 4,096 bytes", Share.CALL, (SEQ, RUN), short(paged(TRAP), 1, bytes(MOST_INPUT))),
