@@ -8,9 +8,8 @@ from functools import partial
 from pathlib import Path
 
 from gate.calls import command, tool_words
-from gate.cases import TOP, Case, Run, holds, same
 from gate.library import STRICT, folder
-from gate.machine import Tool
+from gate.runner import TOP, Case, Run, Tool, holds, same
 from gate.outside import FOLDER, last_lines
 from gate.texts import field, storage
 

@@ -6,7 +6,7 @@ from collections.abc import Sequence
 from dataclasses import dataclass
 from pathlib import Path
 
-from gate.cases import TOP, Differs, Run, shown
+from gate.runner import TOP, Differs, Run, shown
 from rvstm_tools import commandline
 
 Word = str | Path

@@ -9,7 +9,7 @@ from pathlib import Path
 from types import TracebackType
 
 from gate.calls import Word
-from gate.cases import Differs, shown
+from gate.runner import Differs, shown
 
 PROGRAM_LINE = re.compile(rb"^(program \d+ )([!-~]+)$", re.M)
 NO_DIGEST = b"0" * 64

@@ -9,8 +9,7 @@ from collections.abc import Callable, Sequence
 
 from gate import pages
 from gate.calls import command, rvstm, tool, tool_words
-from gate.cases import TOP, Case, Differs, Run, holds, same
-from gate.machine import Tool
+from gate.runner import TOP, Case, Differs, Run, Tool, holds, same
 from gate.texts import written
 from rvstm_developers.commands.built import OF_LIBRARY, PROGRAM, are_noted
 

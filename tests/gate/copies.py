@@ -7,7 +7,7 @@ import signal
 import time
 from pathlib import Path
 
-from gate.cases import Case, Run, holds, same
+from gate.runner import Case, Run, holds, same
 from gate.clients import NO_DIGEST, Session, asks
 
 COPIES = 12

@@ -7,8 +7,7 @@ from functools import partial
 from pathlib import Path
 
 from gate.calls import command, rvstm, tool
-from gate.cases import TOP, Case, Run, holds, same
-from gate.machine import CONTRACTS, Tool
+from gate.runner import CONTRACTS, TOP, Case, Run, Tool, holds, same
 from gate.texts import written
 
 EXAMPLES = TOP / "examples"

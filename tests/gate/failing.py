@@ -3,8 +3,7 @@
 from collections.abc import Iterable
 
 from gate.calls import Ended, command
-from gate.cases import Case, Run, same
-from gate.machine import Tool
+from gate.runner import Case, Run, Tool, same
 from gate.shims import loaded
 from gate.texts import written
 

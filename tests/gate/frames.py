@@ -3,7 +3,7 @@
 from pathlib import Path
 
 from gate.calls import Word, command, rvstm
-from gate.cases import Case, Run, holds, same, shown
+from gate.runner import Case, Run, holds, same, shown
 from gate.clients import Session, asks, name_of
 from gate.many import CALL, FORTY, KEY, value
 from gate.tables import has_pieces, table

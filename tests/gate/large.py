@@ -5,7 +5,7 @@ from collections.abc import Sequence
 from pathlib import Path
 
 from gate.calls import rvstm
-from gate.cases import Case, Run, same
+from gate.runner import Case, Run, same
 from gate.many import CALL, registers, result_of_counts
 from gate.tables import table
 from gate.texts import written

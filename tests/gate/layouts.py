@@ -5,9 +5,8 @@ from collections.abc import Iterator
 from dataclasses import dataclass
 
 from gate.calls import command
-from gate.cases import TOP, Case, Run, holds, same
 from gate.library import INCLUDE, STRICT
-from gate.machine import Tool
+from gate.runner import TOP, Case, Run, Tool, holds, same
 from gate.texts import written
 
 SOURCES = TOP / "crates/rvstm_c/src"

@@ -8,7 +8,7 @@ from dataclasses import dataclass
 from functools import partial
 from pathlib import Path
 
-from gate.cases import TOP, Case, Run, same
+from gate.runner import TOP, Case, Run, same
 
 COUNTER = (TOP / "examples/counter/counter.elf").read_bytes()
 """It counts up the key that is its input."""

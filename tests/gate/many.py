@@ -5,7 +5,7 @@ from collections.abc import Sequence
 from pathlib import Path
 
 from gate.calls import rvstm
-from gate.cases import Case, Run, holds, same
+from gate.runner import Case, Run, holds, same
 from gate.tables import Block, has_pieces, table
 from gate.texts import mixed, written
 

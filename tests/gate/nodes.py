@@ -13,8 +13,7 @@ from functools import partial
 from pathlib import Path
 
 from gate.calls import command
-from gate.cases import TOP, Case, Lacks, Run, holds, same
-from gate.machine import CONTRACTS
+from gate.runner import CONTRACTS, TOP, Case, Lacks, Run, holds, same
 from gate.outside import last_lines
 from rvstm_developers.models.sessions import NO_DIGEST, Model
 from rvstm_tools.programs.running import Program

@@ -9,7 +9,7 @@ from typing import Any
 
 from gate import waits
 from gate.calls import command, rvstm, tool_words
-from gate.cases import TOP, Case, Run, holds, same
+from gate.runner import TOP, Case, Run, holds, same
 from gate.texts import Call, block, ends, field, mixed, receipts, storage, written
 
 FOLDER = TOP / "tests/cases"

@@ -14,8 +14,7 @@ from collections.abc import Iterator, Sequence
 from dataclasses import dataclass
 from pathlib import Path
 
-from gate.cases import TOP, Case, Differs, Lacks, Run, shown
-from gate.machine import Tool
+from gate.runner import TOP, Case, Differs, Lacks, Run, Tool, shown
 
 PROMPT = "$ "
 MARKER = re.compile(r"<!-- (not run|needs): (.+) -->")

@@ -8,8 +8,7 @@ from collections.abc import Callable
 from pathlib import Path
 
 from gate.calls import Ended, Word, command, rvstm
-from gate.cases import Case, Run, holds, same
-from gate.machine import Tool
+from gate.runner import Case, Run, Tool, holds, same
 from gate.shims import loaded
 from gate.texts import written
 

@@ -8,8 +8,7 @@ from functools import partial
 from typing import TypeVar
 
 from gate.calls import command, rvstm
-from gate.cases import TOP, Case, Run, holds, same
-from gate.machine import CONTRACTS, Tool
+from gate.runner import CONTRACTS, TOP, Case, Run, Tool, holds, same
 from gate.stumbles import COMPILERS, FLAGS
 from gate.texts import Call, block, receipts, written
 

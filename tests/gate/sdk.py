@@ -4,8 +4,7 @@ import re
 from dataclasses import dataclass
 
 from gate.calls import command, rvstm
-from gate.cases import TOP, Case, Run, same
-from gate.machine import Tool
+from gate.runner import TOP, Case, Run, Tool, same
 from gate.texts import Call, block, receipts, written
 
 MAKEFILE, HEADER = TOP / "sdk/Makefile", TOP / "sdk/contract.h"

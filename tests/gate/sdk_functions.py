@@ -14,8 +14,7 @@ from functools import partial
 from pathlib import Path
 
 from gate.calls import command, rvstm
-from gate.cases import TOP, Case, Lacks, Run, holds, same
-from gate.machine import Tool
+from gate.runner import TOP, Case, Lacks, Run, Tool, holds, same
 from gate.rows import MAKEFILE, NEEDS, batches
 from gate.texts import Call, block, receipts, written
 

@@ -10,9 +10,8 @@ from collections.abc import Iterator
 from pathlib import Path
 
 from gate.calls import Word, command, tool_words
-from gate.cases import TOP, Case, Lacks, Run, holds, same, shown
 from gate.clients import NO_DIGEST, Session, asks, done, frame_of, name_of, refused
-from gate.machine import Tool
+from gate.runner import TOP, Case, Lacks, Run, Tool, holds, same, shown
 from gate.outside import FOLDER, last_lines
 
 COUNTER = TOP / "examples/counter"

@@ -9,8 +9,7 @@ from dataclasses import dataclass
 from functools import partial
 
 from gate.calls import command, rvstm
-from gate.cases import TOP, Case, Run, same, shown
-from gate.machine import CONTRACTS, Tool
+from gate.runner import CONTRACTS, TOP, Case, Run, Tool, same, shown
 from gate.texts import Call, block, written
 
 FOLDER, SDK = TOP / "examples/stumbles", TOP / "sdk"

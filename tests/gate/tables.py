@@ -9,7 +9,7 @@ from pathlib import Path
 from typing import Any
 
 from gate.calls import Ended, rvstm
-from gate.cases import TOP, Case, Run, holds, same, shown
+from gate.runner import TOP, Case, Run, holds, same, shown
 from gate.clients import Session, asks
 from gate.outside import program_of
 

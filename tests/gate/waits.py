@@ -7,7 +7,7 @@ do not answer. A read waits for the nearest earlier call that wrote or removed t
 from collections.abc import Iterator, Sequence
 from pathlib import Path
 
-from gate.cases import same
+from gate.runner import same
 from rvstm_developers.models import waits
 from rvstm_tools.debugging.replays import Replay, StorageStep
 from rvstm_tools.debugging.sessions import CallOf

@@ -3,7 +3,7 @@
 import unittest
 
 from gate import pages
-from gate.machine import Tool
+from gate.runner import Tool
 
 PAGE = """\
 Text, and a block of commands without `$`:
