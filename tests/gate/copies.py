@@ -56,7 +56,7 @@ def height_of(run: Run, path: Path) -> int:
         height = int(found[1])
         wanted = f"rvblock 2\ngas 1\n{entries(height) if height else ''}"
         same(dump.partition(b"\n")[2].decode(), wanted, f"the dump at height {height}")
-        same(session.end(), (b"", "", 0))
+        same(session.ended(), (b"", "", 0))
     holds(bool(height) or found[2] == NO_DIGEST, found[2], "no digest at height 0")
     return height
 
@@ -98,7 +98,7 @@ def alone(run: Run) -> None:
         copy(path, backup)
         session.process.send_signal(signal.SIGCONT)
         path.rename(run.place / "moved")
-        same(session.end(frame(3)), (b"", "rvstm: store Unreadable 3\n", 1), "a frame after FILE was moved")
+        same(session.ended(frame(3)), (b"", "rvstm: store Unreadable 3\n", 1), "a frame after FILE was moved")
     (run.place / "moved").rename(path)
     same(height_of(run, path), 2, "the height after FILE was put back")
     same(height_of(run, backup), 2, "the height of the backup, which has no log then")
@@ -108,7 +108,7 @@ def alone(run: Run) -> None:
         session.kill()
     shutil.copy(backup, path)
     with Session(run.program, "--store", path) as session:
-        run.note(f"beside another session's FILE-wal: {session.end(b'')[1].strip() or 'opened'}")
+        run.note(f"beside another session's FILE-wal: {session.ended(b'')[1].strip() or 'opened'}")
     shutil.copy(backup, path)
     Path(f"{path}-wal").unlink(missing_ok=True)
     same(height_of(run, path), 2, "the height of the backup, without that log")

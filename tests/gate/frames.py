@@ -87,9 +87,9 @@ def closed_and_killed(run: Run) -> None:
             if is_killed:
                 session.kill()
             else:
-                same(session.end(b""), (b"", "", 0))
+                same(session.ended(b""), (b"", "", 0))
         with Session(run.program, "--store", path) as session:
-            same(session.end(asks("last") + asks("list", None, ZEROS, "9")), (KEPT, "", 0))
+            same(session.ended(asks("last") + asks("list", None, ZEROS, "9")), (KEPT, "", 0))
 
 
 def is_refused(run: Run, path: Path, content: bytes, what: str) -> None:

@@ -2,13 +2,15 @@
 worked out from docs/formats.md, whose example has the program's name, the frame of three counts, its answer and its digest."""
 
 import ctypes
-import enum
 from collections.abc import Sequence
 from dataclasses import dataclass
 from functools import partial
 from pathlib import Path
 
+from embed import Handle, Parts, Settings
+
 from gate.runner import TOP, Case, Run, same
+from rvstm_developers.embedded_library import Status
 
 COUNTER = (TOP / "examples/counter/counter.elf").read_bytes()
 """It counts up the key that is its input."""
@@ -43,38 +45,7 @@ BLOCKS = 100
 """Of one count each, in one session."""
 
 
-class Status(enum.IntEnum):
-    """What a call returns, as include/rvstm.h has it."""
-
-    DONE = 0
-    REFUSED = 1
-    CLOSED = 2
-    ALREADY_OPEN = 3
-    FAILED = 4
-    NO_MEMORY = 5
-    SHORT_BUFFER = 6
-    BAD_SETTINGS = 7
-
-
 DONE, REFUSED, CLOSED, ALREADY_OPEN, BAD_SETTINGS = Status.DONE, Status.REFUSED, Status.CLOSED, Status.ALREADY_OPEN, Status.BAD_SETTINGS
-
-
-class Handle(ctypes.Structure):
-    """An rvstm_session; ctypes makes all its bytes zero."""
-
-    _fields_ = [("at", ctypes.c_void_p), ("full", ctypes.c_bool)]
-
-
-class Settings(ctypes.Structure):
-    """An rvstm_settings."""
-
-    _fields_ = [("frame_limit", ctypes.c_uint64), ("frame_gas", ctypes.c_uint64), ("digest", ctypes.c_bool), ("brief", ctypes.c_bool)]
-
-
-class Parts(ctypes.Structure):
-    """An rvstm_refusal_parts."""
-
-    _fields_ = [("line", ctypes.c_size_t), ("number", ctypes.c_uint32), ("area", ctypes.c_char * 8), ("name", ctypes.c_char * 24)]
 
 
 END_OF_PARTS = 44

@@ -126,14 +126,14 @@ def over_pipes(run: Run) -> None:
     with Session(run.program, *SETTINGS) as session:
         for request, answer in requests():
             session.expect(request, answer)
-        same(session.end(), (b"", "", 0))
+        same(session.ended(), (b"", "", 0))
 
 
 def ahead(run: Run) -> None:
     """All requests written ahead, and none read before the answers."""
     text, answers = (b"".join(parts) for parts in zip(*requests()))
     with Session(run.program, *SETTINGS) as session:
-        same(session.end(text), (answers, "", 0))
+        same(session.ended(text), (answers, "", 0))
 
 
 def settings(run: Run) -> None:
@@ -172,7 +172,7 @@ def ends(run: Run) -> None:
         (b"program 9999999999\n", (cut, "rvstm: request Cut 2\n", 1)),
     ):
         with Session(run.program) as session:
-            came = session.end(data)
+            came = session.ended(data)
             holds(came == wanted, f"{shown(data)}: {came}", shown(repr(wanted)))
 
 
@@ -190,7 +190,7 @@ def strangers(run: Run) -> None:
             digest = next_digest(digest, answer)
             session.expect(asks("try", body), answer)
             session.expect(asks("state"), state(1, height, 0, 0, digest))
-        same(session.end(), (b"", "", 0))
+        same(session.ended(), (b"", "", 0))
 
 
 # ---- over a file
@@ -205,7 +205,7 @@ def over_a_file(run: Run) -> None:
             if number % 3 == 2:
                 session.kill()
             else:
-                same(session.end(), (b"", "", 0))
+                same(session.ended(), (b"", "", 0))
 
 
 def tables(run: Run) -> None:
@@ -214,7 +214,7 @@ def tables(run: Run) -> None:
     with Session(run.program, "--brief", "--store", path) as session:
         session.ask(asks("program", program))
         session.ask(asks("frame", frame))
-        same(session.end()[2], 0)
+        same(session.ended()[2], 0)
     asked = (
         "SELECT hex(key), hex(value) FROM storage; SELECT hex(name), hex(file) FROM program; PRAGMA integrity_check; "
         "SELECT version, frame_limit, frame_gas, brief, rules, height, hex(digest) FROM session; "
@@ -240,8 +240,8 @@ def refused_files(run: Run) -> None:
         session.ask(asks("program", program))
         session.ask(asks("frame", frame))
         with Session(run.program, "--brief", "--store", path) as other:
-            same(other.end(b"")[1:], ("rvstm: store Busy 1\n", 1), "a second session")
-        same(session.end()[2], 0)
+            same(other.ended(b"")[1:], ("rvstm: store Busy 1\n", 1), "a second session")
+        same(session.ended()[2], 0)
     sound = path.read_bytes()
     for name, statement in (
         ("OtherVersion 5", "UPDATE session SET version = 2"),
@@ -282,7 +282,7 @@ def refuses(run: Run, path: Path, name: str, what: str) -> None:
     """The case ends if a session over a file is not refused by this name, or changes the file."""
     before = path.read_bytes() if path.is_file() else None
     with Session(run.program, "--brief", "--store", path) as session:
-        same(session.end(b""), (b"", f"rvstm: store {name}\n", 1), what)
+        same(session.ended(b""), (b"", f"rvstm: store {name}\n", 1), what)
     same(path.read_bytes() == before if before is not None else True, True, f"{what}: the file is as it was")
 
 
@@ -294,7 +294,7 @@ def damaged(run: Run) -> None:
     with Session(run.program, "--brief", "--store", path) as session:
         session.ask(asks("program", program))
         session.ask(asks("frame", frame))
-        session.end()
+        session.ended()
     sound, came = path.read_bytes(), {"refused": 0, "read": 0}
     for _ in range(DAMAGES):
         data = bytearray(sound)
@@ -302,7 +302,7 @@ def damaged(run: Run) -> None:
         data[place : place + choice.choice((1, 1, 16, 512))] = choice.randbytes(choice.choice((1, 1, 16, 512)))
         put(path, bytes(data))
         with Session(run.program, "--brief", "--store", path) as session:
-            out, errors, status = session.end(b"state\nq\n")
+            out, errors, status = session.ended(b"state\nq\n")
         if status == 0:
             came["read"] += 1
             holds(out.startswith(b"ok ") and not errors, f"{out[:80]!r} {errors}", "an answer")
@@ -336,7 +336,7 @@ def restarted(run: Run) -> None:
             program = long_program(number)
             session.expect(asks("program", program), done(name_of(program) + b"\n"))
         peaks.append(most_memory(session))
-        same(session.end(), (b"", "", 0))
+        same(session.ended(), (b"", "", 0))
     with Session(run.program, "--brief", "--store", path) as session:
         session.expect(asks("state"), state(1, 0, 0, LONG_PROGRAMS))
         peaks.append(most_memory(session))
@@ -371,7 +371,7 @@ def synced(run: Run) -> None:
     with Session(run.program, "--brief", "--store", path, before=watched) as session:
         for request in [asks("state"), *changes]:
             session.ask(request)
-        session.end()
+        session.ended()
     counts, syncs = [], 0
     for line in log.read_bytes().splitlines():
         syncs += bool(SYNC.search(line))
@@ -412,7 +412,7 @@ def nodes(run: Run) -> None:
     same(len(dumps), 1, "dumps")
     run.note(f"{len(frames)} frames, digest {digest[:16].decode()}..")
     for session in (first, second, third):
-        same(session.end()[2], 0)
+        same(session.ended()[2], 0)
 
 
 # ---- the cluster

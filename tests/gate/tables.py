@@ -231,7 +231,7 @@ def check_turns(run: Run, given: Table) -> None:
     with Session(run.program, *given.options.split()) as session:
         for turn in given.turns:
             session.expect(asks("program", given.contents[turn.program]) if turn.program else turn.request.encode(), turn.answer.encode())
-        same(session.end(), (b"", "", 0))
+        same(session.ended(), (b"", "", 0))
 
 
 # ---- blocks

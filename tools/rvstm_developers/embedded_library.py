@@ -29,6 +29,8 @@ FIELDS_OF_AN_ANSWER = 7
 
 
 class Status(enum.IntEnum):
+    """What a call returns, as include/rvstm.h has it."""
+
     DONE = 0
     REFUSED = 1
     CLOSED = 2
