@@ -64,6 +64,12 @@ def of_inputs(calls: int = MOST_CALLS) -> Block:
     return Block([LAST], [CallLine(0, MOST_GAS, filled(LONGEST_INPUT, number)) for number in range(calls)])
 
 
+def of_programs() -> Block:
+    """Each program returns its input, after so many instructions more than the one before it."""
+    programs = [Program([*["addi t1,t1,1"] * number, "addi a7,zero,3", "ecall"]) for number in range(MOST_PROGRAMS)]
+    return Block(programs, [CallLine(number % MOST_PROGRAMS, MOST_GAS, word(number)) for number in range(MOST_CALLS)])
+
+
 def of_file_keys(length: int = 8, rules: int = 1, keys: int = MANY_KEYS) -> Block:
     store = {key(3 * number): filled(length, number) for number in range(keys)}
     return Block([COUNT], [count(0), count(3 * keys - 3), count(3 * keys), count(1)], store, rules)
@@ -107,6 +113,10 @@ def of_adds() -> Block:
 
 
 MAKERS: dict[str, Callable[[], Block]] = {
+    "64 programs, 1,024 calls": of_programs,
+    "32 calls that write 256 keys each": lambda: Block([EACH], [each(256 * number, 256, 0, StorageCall.WRITE) for number in range(32)]),
+    "a call of 5,000 reads": lambda: Block([EACH], [each(0, 5_000, 0, StorageCall.READ)]),
+    "a file of 8 MiB": functools.partial(of_file_keys, 64, 1, 41_944),
     "1,024 inputs of 4,096 bytes": of_inputs,
     "a file of 262,144 keys": of_file_keys,
     "a call of 49,000 reads, and one that reads until its gas is over": of_reads,
@@ -121,6 +131,12 @@ MAKERS: dict[str, Callable[[], Block]] = {
         [EACH], [each(MOST_WRITES * number, MOST_WRITES, 256, StorageCall.WRITE) for number in range(MOST_CALLS)], {}, 2
     ),
 }
+
+SMALL = (
+    "64 programs, 1,024 calls", "1,024 calls on one key", "32 calls that write 256 keys each", "a call of 5,000 reads",
+    "a store to each page, and after the last", "a file of 8 MiB", "1,024 inputs of 4,096 bytes",
+)
+"""What an unproved program runs in seconds, or a proved one at once."""
 
 
 @functools.lru_cache(maxsize=1)

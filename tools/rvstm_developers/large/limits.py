@@ -213,6 +213,9 @@ OTHERS: dict[str, Make] = {
     "a source of 61,441 bytes of data": lambda: assembled("ecall\n.data\n.zero 61440\n.byte 1\n", "asm 4 TooLarge 7"),
     "a source with .zero 65537": lambda: assembled("ecall\n.data\n.zero 65537\n", "asm 3 ImmediateRange 3"),
     "a source with .zero 65536": lambda: assembled("ecall\n.data\n.zero 65536\n", "asm 3 TooLarge 7"),
+    "a source with a branch of 4,092 bytes": lambda: Trial(
+        ["asm", "source", "--out", "made"], files={"source": b"beq t0,t0,behind\n" + b"nop\n" * 1022 + b"behind: ecall\n"}
+    ),
     "a source with a branch of 4,096 bytes": lambda: assembled("beq t0,t0,behind\n" + "nop\n" * 1023 + "behind: ecall\n", "asm 1 LabelRange 6"),
     "a call after the last, debug": lambda: refused(["debug", "block", "--call", "1"], "debug NoSuchCall 1", **{"block": ONE.text(["0.elf"]), "0.elf": COUNT.file}),
 }

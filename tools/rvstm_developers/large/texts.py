@@ -14,7 +14,7 @@ from rvstm_developers.machine_code import EXECUTE, READ, WRITE, Part, elf_of
 from rvstm_tools.texts.keys import numbered_key as key
 
 TEXT_WORDS, DATA_BYTES = 16_384, 61_440  # of a source at most
-ROUNDS = 500_000  # of a loop of two steps
+ROUNDS, FEW_ROUNDS = 500_000, 100_000  # of a loop of two steps
 LISTED = {
     0x002081B3: "add x3,x1,x2", 0xFFB00093: "addi x1,x0,-5", 0x00309093: "slli x1,x1,3", 0xFFC12083: "lw x1,-4(x2)",
     0xFE20AE23: "sw x2,-4(x1)", 0x000280E7: "jalr x1,0(x5)", 0xFE208EE3: "beq x1,x2,-4", 0x001000EF: "jal x1,2048",
@@ -94,18 +94,18 @@ class Moments:
         return Call(self.program, self.rules, self.store, self.call.gas, self.call.data).until(moment)
 
 
-def debugged() -> Trial:
-    """A call of a million steps: to its last moment and back, step by step at both ends and in the middle."""
-    block = Block([COUNT], [count(1), count(1), count(1, ROUNDS), count(1)])
+def debugged(rounds: int) -> Trial:
+    """A call of so many rounds: to its last moment and back, step by step at both ends and in the middle."""
+    block = Block([COUNT], [count(1), count(1), count(1, rounds), count(1)])
     moments = Moments(block, 2)
     end = moments.at()
-    middle, loop = moments.at(ROUNDS + 1), moments.at(2)
+    middle, loop = moments.at(rounds + 1), moments.at(2)
     last, memory = end.steps, end.bytes(machine.INPUT, 4096).hex()
     rows = [
         Said("w", where(moments.at(0))), Said(f"t {last}", where(end)), Said("r", registers(end)), Said("s", "refused AtEnd 2"),
         Said(f"v {key(1).hex()}", "value 03000000"), Said("b", where(moments.at(last - 1))), Said("s", where(end)), Said("t 0", where(moments.at(0))),
         Said("b", "refused AtStart 3"), Said(f"t {last + 1}", "refused AtEnd 2"), Said("t 4294967295", "refused AtEnd 2"), Said("t 4294967296", "what"),
-        Said(f"t {ROUNDS + 1}", where(middle)), Said("r", registers(middle)), Said("b", where(moments.at(ROUNDS))), Said("t 2", where(loop)),
+        Said(f"t {rounds + 1}", where(middle)), Said("r", registers(middle)), Said("b", where(moments.at(rounds))), Said("t 2", where(loop)),
         Said("r", registers(loop)), Said(f"g {end.pc:08x}", where(moments.at(last - 1))), Said("m 00100000 4096", memory), Said("m 00100000 4097", "what"),
         Said("m 0010f000 4096", end.bytes(0x10F000, 4096).hex()), Said("m 0010f001 4096", "refused BadRange 4"), Said("t 3", where(moments.at(3))),
         Said("e", f"ends returned - {end.limit - end.left} {last}"), Said(f"v {key(1).hex()}", "value 02000000"), Said("q", None),
@@ -113,9 +113,9 @@ def debugged() -> Trial:
     return replayed(block, 2, rows)
 
 
-def back_to_back() -> Trial:
-    """A call of a million steps, from its last moment back by single steps."""
-    block = Block([COUNT], [count(1, ROUNDS)])
+def back_to_back(rounds: int) -> Trial:
+    """A call of so many rounds, from its last moment back by single steps."""
+    block = Block([COUNT], [count(1, rounds)])
     moments = Moments(block, 0)
     last = moments.at().steps
     rows = [Said(f"t {last}", where(moments.at()))]
@@ -123,11 +123,13 @@ def back_to_back() -> Trial:
     return replayed(block, 0, rows)
 
 
-ROWS: dict[str, Make] = {
-    "migrate of a block file of 2 MB": functools.partial(migrated, 20_000),
-    "migrate of a block file of 262,144 keys": functools.partial(migrated, blocks.MANY_KEYS),
-    "asm of a source of 2 MB": assembled,
-    "dis of a program of 131,072 bytes": listed,
-    "debug of a call of a million steps": debugged,
-    "debug of a call of a million steps, back from its last moment": back_to_back,
-}
+def rows(is_small: bool) -> dict[str, Make]:
+    rounds = FEW_ROUNDS if is_small else ROUNDS
+    return {
+        "migrate of a block file of 2 MB": functools.partial(migrated, 20_000),
+        "migrate of a block file of 262,144 keys": functools.partial(migrated, blocks.MANY_KEYS),
+        "asm of a source of 2 MB": assembled,
+        "dis of a program of 131,072 bytes": listed,
+        f"debug of a call of {2 * rounds:,} steps": functools.partial(debugged, rounds),
+        f"debug of a call of {2 * rounds:,} steps, back from its last moment": functools.partial(back_to_back, rounds),
+    }

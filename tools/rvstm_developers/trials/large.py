@@ -18,7 +18,7 @@ from rvstm_tools.options import Command, argument
 from rvstm_tools.texts import differences
 
 WORKERS = (1, 5, 32)
-IN_TURN = ("300 calls on seven keys", "1,024 calls on one key")  # blocks that `drive` also runs with workers in turn
+IN_TURN = ("300 calls on seven keys", "1,024 calls on one key", "64 programs, 1,024 calls")  # blocks that `drive` also runs with workers in turn
 BY_WORKERS = ("1,024 calls on one key", "frames of many calls and of few")  # sessions that threads run, too
 BY_PARTS = ("frames of many calls and of few",)  # those whose file is taken over with other numbers of workers
 PARTS_WORKERS = ("32", "1", "5", "")
@@ -204,20 +204,20 @@ def rows_of_stacks(bench: Bench) -> Iterator[Row]:
     yield Row(f"the least stack, {chain}, chain", functools.partial(whole_session, (), chain), bench.least_stack)
 
 
-def rows(bench: Bench) -> Iterator[Row]:
-    for name in blocks.MAKERS:
+def rows(bench: Bench, is_small: bool) -> Iterator[Row]:
+    for name in blocks.SMALL if is_small else blocks.MAKERS:
         yield from rows_of_block(bench, name)
-    for name in sessions.MAKERS:
+    for name in () if is_small else sessions.MAKERS:
         yield from rows_of_session(bench, name)
-    for name, make in (long_texts.ROWS | limits.ROWS).items():
+    for name, make in (long_texts.rows(is_small) | limits.ROWS).items():
         yield Row(name, make, bench.row)
-    yield from rows_of_stacks(bench)
+    yield from () if is_small else rows_of_stacks(bench)
 
 
 def run(given: argparse.Namespace) -> int:
     with texts.new_folder("large-") as place:
         bench = Bench(given.rvstm, place)
-        asked = [row for row in rows(bench) if given.only in row.name]
+        asked = [row for row in rows(bench, given.small) if any(word in row.name for word in given.only or [""])]
         if given.list:
             print("\n".join(row.name for row in asked))
             return 0
@@ -243,7 +243,8 @@ program takes hours. The parts of a session in a file depend on the parts before
     run,
     (
         options.RVSTM,
-        argument("--only", default="", metavar="WORD", help="only the rows that have WORD in their names"),
+        argument("--only", action="append", metavar="WORD", help="only the rows that have WORD in their names; it may be given again"),
+        argument("--small", action="store_true", help="smaller sizes, no sessions and no stacks"),
         argument("--list", action="store_true", help="prints the names of the rows, and runs nothing"),
     ),
 )
