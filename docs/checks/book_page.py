@@ -7,10 +7,10 @@ from dataclasses import dataclass, field
 from html import escape
 
 from checks import book, citations, definitions, reading, sources
-from checks.book import Book, Entry, Names
-from checks.citations import Cited, Place
+from checks.book import Book, BookEntry, Names
+from checks.citations import Cited, Origin
 from checks.definitions import Type
-from checks.reading import Asked, Row
+from checks.reading import AskedCall, ReadingRow
 
 TOKEN = re.compile(r"[^\s(){}\[\];,λ]+")
 RUST_WORD = re.compile(r"\b([A-Z]\w*)\b")
@@ -51,7 +51,7 @@ dd { margin: 0; }
 
 
 def anchor(cited: Cited) -> str:
-    place = reading.module_of(cited).library + "." + reading.module_of(cited).name if cited.kind is Place.KIT else f"{cited.place}.{cited.name}"
+    place = reading.module_of(cited).library + "." + reading.module_of(cited).name if cited.kind is Origin.KIT else f"{cited.place}.{cited.name}"
     return f"{cited.kind.value}-{re.sub(r'[^0-9A-Za-z_.◌]+', '-', place)}" + ("" if place.isascii() else f"-{abs(sum(map(ord, place)))}")
 
 
@@ -78,8 +78,8 @@ class Page:
         """A text, as a link if the book has what it refers to."""
         if cited not in self.held.reading.cited:
             return escape(text)
-        kind = {Place.KIT: "kit", Place.TYPE: "type", Place.DEFINITION: "definition"}[cited.kind]
-        where = f"{reading.module_of(cited).library} {reading.module_of(cited).name}" if cited.kind is Place.KIT else cited.place
+        kind = {Origin.KIT: "kit", Origin.TYPE: "type", Origin.DEFINITION: "definition"}[cited.kind]
+        where = f"{reading.module_of(cited).library} {reading.module_of(cited).name}" if cited.kind is Origin.KIT else cited.place
         return f'<a class="{kind}" href="#{anchor(cited)}" title="{escape(where)}">{escape(text)}</a>'
 
     def linked_token(self, token: str, names: Mapping[str, Cited]) -> str:
@@ -125,7 +125,7 @@ class Page:
 
     # ---- parts
 
-    def contract(self, asked: Asked) -> Iterator[str]:
+    def contract(self, asked: AskedCall) -> Iterator[str]:
         call = asked.call
         text = "\n".join(line for line in book.contract_of(asked).splitlines() if not line.startswith("///"))
         names = by_word(citations.names_in(call.path, sources.without_comments(text)))
@@ -133,7 +133,7 @@ class Page:
         yield f'<section class="entry"><p class="quiet">{escape(sources.shown(call.path))}, line {call.line}</p>'
         yield f"<p>{prose(' '.join(call.comment))}</p><pre>{self.linked_code(text, types, names)}</pre></section>"
 
-    def file(self, number: int, row: Row) -> Iterator[str]:
+    def file(self, number: int, row: ReadingRow) -> Iterator[str]:
         lines = f"{row.read} of {row.lines} lines" if row.rest else f"{row.lines} lines"
         yield f'<h2 id="{file_anchor(row.file)}">{number}&ensp;{escape(row.file)}</h2>'
         yield f'<p>{prose(" ".join(definitions.head_comment(row.file)))} <span class="quiet">({lines})</span></p>'
@@ -142,7 +142,7 @@ class Page:
         if row.rest:
             yield f'<p class="quiet">{escape(book.LEFT_OUT)}{", ".join(f"<code>{escape(name)}</code>" for name in row.rest)}</p>'
 
-    def entry(self, entry: Entry) -> Iterator[str]:
+    def entry(self, entry: BookEntry) -> Iterator[str]:
         """A definition: its comment as text, its lines, and what uses it."""
         lines = entry.text.splitlines()
         notes = [line.removeprefix("--").strip() for line in lines if line.startswith("--")]
@@ -160,7 +160,7 @@ class Page:
         return f'<p class="quiet">used by {links}</p>' if users else ""
 
     def type(self, held: Type) -> Iterator[str]:
-        cited = Cited(Place.TYPE, held.crate, held.name)
+        cited = Cited(Origin.TYPE, held.crate, held.name)
         ghost = "\n".join([*held.model.values(), *re.findall(r"ghost .*", held.code)])
         names = by_word(citations.names_in(held.path, sources.without_comments(ghost)))
         types = citations.code_names(held.path, held.code)
@@ -172,7 +172,7 @@ class Page:
 
     def kit(self, names: Names) -> Iterator[str]:
         module = names.module
-        cited = next(cited for cited in self.held.reading.cited if cited.kind is Place.KIT and reading.module_of(cited) == module)
+        cited = next(cited for cited in self.held.reading.cited if cited.kind is Origin.KIT and reading.module_of(cited) == module)
         file = reading.kit_file(module)
         yield f'<section class="entry" id="{anchor(cited)}"><h3>{escape(module.library)} {escape(module.name)}</h3>'
         yield f'<p class="quiet">{escape(str(file))}</p>' if file else ""
@@ -186,7 +186,7 @@ class Page:
         yield f"<li><b>together</b><span>{held.lines:,}</span></li></ol>"
         yield "<h2>Types of the code</h2><ul>" if held.types else ""
         for entry in held.types:
-            yield f'<li><a href="#{anchor(Cited(Place.TYPE, entry.crate, entry.name))}">{escape(entry.name)}</a><span>{entry.crate}</span></li>'
+            yield f'<li><a href="#{anchor(Cited(Origin.TYPE, entry.crate, entry.name))}">{escape(entry.name)}</a><span>{entry.crate}</span></li>'
         yield "</ul>" if held.types else ""
         yield '<h2>Of the kit</h2><ul><li><a href="#kit">modules</a></li></ul></nav>' if held.modules else "</nav>"
 

@@ -33,14 +33,14 @@ FOLDERS = ("", "crates", "docs", "sdk", "bench", "tests")
 
 
 @dataclass(frozen=True)
-class Named:
+class NamedCall:
     call: str
     clauses: tuple[str, ...]
 
 
-def named_calls(text: str) -> Iterator[Named]:
+def named_calls(text: str) -> Iterator[NamedCall]:
     for path, clauses in CALL.findall(text):
-        yield Named(path, tuple(re.findall(r"`(\w+)`", clauses)))
+        yield NamedCall(path, tuple(re.findall(r"`(\w+)`", clauses)))
     for proved in PROVED.findall(text):
         call, clauses = "", list[str]()
         for word in [*QUOTED.findall(proved), "::"]:
@@ -48,7 +48,7 @@ def named_calls(text: str) -> Iterator[Named]:
                 clauses.append(word)
                 continue
             if call:
-                yield Named(call, tuple(clauses))
+                yield NamedCall(call, tuple(clauses))
             call, clauses = word, []
 
 

@@ -150,14 +150,14 @@ class Ledger(unittest.TestCase):
     @unittest.skipUnless((engines.TOP / "tools/rvstm_developers").is_dir(), "only a checkout has the model of a session")
     def test_1_answers_are_those_of_seq(self) -> None:
         sys.path.append(str(engines.TOP / "tests"))
-        from rvstm_developers.models.sessions import Model
+        from rvstm_developers.models.sessions import SessionModel
 
         for strange, _ in transfers.strange(random.Random(2)).values():
             self.append(strange)
         self.transfers(3)
         self.settle()
         settings = Settings(transfers.SETTINGS["frame_limit"], transfers.SETTINGS["frame_gas"], True, True)
-        model = Model(Program(Path(engines.rvstm())), settings)
+        model = SessionModel(Program(Path(engines.rvstm())), settings)
         self.addCleanup(model.place.cleanup)
         for file in transfers.FILES:
             model.answer(Request(Word.PROGRAM, (), file))

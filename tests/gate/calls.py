@@ -13,7 +13,7 @@ Word = str | Path
 
 
 @dataclass(frozen=True)
-class Ended:
+class EndedCommand:
     """How a command ended."""
 
     words: tuple[str, ...]
@@ -34,17 +34,17 @@ class Ended:
             raise Differs(f"{' '.join(self.words)}: came {shown(came)}; wanted {shown(wanted)}")
 
 
-def command(words: Sequence[Word], folder: Word = ".", data: str | bytes = b"", more: dict[str, str] | None = None) -> Ended:
+def command(words: Sequence[Word], folder: Word = ".", data: str | bytes = b"", more: dict[str, str] | None = None) -> EndedCommand:
     """Runs a command in a folder. Bytes that are no text of UTF-8 are shown by their numbers."""
     given = data.encode() if isinstance(data, str) else data
     how = {**os.environ, **(more or {})}
     done = subprocess.run([str(word) for word in words], cwd=folder, input=given, capture_output=True, env=how)
     name = (Path(str(words[0])).name, *(str(word) for word in words[1:]))
     out, errors = (text.decode(errors="backslashreplace") for text in (done.stdout, done.stderr))
-    return Ended(name, out, errors, done.returncode)
+    return EndedCommand(name, out, errors, done.returncode)
 
 
-def rvstm(run: Run, *words: Word, folder: Word = ".", data: str | bytes = b"") -> Ended:
+def rvstm(run: Run, *words: Word, folder: Word = ".", data: str | bytes = b"") -> EndedCommand:
     """Runs the program."""
     return command([run.program, *words], folder, data)
 
@@ -54,6 +54,6 @@ def tool_words(name: str) -> list[str]:
     return [str(TOP / "tools" / ("rvstm-tools" if name in commandline.NAMES else "rvstm-developers")), name]
 
 
-def tool(run: Run, name: str, *words: Word, folder: Word = ".", data: str | bytes = b"") -> Ended:
+def tool(run: Run, name: str, *words: Word, folder: Word = ".", data: str | bytes = b"") -> EndedCommand:
     """Runs a tool, which runs the program."""
     return command([*tool_words(name), *words], folder, data, {"RVSTM": str(run.program)})

@@ -2,7 +2,7 @@
 
 from collections.abc import Iterable
 
-from gate.calls import Ended, command
+from gate.calls import EndedCommand, command
 from gate.runner import Case, Run, Tool, same
 from gate.shims import loaded
 from gate.texts import written
@@ -41,12 +41,12 @@ def begun(run: Run) -> None:
     (run.place / "echo.elf").write_bytes(ELF)
 
 
-def with_failing(run: Run, words: Iterable[str], **failing: str) -> Ended:
+def with_failing(run: Run, words: Iterable[str], **failing: str) -> EndedCommand:
     """Runs a command of which reads or writes fail."""
     return command([run.program, *words], run.place, TYPED, {**loaded(run, "failing_streams.c"), **failing})
 
 
-def ends(done: Ended, status: int, out: str, errors: str, what: str) -> None:
+def ends(done: EndedCommand, status: int, out: str, errors: str, what: str) -> None:
     """A command ended so."""
     same((done.status, done.out, done.errors), (status, out, errors), what)
 

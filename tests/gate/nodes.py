@@ -15,7 +15,7 @@ from pathlib import Path
 from gate.calls import command
 from gate.runner import CONTRACTS, TOP, Case, Lacks, Run, holds, same
 from gate.outside import last_lines
-from rvstm_developers.models.sessions import NO_DIGEST, Model
+from rvstm_developers.models.sessions import NO_DIGEST, SessionModel
 from rvstm_tools.programs.running import Program
 from rvstm_tools.sessions import answers, requests
 from rvstm_tools.sessions import frames as texts
@@ -73,9 +73,9 @@ def read_blocks() -> Blocks:
 
 
 @contextmanager
-def model_of(run: Run, blocks: Blocks) -> Iterator[Model]:
+def model_of(run: Run, blocks: Blocks) -> Iterator[SessionModel]:
     """A session in Python, which runs frames by `rvstm seq`, and has begun."""
-    model = Model(Program(run.program), SETTINGS)
+    model = SessionModel(Program(run.program), SETTINGS)
     with model.place:
         for request in (*blocks.programs, blocks.begin()):
             model.answer(request)

@@ -10,7 +10,7 @@ from typing import Any
 from gate import waits
 from gate.calls import command, rvstm, tool_words
 from gate.runner import TOP, Case, Run, holds, same
-from gate.texts import Call, block, ends, field, mixed, receipts, storage, written
+from gate.texts import GivenCall, block, ends, field, mixed, receipts, storage, written
 
 FOLDER = TOP / "tests/cases"
 WORKERS = (1, 2, 4, 8, 32)
@@ -46,7 +46,7 @@ def contract(run: Run, name: str) -> None:
     data = json_of(FOLDER / f"contracts/{name}.json")
     groups = [{"name": one["name"], "start": {}, "calls": [one]} for one in data.get("cases", [])] + data.get("sequences", [])
     for group in groups:
-        calls = [Call(0, one["gas"], one["input"]) for one in group["calls"]]
+        calls = [GivenCall(0, one["gas"], one["input"]) for one in group["calls"]]
         result = by_seq(run, block([f"contracts/{data['program']}.elf"], calls, group["start"]))
         same(ends(result), [(one["end"], field(one["output"])) for one in group["calls"]], group["name"])
         if "final" in group:
@@ -108,7 +108,7 @@ def torture(run: Run, names: Sequence[str]) -> None:
     """The bytes that programs return, the programs that their sources are assembled to, and their replays."""
     expected: dict[str, str] = json_of(FOLDER / "torture/expected.json")
     for name in names:
-        text = block([f"torture/{name}.elf"], [Call()])
+        text = block([f"torture/{name}.elf"], [GivenCall()])
         result = by_seq(run, text)
         same(ends(result), [("returned", expected[name])], name)
         made = run.place / "made.elf"
@@ -135,7 +135,7 @@ def replay(run: Run, name: str, output: str, registers: str) -> None:
 def images(run: Run) -> None:
     """ELF files as real tools write them: the fault of each, or a result."""
     for name, fault, number in rows(FOLDER / "images/TABLE", " ", 3):
-        path = written(run.place / "case.block", block([f"images/{name}"], [Call(gas=1)]))
+        path = written(run.place / "case.block", block([f"images/{name}"], [GivenCall(gas=1)]))
         done = rvstm(run, "seq", path, folder=FOLDER)
         if fault == "ok":
             same(done.done().splitlines()[-1], "end", name)
@@ -174,7 +174,7 @@ def legal_words(run: Run) -> None:
         part = table[at : at + PROGRAMS_A_BLOCK]
         for number, (word, _) in enumerate(part):
             (run.place / f"{number}.elf").write_bytes(program_of([word]))
-        calls = [Call(number, 1000) for number in range(len(part))]
+        calls = [GivenCall(number, 1000) for number in range(len(part))]
         came = receipts(by_seq(run, block([f"{number}.elf" for number in range(len(part))], calls), run.place))
         for (word, text), receipt in zip(part, came, strict=True):
             is_legal = word & 0x707F == 0x000F or not text.startswith(".word")

@@ -7,7 +7,7 @@ import stat
 from collections.abc import Callable
 from pathlib import Path
 
-from gate.calls import Ended, Word, command, rvstm
+from gate.calls import EndedCommand, Word, command, rvstm
 from gate.runner import Case, Run, Tool, holds, same
 from gate.shims import loaded
 from gate.texts import written
@@ -20,7 +20,7 @@ NEW_NAMES = [f".rvstm.new{number}" for number in range(100)]
 """The names of a new file while it is written, of which the first free one is taken."""
 
 
-def migrated(run: Run, path: str | Path) -> Ended:
+def migrated(run: Run, path: str | Path) -> EndedCommand:
     """Puts the new bytes at a path."""
     written(run.place / "block", GIVEN)
     return rvstm(run, "migrate", "block", "--out", path, folder=run.place)
@@ -158,7 +158,7 @@ def one_file(run: Run) -> None:
         (one / name).symlink_to(to)
     old(run, "one/other")
 
-    def rewritten(file: str, path: str) -> Ended:
+    def rewritten(file: str, path: str) -> EndedCommand:
         return rvstm(run, "migrate", file, "--out", path, folder=run.place)
 
     for file, path in (
@@ -173,7 +173,7 @@ def one_file(run: Run) -> None:
     same(names_in(one), ["file", "hard", "loop", "none", "other", "soft"])
 
 
-def with_failing(run: Run, kind: str, number: int, error: int, name: str = "migrate", file: str = "block") -> Ended:
+def with_failing(run: Run, kind: str, number: int, error: int, name: str = "migrate", file: str = "block") -> EndedCommand:
     """A command puts its file at `failing/out`, and one call on a file fails."""
     written(run.place / "block", GIVEN)
     written(run.place / "source", SOURCE)

@@ -14,7 +14,7 @@ def field(data: str) -> str:
 
 
 @dataclass(frozen=True)
-class Call:
+class GivenCall:
     """A call of a block: the number of its program, its gas and its input in hex."""
 
     program: int = 0
@@ -22,7 +22,7 @@ class Call:
     data: str = ""
 
 
-def block(programs: Sequence[str], calls: Iterable[Call], store: Mapping[str, str] | None = None, head: str = FORMAT_1) -> str:
+def block(programs: Sequence[str], calls: Iterable[GivenCall], store: Mapping[str, str] | None = None, head: str = FORMAT_1) -> str:
     """The text of a block file."""
     lines = [f"program {number} {path}\n" for number, path in enumerate(programs)]
     lines += [f"store {key} {field(value)}\n" for key, value in sorted((store or {}).items())]
@@ -31,7 +31,7 @@ def block(programs: Sequence[str], calls: Iterable[Call], store: Mapping[str, st
 
 
 @dataclass(frozen=True)
-class Receipt:
+class CallReceipt:
     """The `call` line of a result."""
 
     end: str
@@ -39,10 +39,10 @@ class Receipt:
     output: str
 
 
-def receipts(result: str) -> list[Receipt]:
+def receipts(result: str) -> list[CallReceipt]:
     """The calls of a result."""
     words = [line.split(" ") for line in result.splitlines() if line.startswith("call ")]
-    return [Receipt(word[2], int(word[4]), word[8]) for word in words]
+    return [CallReceipt(word[2], int(word[4]), word[8]) for word in words]
 
 
 def ends(result: str) -> list[tuple[str, str]]:

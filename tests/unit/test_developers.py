@@ -8,7 +8,7 @@ from unittest import mock
 
 from rvstm_developers import commandline
 from rvstm_developers.bench import tables
-from rvstm_developers.bench.pictures import Picture, Point
+from rvstm_developers.bench.pictures import LinePicture, Point
 from rvstm_developers.texts import TOP
 from rvstm_tools.errors import MisuseError
 
@@ -60,6 +60,6 @@ class OfParts(unittest.TestCase):
         self.assertEqual(tables.ratio([2, 9, 4], [1, 3, 1]), 3)
 
     def test_a_picture(self) -> None:
-        picture = Picture(100, 50, 10, 90, 40)
+        picture = LinePicture(100, 50, 10, 90, 40)
         picture.line([Point(10, 40), Point(90, 20)], "#000000")
         self.assertIn('<polyline points="10,40 90,20" fill="none" stroke="#000000" stroke-width="2"/>', picture.parts)

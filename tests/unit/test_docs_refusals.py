@@ -8,7 +8,7 @@ from pathlib import Path
 from unittest import mock
 
 import refusals
-from refusals import Enumeration, Refusal
+from refusals import Enumeration, RefusalRow
 
 FAULTS = """\
 /// Why a text is refused.
@@ -83,9 +83,9 @@ class Refusals(unittest.TestCase):
         self.assertEqual(
             found,
             [
-                Refusal("text N NoHead 1", "The first line is missing, or empty."),
-                Refusal("text Memory 2", "Memory ran out."),
-                Refusal("refused turn Late 7", "It comes too late."),
+                RefusalRow("text N NoHead 1", "The first line is missing, or empty."),
+                RefusalRow("text Memory 2", "Memory ran out."),
+                RefusalRow("refused turn Late 7", "It comes too late."),
             ],
         )
 

@@ -243,7 +243,7 @@ FILES = {
 }
 
 
-def found(others: Mapping[str, str] | None = None) -> dict[unused.Kind, list[str]]:
+def found(others: Mapping[str, str] | None = None) -> dict[unused.UnusedKind, list[str]]:
     """By kind what is unused in the crate base, without its name or the folder of its files."""
     with sample.tree({**FILES, **(others or {})}):
         rows = [*unused.unused_names("base"), *unused.unused_places("base")]
@@ -259,11 +259,11 @@ class Unused(unittest.TestCase):
         rows = found()
         # Held is shown by Fault, and this by the result of counted, which is called on a Boxed; the user names it Named. Nobody has an
         # Alone to call its counted on.
-        self.assertEqual(rows[unused.Kind.NOBODY], ["Alone", "Alone::counted", "Boxed::left_over", "listed"])
-        self.assertEqual(rows[unused.Kind.OWN], ["limits::HIGH", "only_here"])
-        self.assertEqual(rows[unused.Kind.TESTS], ["LIMIT", "Tested", "starred"])
-        self.assertEqual(rows[unused.Kind.UNCITED], ["no_page"])
-        self.assertNotIn(unused.Kind.BOTH, rows)
+        self.assertEqual(rows[unused.UnusedKind.NOBODY], ["Alone", "Alone::counted", "Boxed::left_over", "listed"])
+        self.assertEqual(rows[unused.UnusedKind.OWN], ["limits::HIGH", "only_here"])
+        self.assertEqual(rows[unused.UnusedKind.TESTS], ["LIMIT", "Tested", "starred"])
+        self.assertEqual(rows[unused.UnusedKind.UNCITED], ["no_page"])
+        self.assertNotIn(unused.UnusedKind.BOTH, rows)
 
     def test_each_name_once_used(self) -> None:
         users = {
@@ -273,41 +273,41 @@ class Unused(unittest.TestCase):
             "docs/laws.md": "`base::no_page`\n",
         }
         rows = found(users)
-        self.assertEqual(rows[unused.Kind.TESTS], ["LIMIT", "starred"])
-        self.assertEqual(rows[unused.Kind.BOTH], ["limits::HIGH", "only_here"])
-        self.assertFalse({unused.Kind.NOBODY, unused.Kind.OWN, unused.Kind.UNCITED} & set(rows))
+        self.assertEqual(rows[unused.UnusedKind.TESTS], ["LIMIT", "starred"])
+        self.assertEqual(rows[unused.UnusedKind.BOTH], ["limits::HIGH", "only_here"])
+        self.assertFalse({unused.UnusedKind.NOBODY, unused.UnusedKind.OWN, unused.UnusedKind.UNCITED} & set(rows))
 
     def test_imports_that_do_not_occur(self) -> None:
         rows = found({"crates/user/src/more.rt": "use base::{Alone, listed};\n// listed()\nfn f() -> u32 {\n    \"Alone\"\n}\n"})
-        self.assertEqual(rows[unused.Kind.NOBODY], ["Alone", "Alone::counted", "Boxed::left_over", "listed"])
+        self.assertEqual(rows[unused.UnusedKind.NOBODY], ["Alone", "Alone::counted", "Boxed::left_over", "listed"])
 
     def test_names_in_a_text_to_print(self) -> None:
         code = "use base::{LIMIT, Alone};\nfn f() -> String {\n    format!(in alloc; \"Alone {LIMIT} {0}\")\n}\n"
         rows = found({"crates/user/src/more.rt": code})
-        self.assertEqual(rows[unused.Kind.TESTS], ["Tested", "starred"])
-        self.assertIn("Alone", rows[unused.Kind.NOBODY])
+        self.assertEqual(rows[unused.UnusedKind.TESTS], ["Tested", "starred"])
+        self.assertIn("Alone", rows[unused.UnusedKind.NOBODY])
 
     def test_definitions(self) -> None:
         rows = found()
         # `no_one` is also a field, in a comment, and in a `pub use`; IsBig is reached by the arguments of the module of IsEven.
-        self.assertEqual(rows[unused.Kind.NOTHING], ["specs/Numbers.antt IsOdd", "specs/Numbers.antt no_one", "specs/Numbers.antt ◌⊖◌"])
-        self.assertEqual(rows[unused.Kind.PROOFS], ["specs/Numbers.antt for_proofs", "specs/Numbers.antt one", "specs/Numbers.antt two"])
+        self.assertEqual(rows[unused.UnusedKind.NOTHING], ["specs/Numbers.antt IsOdd", "specs/Numbers.antt no_one", "specs/Numbers.antt ◌⊖◌"])
+        self.assertEqual(rows[unused.UnusedKind.PROOFS], ["specs/Numbers.antt for_proofs", "specs/Numbers.antt one", "specs/Numbers.antt two"])
 
     def test_each_definition_once_used(self) -> None:
         code = "ghost use Rattle.base.specs.Shown as s;\nghost use Rattle.base.specs.Numbers.{IsOdd as Odd, ◌⊖◌, for_proofs};\nfn f() -> u32\n"
         clauses = "    ensures odd { Odd (s.no_one ⊖ for_proofs) }\n{\n    7\n}\n"
         rows = found({"crates/user/src/more.rt": code + clauses})
         # `s.no_one` is that of Numbers, which Shown passes on.
-        self.assertFalse({unused.Kind.NOTHING, unused.Kind.PROOFS} & set(rows))
+        self.assertFalse({unused.UnusedKind.NOTHING, unused.UnusedKind.PROOFS} & set(rows))
 
     def test_lemmas(self) -> None:
         wanted = ["helper", "lost", "never", "only_never"]
-        self.assertEqual(found()[unused.Kind.LEMMA], [*(f"proofs/Lemmas.antt {name}" for name in wanted), "proofs/numbers/by_path/Answers.antt idle"])
+        self.assertEqual(found()[unused.UnusedKind.LEMMA], [*(f"proofs/Lemmas.antt {name}" for name in wanted), "proofs/numbers/by_path/Answers.antt idle"])
 
     def test_each_lemma_once_used(self) -> None:
         proof = "use Rattle.base.proofs.Lemmas.{helper, lost, never}\n\npub shares : ℕ\nshares = helper lost never idle\n"
         rows = found({"crates/base/proofs/numbers/TheLaw/Proof.antt": proof})
-        self.assertEqual(rows[unused.Kind.LEMMA], ["proofs/numbers/by_path/Answers.antt idle"])
+        self.assertEqual(rows[unused.UnusedKind.LEMMA], ["proofs/numbers/by_path/Answers.antt idle"])
 
     def test_items(self) -> None:
         with sample.tree(FILES):
@@ -331,7 +331,7 @@ class Printed(unittest.TestCase):
         self.assertIn("    2 a definition that nothing reaches", lines)
         self.assertEqual(lines[-2], "    5 a lemma that nothing reaches")
         self.assertEqual(lines[-1], "docs/unused_names.txt: base::again is used, or is not there")
-        self.assertEqual(chosen, [f"    0 {kind.value}" for kind in unused.Kind])
+        self.assertEqual(chosen, [f"    0 {kind.value}" for kind in unused.UnusedKind])
 
     def test_a_page_names_it(self) -> None:
         with sample.tree({**FILES, "docs/calls.md": "`base::listed`\n"}):

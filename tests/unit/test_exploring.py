@@ -17,10 +17,10 @@ from rvstm_tools.exploring import expressions, foundlists, runs, saved, shorteni
 from rvstm_tools.exploring.comparing import Data, MistakeError, Name
 from rvstm_tools.exploring.descriptions import WRONG_TIME, Description
 from rvstm_tools.exploring.expressions import Raised, Rule
-from rvstm_tools.exploring.places import AnyBytes, DrawnBytes, Numbers, Span, Words
-from rvstm_tools.exploring.progress import Progress
+from rvstm_tools.exploring.places import AnyBytes, DrawnBytes, NumberSpans, Span, Words
+from rvstm_tools.exploring.progress import ProgressLine
 from rvstm_tools.exploring.reached import Reached, Sample, Sampler, Way
-from rvstm_tools.exploring.runs import Call, Finding, Run
+from rvstm_tools.exploring.runs import DrawnCall, Finding, SequenceRun
 from rvstm_tools.exploring.saved import SavedCall
 from rvstm_tools.exploring.shortening import Shorter
 from rvstm_tools.exploring.storages import StorageByReceipts
@@ -150,7 +150,7 @@ class OfDescriptions(InFolder):
         assert found.time
         self.assertEqual((found.stores, found.blocks.block.storage), (["store key:a u8:9"], {A: b"\t"}))
         self.assertEqual((found.time.after(9, 50), found.time.after(250, 6), found.time.less(51)[:4]), (59, 255, [0, 3, 50, 50]))
-        calls = [Call(found.kinds[0], {"some": number}, step) for number, step in enumerate((None, 3, None, 50, 2), 1)]
+        calls = [DrawnCall(found.kinds[0], {"some": number}, step) for number, step in enumerate((None, 3, None, 50, 2), 1)]
         self.assertEqual([len(block) for block in runs.blocks_of(calls)], [1, 2, 1, 1])
         self.assertEqual([(call.values["some"], call.step) for call in runs.left(calls, [0, 2, 4])], [(1, None), (3, 3), (5, 52)])
         self.assertEqual(saved.restored(found, saved.saved(calls)), calls)
@@ -208,7 +208,7 @@ class OfExpressions(unittest.TestCase):
 class OfPlaces(unittest.TestCase):
     def test_what_is_drawn_is_what_may_be(self) -> None:
         draw = random.Random(1)
-        numbers = Numbers((Span(3, 5), Span(10, 10)))
+        numbers = NumberSpans((Span(3, 5), Span(10, 10)))
         for _ in range(1000):
             self.assertIn(numbers.drawn(draw, [4, 100]), (3, 4, 5, 10))
             data = AnyBytes(Span(1, 3)).drawn(draw, [])
@@ -218,13 +218,13 @@ class OfPlaces(unittest.TestCase):
     def test_the_same_seed_draws_the_same(self) -> None:
         """As Python's `random` draws since 3.2, whatever the machine."""
         draw = random.Random("1:0")
-        drawn = [Numbers((Span(0, 60),)).drawn(draw, [7]) for _ in range(12)]
+        drawn = [NumberSpans((Span(0, 60),)).drawn(draw, [7]) for _ in range(12)]
         self.assertEqual(drawn, DRAWN)
 
     def test_samples_and_what_is_simpler(self) -> None:
         self.assertEqual(Words(("a", "b", "c")).simpler("c"), ["a", "b"])
         self.assertEqual(Words(("a", "b", "c")).simpler("a"), [])
-        numbers = Numbers((Span(2, 4), Span(90, 100)))
+        numbers = NumberSpans((Span(2, 4), Span(90, 100)))
         self.assertEqual(numbers.samples(), [2, 4, 90, 100])
         self.assertEqual(numbers.simpler(98), [2, 92, 95, 97])  # 98 less 96, 6, 3 and 1; less 48, 24 and 12 are in no range
         self.assertEqual(numbers.simpler(2), [])
@@ -579,15 +579,15 @@ class OverBank(Explored):
 class OfShortening(OverBank):
     RULE = "returned before.u64('key:a') != n or n < 50\n"
 
-    def finding(self, run: Run, *calls: tuple[int, int]) -> Finding:
+    def finding(self, run: SequenceRun, *calls: tuple[int, int]) -> Finding:
         """What calls break, each by the number of its kind and its amount."""
-        found = run.finding_of([Call(run.description.kinds[kind], {"n": amount}) for kind, amount in calls])
+        found = run.finding_of([DrawnCall(run.description.kinds[kind], {"n": amount}) for kind, amount in calls])
         assert found
         return found
 
     def shorter(self, *calls: tuple[int, int]) -> list[str]:
         """The calls that are left if one is left out and numbers of others are changed with it."""
-        with Run(self.program, Description(self.described(most=self.RULE))) as run:
+        with SequenceRun(self.program, Description(self.described(most=self.RULE))) as run:
             shorter = Shorter(run, self.finding(run, *calls), 60)
             while shorter.leave_out_one_and_change():
                 pass
@@ -602,7 +602,7 @@ class OfShortening(OverBank):
         self.assertEqual(self.shorter((0, 20), (0, 20), (0, 20), (1, 60)), ["call bank 100 00 u8:60", "call bank 100 01 u8:60"])
 
     def test_two_numbers_are_lowered_together(self) -> None:
-        with Run(self.program, Description(self.described(most=self.RULE))) as run:
+        with SequenceRun(self.program, Description(self.described(most=self.RULE))) as run:
             shorter = Shorter(run, self.finding(run, (0, 120), (1, 120)), 60)
             while shorter.make_simpler():
                 pass
@@ -613,7 +613,7 @@ class OfShortening(OverBank):
             if len(shorter.calls) < 3:
                 raise KeyboardInterrupt
 
-        with Run(self.program, Description(self.described(most=self.RULE))) as run:
+        with SequenceRun(self.program, Description(self.described(most=self.RULE))) as run:
             finding = self.finding(run, (0, 60), (0, 1), (1, 1), (1, 60))
             late = Shorter(run, finding, 0)
             self.assertEqual((late.shorten(random.Random(1)), late.finding), ("; the time was over", finding))
@@ -695,9 +695,9 @@ class OfSearches(OverBank):
 
         output = Terminal()
         description = Description(self.described(most=self.rule()))
-        progress = Progress(self.program, description, output)
-        with Run(self.program, description) as run:
-            finding = run.finding_of([Call(description.kinds[0], {"n": 80}), Call(description.kinds[1], {"n": 77})])
+        progress = ProgressLine(self.program, description, output)
+        with SequenceRun(self.program, description) as run:
+            finding = run.finding_of([DrawnCall(description.kinds[0], {"n": 80}), DrawnCall(description.kinds[1], {"n": 77})])
             assert finding
             progress.of_shorter(Shorter(run, finding, 60))
             progress.of_shorter(Shorter(run, finding, 60))  # too soon
@@ -719,11 +719,11 @@ done
     LINES = "0x10000\\nvote\\n/src/a.c:5\\n0x10004\\nvote\\n/src/a.c:5\\n0x10008\\nvote\\n/src/a.c:9\\n"
 
     def test_a_sample_of_each_way_to_end(self) -> None:
-        with Run(self.program, Description(self.described())) as run:
+        with SequenceRun(self.program, Description(self.described())) as run:
             sampler = Sampler(run)
             run.begin()
             put, take = run.description.kinds
-            run.go_on([Call(put, {"n": 5}), Call(put, {"n": 5}), Call(take, {"n": 3}), Call(take, {"n": 200})])
+            run.go_on([DrawnCall(put, {"n": 5}), DrawnCall(put, {"n": 5}), DrawnCall(take, {"n": 3}), DrawnCall(take, {"n": 200})])
             first, second, third = sampler.taken()
         self.assertEqual((first.storage, first.data), ({}, b"\0\5"))
         self.assertEqual((second.storage, second.data), ({A: (10).to_bytes(8, "little")}, b"\1\3"))

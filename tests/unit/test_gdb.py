@@ -9,7 +9,7 @@ from unittest import mock
 
 from rvstm_tools.debugging import gdb, moments, packets
 from rvstm_tools.debugging.gdb import Server
-from rvstm_tools.debugging.moments import Call, EndOfCall, InterruptedMove, Reach
+from rvstm_tools.debugging.moments import DebuggedCall, EndOfCall, InterruptedMove, Reach
 from rvstm_tools.debugging.packets import Ends, Wire
 from rvstm_tools.debugging.sessions import CallOf
 from rvstm_tools.errors import UserError
@@ -82,7 +82,7 @@ class Replayed(InFolder):
         self.shown: list[str] = []
         self.heard = 0
         wire = mock.Mock(hear=self.hear, show=self.shown.append)
-        self.server = Server(wire, lambda hear: Call(CallOf(program, self.block, 0), View(), hear))
+        self.server = Server(wire, lambda hear: DebuggedCall(CallOf(program, self.block, 0), View(), hear))
         self.addCleanup(self.server.close)
 
     def hear(self) -> None:

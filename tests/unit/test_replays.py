@@ -5,7 +5,7 @@ import unittest
 from pathlib import Path
 
 from rvstm_tools.debugging import replays, traces
-from rvstm_tools.debugging.replays import Frame, Replay, StorageStep, Turn
+from rvstm_tools.debugging.replays import Frame, StorageReplay, StorageStep, Turn
 from rvstm_tools.debugging.sessions import CallOf, Debugger, Place, place_of
 from rvstm_tools.debugging.sources import Inlined
 from rvstm_tools.errors import UserError
@@ -64,7 +64,7 @@ class Replayed(InFolder):
         return Receipt(0, end, gas, 0x10008, b"hi")
 
     def test_steps_and_gas(self) -> None:
-        replay = Replay(self.call(), 1)
+        replay = StorageReplay(self.call(), 1)
         self.assertEqual((replay.total, replay.gas, replay.last.text), (6, GAS - 12, "ecall"))
         replay.end_by(self.receipt(GAS), 1000)
         self.assertEqual(replay.storage_calls[-1].cost, 12)
@@ -72,7 +72,7 @@ class Replayed(InFolder):
         self.assertEqual(dict(replay.entry.callees[0x10000].counts), {0x10014: 1, 0x10018: 1})
 
     def test_storage_calls(self) -> None:
-        read, back = Replay(self.call(), 1).storage_calls
+        read, back = StorageReplay(self.call(), 1).storage_calls
         self.assertEqual(read.text(View()), 'READ "a" up to 64 bytes: 0a0b0c')
         self.assertEqual(read.text(View({Key(b"a".ljust(32, b"\0")): "table:t:a"})), "READ table:t:a up to 64 bytes: 0a0b0c")
         self.assertEqual((read.moment, read.pc, read.gas, read.cost, read.answer), (1, 0x10010, 1, 200, 3))
@@ -80,26 +80,26 @@ class Replayed(InFolder):
         self.assertEqual((back.moment, back.gas), (5, GAS - 12))
 
     def test_what_a_read_copies_costs_under_later_rules(self) -> None:
-        replay = Replay(self.call(), 2)
+        replay = StorageReplay(self.call(), 2)
         self.assertEqual(replay.storage_calls[0].cost, 203)
 
     def test_out_of_gas(self) -> None:
-        replay = Replay(self.call(), 1)
+        replay = StorageReplay(self.call(), 1)
         replay.end_by(self.receipt(300, End.OUT_OF_GAS), 300)
         self.assertEqual(replay.last_cost, 300 - (GAS - 12))
 
     def test_free_ends(self) -> None:
-        replay = Replay(self.call(), 1)
+        replay = StorageReplay(self.call(), 1)
         replay.end_by(self.receipt(GAS - 12, End.BAD_LENGTH), 1000)
         self.assertEqual(replay.last_cost, 0)
 
     def test_sums_that_differ(self) -> None:
         with self.assertRaises(UserError) as caught:
-            Replay(self.call(), 1).end_by(self.receipt(GAS + 1), 1000)
+            StorageReplay(self.call(), 1).end_by(self.receipt(GAS + 1), 1000)
         self.assertEqual(str(caught.exception), f"the steps cost {GAS} gas, and the receipt says {GAS + 1}; please report it")
 
     def test_the_lines_of_a_trace(self) -> None:
-        replay = Replay(self.call(), 1)
+        replay = StorageReplay(self.call(), 1)
         receipt = self.receipt(GAS)
         replay.end_by(receipt, 1000)
         places = traces.Places.__new__(traces.Places)

@@ -6,8 +6,8 @@ from collections.abc import Sequence
 from pathlib import Path
 
 from rvstm_developers.models import inputs
-from rvstm_developers.models.inputs import Fault, Found, Input
-from rvstm_developers.models.sessions import Model
+from rvstm_developers.models.inputs import Fault, FoundRequest, Input
+from rvstm_developers.models.sessions import SessionModel
 from rvstm_tools.programs.running import Printed
 from rvstm_tools.sessions.answers import State
 from rvstm_tools.sessions.processes import Settings
@@ -36,7 +36,7 @@ class OfInputs(unittest.TestCase):
     def test_each_request(self) -> None:
         for request, text in REQUESTS:
             with self.subTest(text):
-                self.assertEqual(inputs.next_request(text), Found(request, len(text)))
+                self.assertEqual(inputs.next_request(text), FoundRequest(request, len(text)))
 
     def test_all_in_one_input(self) -> None:
         text = b"".join(text for _, text in REQUESTS)
@@ -82,7 +82,7 @@ class OfAModel(unittest.TestCase):
 
     def setUp(self) -> None:
         self.seq = FakeSeq()
-        self.model = Model(self.seq, Settings(digest=True, frame_limit=200, frame_gas=100))
+        self.model = SessionModel(self.seq, Settings(digest=True, frame_limit=200, frame_gas=100))
         self.addCleanup(self.model.place.cleanup)
 
     def ask(self, word: Word, *fields: bytes, body: bytes = b"") -> bytes:

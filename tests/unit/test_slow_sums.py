@@ -5,8 +5,8 @@ from itertools import groupby
 
 from rvstm_developers.bench import slow_sums, sums
 from rvstm_developers.bench.slow_blocks import MOST_CALLS, MOST_INPUT
-from rvstm_developers.bench.slow_sums import FRAMES, HOT, Frame
-from rvstm_developers.bench.sums import Row
+from rvstm_developers.bench.slow_sums import FRAMES, HOT, SumsFrame
+from rvstm_developers.bench.sums import SumsRow
 from rvstm_developers.texts import word
 from rvstm_tools.errors import UserError
 from rvstm_tools.texts.blocks import CallLine
@@ -41,13 +41,13 @@ class OfFrames(unittest.TestCase):
 class OfRows(unittest.TestCase):
     def test_bounds(self) -> None:
         for by_workers, mebibytes, expected in (110, 64, (True, True)), (110.1, 64, (False, False)), (1, 64.1, (True, False)):
-            row = Row("small", 100, 4, by_workers, mebibytes)
+            row = SumsRow("small", 100, 4, by_workers, mebibytes)
             self.assertEqual((row.is_in_time, row.is_within), expected)
-        self.assertEqual(Row("small", 100, 4, 110.1, -0.2).cells(), ["small", "100.0", "4", "110.1", "1.10", "no", "0"])
+        self.assertEqual(SumsRow("small", 100, 4, 110.1, -0.2).cells(), ["small", "100.0", "4", "110.1", "1.10", "no", "0"])
 
     def test_answers(self) -> None:
         good, cut = b"call 0 returned gas 9 pc 00010034 out -\n", b"call 0 out-of-gas gas 9 pc 00010034 out -\n"
-        frame = Frame("one", "adds", slow_sums.add(1))
+        frame = SumsFrame("one", "adds", slow_sums.add(1))
         sums.check(frame, good, good, 4)
         for answers, in_order in (cut, good), (cut, cut), (b"refused block 1 BadLine 2\n",) * 2:
             with self.assertRaises(UserError):

@@ -7,7 +7,7 @@ from collections import Counter
 from pathlib import Path
 
 from rvstm_developers.models import inputs
-from rvstm_developers.models.machine import Block, Program
+from rvstm_developers.models.machine import MachineBlock, MachineProgram
 from rvstm_developers.bench import slow_blocks, slow_sums
 from rvstm_developers.bench.blocks import FOLDER
 from rvstm_developers.bench.slow_blocks import Content
@@ -20,11 +20,11 @@ from rvstm_tools.texts.results import Added, End
 LEAST_SUMS = 20
 
 
-def program_of(name: str) -> Program:
+def program_of(name: str) -> MachineProgram:
     """A program of bench/programs, with the words that the model knows."""
     lines = (line.split("#")[0].strip() for line in (FOLDER / f"programs/{name}.s").read_text(encoding="utf-8").splitlines())
     source = [re.sub(r"\bx0\b", "zero", line.replace("lui a1,0x10f", "li a1,0x10f000")) for line in lines if line]
-    return Program(source)
+    return MachineProgram(source)
 
 
 def with_one_round(call: CallLine) -> CallLine:
@@ -50,7 +50,7 @@ class OfFrames(unittest.TestCase):
 
     def test_sums_that_reads_pass(self) -> None:
         for frame in slow_sums.FRAMES:
-            block = Block(self.programs, map(with_one_round, frame.calls), rules=slow_blocks.RULES)
+            block = MachineBlock(self.programs, map(with_one_round, frame.calls), rules=slow_blocks.RULES)
             sums, least = Counter[bytes](), []
             for receipt, keys in zip(block.ran(), block.keys):
                 least += [sums[key] for key in keys]

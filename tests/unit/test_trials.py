@@ -5,7 +5,7 @@ from unittest import mock
 
 from rvstm_developers.trials import random_words, stress
 from rvstm_developers.models import machine
-from rvstm_developers.models.machine import Block, Program
+from rvstm_developers.models.machine import MachineBlock, MachineProgram
 from rvstm_developers.stores import disks
 from rvstm_developers.stores.disks import FILE, SYNCED, Disk, Step
 from rvstm_developers.stores.files import Both
@@ -40,8 +40,8 @@ class LongTest(unittest.TestCase):
 
     def test_a_block_of_the_model(self) -> None:
         """It returns no bytes: three instructions of 1 gas, and a RETURN of 10."""
-        program = Program(["addi a7,zero,3", "addi a1,zero,0", "addi a0,a0,0", "ecall"])
-        (receipt,) = Block([program], [CallLine(0, 100, b"")], {numbered_key(1): b"x"}).ran()
+        program = MachineProgram(["addi a7,zero,3", "addi a1,zero,0", "addi a0,a0,0", "ecall"])
+        (receipt,) = MachineBlock([program], [CallLine(0, 100, b"")], {numbered_key(1): b"x"}).ran()
         self.assertEqual((receipt.end, receipt.gas, receipt.pc, receipt.output), (End.RETURNED, 13, 0x1000C, b""))
 
     def test_what_a_cut_leaves(self) -> None:

@@ -6,7 +6,7 @@ from collections.abc import Sequence
 from pathlib import Path
 
 from rvstm_developers.models import inputs
-from rvstm_developers.models.sessions import Model
+from rvstm_developers.models.sessions import SessionModel
 from rvstm_developers import running
 from rvstm_tools.errors import UserError
 from rvstm_tools.programs.pipes import Ended
@@ -21,8 +21,8 @@ SECONDS_A_BLOCK = 60
 SHOWN = 200  # bytes of an answer that a message has
 
 
-def model_of(rvstm: Path, settings: Settings = Settings()) -> Model:
-    return Model(Program(rvstm, SECONDS_A_BLOCK), settings)
+def model_of(rvstm: Path, settings: Settings = Settings()) -> SessionModel:
+    return SessionModel(Program(rvstm, SECONDS_A_BLOCK), settings)
 
 
 def shown(answer: Answer | None) -> str:
@@ -59,7 +59,7 @@ def one_by_one(rvstm: Path, text: bytes, settings: Settings) -> Ended:
             clock.cancel()
 
 
-def first_difference(came: Ended, text: bytes, settings: Settings, model: Model) -> str | None:
+def first_difference(came: Ended, text: bytes, settings: Settings, model: SessionModel) -> str | None:
     """How what a session writes differs from what it has to write; None if it does not."""
     wanted = Ended(*model.outcome(text))
     if came == wanted:

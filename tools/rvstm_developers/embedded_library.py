@@ -28,7 +28,7 @@ SHOWN_OF_ERRORS = 2000
 FIELDS_OF_AN_ANSWER = 7
 
 
-class Status(enum.IntEnum):
+class LibraryStatus(enum.IntEnum):
     """What a call returns, as include/rvstm.h has it."""
 
     DONE = 0
@@ -41,14 +41,14 @@ class Status(enum.IntEnum):
     BAD_SETTINGS = 7
 
 
-OF_KINDS = {Kind.OK: Status.DONE, Kind.REFUSED: Status.REFUSED, Kind.FAILED: Status.FAILED}
+OF_KINDS = {Kind.OK: LibraryStatus.DONE, Kind.REFUSED: LibraryStatus.REFUSED, Kind.FAILED: LibraryStatus.FAILED}
 
 
 @dataclass(frozen=True)
 class Called:
     """What a call answered. The line is empty if the call is no request."""
 
-    status: Status
+    status: LibraryStatus
     line: bytes = b""
     body: bytes = b""
 
@@ -73,7 +73,7 @@ class Library(Pipes):
         words = self.output.readline().split()
         if len(words) != FIELDS_OF_AN_ANSWER or int(words[0]) != place:
             raise UserError(f"the driver ended: {self.end().said()[-SHOWN_OF_ERRORS:]}")
-        status, length = Status(int(words[1])), int(words[6])
+        status, length = LibraryStatus(int(words[1])), int(words[6])
         return Called(status, line_of(status, words[2:6], length), self.output.read(length))
 
     def ask(self, place: int, request: Request) -> Called:
@@ -92,12 +92,12 @@ class Library(Pipes):
         return ended.said()
 
 
-def line_of(status: Status, parts: Sequence[bytes], length: int) -> bytes:
+def line_of(status: LibraryStatus, parts: Sequence[bytes], length: int) -> bytes:
     """The line of an answer that has these parts; empty if the call is no request."""
     line, number, area, name = parts
-    if status is Status.DONE:
+    if status is LibraryStatus.DONE:
         return b"ok %d\n" % length
-    if status in (Status.REFUSED, Status.FAILED):
-        kind = Kind.REFUSED if status is Status.REFUSED else Kind.FAILED
+    if status in (LibraryStatus.REFUSED, LibraryStatus.FAILED):
+        kind = Kind.REFUSED if status is LibraryStatus.REFUSED else Kind.FAILED
         return b" ".join([kind, area, *([line] if line != b"0" else []), name, number]) + b"\n"
     return b""

@@ -5,7 +5,7 @@ from pathlib import Path
 
 from rvstm_developers import options, texts
 from rvstm_developers.bench import blocks, processes, tables
-from rvstm_developers.machine_code import EXECUTE, FIRST_ADDRESS, READ, WRITE, Part, elf_of
+from rvstm_developers.machine_code import EXECUTE, FIRST_ADDRESS, READ, WRITE, ElfPart, elf_of
 from rvstm_developers.texts import word
 from rvstm_tools.errors import UserError
 from rvstm_tools.options import Command
@@ -22,7 +22,7 @@ LONG_LIST, SHORT_LIST = 20_000_000, 65_535  # entries of the schedules
 def program_of(text: bytes, number: int) -> bytes:
     """A program file of the greatest size: a text, and data whose first word is the number."""
     data = word(number).ljust(FILE_BYTES - HEADERS - len(text), b"\x55")
-    return elf_of(Part(FIRST_ADDRESS, text, READ | EXECUTE), Part(DATA, data, READ | WRITE))
+    return elf_of(ElfPart(FIRST_ADDRESS, text, READ | EXECUTE), ElfPart(DATA, data, READ | WRITE))
 
 
 def block_text(programs: int, calls: int) -> str:

@@ -6,8 +6,8 @@ from pathlib import Path
 
 from rvstm_developers import options, texts
 from rvstm_developers.bench import blocks, processes, tables
-from rvstm_developers.bench.blocks import Input, TimedBlock
-from rvstm_developers.bench.pictures import COLOURS, Picture, Point
+from rvstm_developers.bench.blocks import TimedCall, TimedBlock
+from rvstm_developers.bench.pictures import COLOURS, LinePicture, Point
 from rvstm_developers.running import Word
 from rvstm_developers.texts import word
 from rvstm_tools.options import Command
@@ -18,7 +18,7 @@ HEIGHTS = {3: "1 ms", 4: "10 ms", 5: "100 ms", 6: "1 s"}  # powers of ten of mic
 
 
 @dataclass(frozen=True)
-class Row:
+class ScalingRow:
     """What grows, its size, the calls of the block, and its microseconds with `seq` and with four workers."""
 
     name: str
@@ -30,28 +30,28 @@ class Row:
 
 def sized() -> Iterator[tuple[int, TimedBlock]]:
     for size in (64, 256, 1024):
-        yield size, TimedBlock("calls", "counter", [Input(1_000, key(n)) for n in range(size)])
+        yield size, TimedBlock("calls", "counter", [TimedCall(1_000, key(n)) for n in range(size)])
     for size in (10, 1_000, 100_000):
         store = {key(2 * n): word(n) for n in range(size)}
-        yield size, TimedBlock("keys in the storage", "counter", [Input(1_000, key(n)) for n in range(256)], store)
+        yield size, TimedBlock("keys in the storage", "counter", [TimedCall(1_000, key(n)) for n in range(256)], store)
     for size in (1, 16, 256):
-        calls = [Input(1_000_000, word(size) + word(n)) for n in range(64)]
+        calls = [TimedCall(1_000_000, word(size) + word(n)) for n in range(64)]
         yield size, TimedBlock("keys written by a call", "write", calls)
 
 
-def measured(rvstm: Path, place: Path) -> Iterator[Row]:
+def measured(rvstm: Path, place: Path) -> Iterator[ScalingRow]:
     for source in ("counter", "write"):
         blocks.assemble(rvstm, place, source)
     for size, block in sized():
         (place / "one.block").write_text(block.text(), encoding="utf-8")
         commands: list[list[Word]] = [[rvstm, "seq", "one.block"], [rvstm, "run", "one.block", "--workers", "4"]]
         seq, run = (1000 * min(spent) for spent in processes.times_of(commands, place, TIMES).rounds)
-        yield Row(block.name, size, len(block.calls), seq, run)
+        yield ScalingRow(block.name, size, len(block.calls), seq, run)
 
 
-def picture(rows: Sequence[Row]) -> Picture:
+def picture(rows: Sequence[ScalingRow]) -> LinePicture:
     """Time of the whole program against the size, both by powers of ten: a line a block."""
-    made = Picture(640, 400, 70, 600, 340)
+    made = LinePicture(640, 400, 70, 600, 340)
 
     def x(size: float) -> float:
         return 70 + 95 * math.log10(size)

@@ -9,7 +9,7 @@ from collections.abc import Sequence
 from dataclasses import dataclass
 
 from rvstm_developers import machine_code as code
-from rvstm_developers.machine_code import PAGE, WORD, Segment
+from rvstm_developers.machine_code import PAGE, WORD, FileSegment
 
 WORDS_A_PAGE = PAGE // WORD
 MOST_PAGES, MOST_COPIES = 31, 7  # of code in a file, and places to which it is mapped
@@ -102,5 +102,5 @@ def program_of(name: str) -> bytes:
     text = code.text_of(maker.words())
     start = code.FIRST_ADDRESS + slow.copies * len(text)
     begin = code.text_of(maker.start(start))
-    segments = [Segment(code.FIRST_ADDRESS + n * len(text), 0, len(text), rights) for n in range(slow.copies)]
-    return code.program_file(start + WORD, text + begin, [*segments, Segment(start, len(text), len(begin), rights)])
+    segments = [FileSegment(code.FIRST_ADDRESS + n * len(text), 0, len(text), rights) for n in range(slow.copies)]
+    return code.program_file(start + WORD, text + begin, [*segments, FileSegment(start, len(text), len(begin), rights)])

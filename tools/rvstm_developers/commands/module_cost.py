@@ -10,7 +10,7 @@ from rvstm_tools.options import Command, argument
 KINDS_SHOWN = 8
 
 
-class Module(NamedTuple):
+class CheckedModule(NamedTuple):
     time: float
     name: str
 
@@ -23,12 +23,12 @@ class Module(NamedTuple):
 
 class Cost(NamedTuple):
     seconds: float
-    module: Module
+    module: CheckedModule
 
 
-def modules(folder: Path) -> list[Module]:
+def modules(folder: Path) -> list[CheckedModule]:
     files = (path for path in folder.rglob("*.oantt") if path.parent.name != "records")
-    return sorted(Module(path.stat().st_mtime, path.stem) for path in files)
+    return sorted(CheckedModule(path.stat().st_mtime, path.stem) for path in files)
 
 
 def run(given: argparse.Namespace) -> int:

@@ -40,7 +40,7 @@ LOWEST_KEY, HIGHEST_KEY = Key(bytes(32)), Key(b"\xff" * 32)
 
 
 @dataclass(frozen=True)
-class Asked:
+class DrawnSession:
     requests: list[Request]
     settings: Settings
 
@@ -236,6 +236,6 @@ def input_of(choice: Random, asked: Sequence[Request]) -> bytes:
     return whole + choice.choice((b"", b"", b"q\n", b"q\nwhat", b"q\n" + parts[0]))
 
 
-def session_of(choice: Random, blocks: Iterator[bytes], keys: Sequence[Key], folder: Path, workers: int | None = None) -> Asked:
+def session_of(choice: Random, blocks: Iterator[bytes], keys: Sequence[Key], folder: Path, workers: int | None = None) -> DrawnSession:
     made = RandomSession(choice, blocks, keys, folder).fill()
-    return Asked(made.requests, settings_of(choice, made.requests, made.keeps_digest, workers))
+    return DrawnSession(made.requests, settings_of(choice, made.requests, made.keeps_digest, workers))

@@ -5,7 +5,7 @@ from dataclasses import dataclass
 from random import Random
 
 from rvstm_developers import machine_code as code
-from rvstm_developers.machine_code import PAGE, Part
+from rvstm_developers.machine_code import PAGE, ElfPart
 
 WORDS_A_PAGE = PAGE // 4
 LAUNCHER, CODE, DATA = 0x0001_0000, 0x0001_1000, 0x0002_0000
@@ -37,7 +37,7 @@ class RandomProgram:
     count: int
 
 
-class Words:
+class RandomWords:
     """Random words: each instruction is about as frequent as each other, and one word in thirty is any word."""
 
     def __init__(self, choice: Random) -> None:
@@ -137,13 +137,13 @@ def launcher() -> list[int]:
     return loads + [code.word_of_i(0, START_REGISTER, 0, 0, code.JALR)]
 
 
-def program_of(choice: Random, words: Words) -> RandomProgram:
+def program_of(choice: Random, words: RandomWords) -> RandomProgram:
     """A program of one or two pages of random words, after a page that launches them."""
     count = WORDS_A_PAGE * choice.choice((1, 1, 2))
     text = code.text_of([words.word(place * 4 % PAGE) for place in range(count)])
     first = code.text_of(launcher()).ljust(PAGE, b"\0")
     rights = code.EXECUTE | choice.choice((0, code.READ, code.READ, code.READ))
-    segments = [Part(LAUNCHER, first, code.EXECUTE), Part(CODE, text, rights), Part(DATA, choice.randbytes(PAGE), code.READ | code.WRITE)]
+    segments = [ElfPart(LAUNCHER, first, code.EXECUTE), ElfPart(CODE, text, rights), ElfPart(DATA, choice.randbytes(PAGE), code.READ | code.WRITE)]
     return RandomProgram(code.elf_of(*segments), count)
 
 

@@ -6,9 +6,9 @@ from typing import NamedTuple
 
 from rvstm_developers.large.blocks import COUNT, LONGEST_PROGRAM, MOST_GAS, count
 from rvstm_developers.models.inputs import Fault
-from rvstm_developers.models.machine import TEXT, Block
+from rvstm_developers.models.machine import TEXT, MachineBlock
 from rvstm_developers.models.sessions import HIGHEST
-from rvstm_developers.machine_code import EXECUTE, READ, Part, elf_of
+from rvstm_developers.machine_code import EXECUTE, READ, ElfPart, elf_of
 from rvstm_developers.texts import HEADS, head_of
 from rvstm_tools.sessions import answers, frames, requests
 from rvstm_tools.sessions.answers import Answer, Done
@@ -19,7 +19,7 @@ from rvstm_tools.texts.keys import numbered_key as key
 USUAL_STACK = 8192  # KiB, as a shell has it
 WRONG_LINE, REFUSED = 2, 1  # statuses
 IMAGE_END = 0x100000  # after the greatest address of a segment
-ONE = Block([COUNT], [count(1)])
+ONE = MachineBlock([COUNT], [count(1)])
 
 
 Make = Callable[[], "Trial"]  # how a trial is made, if it is asked for
@@ -66,8 +66,8 @@ def with_call(*words: str) -> bytes:
 
 # Their programs are not opened. `seq` reports the fault on standard error, and a session in its answer.
 BLOCKS = {
-    "1,025 calls": BadBlock(Block([COUNT], [count(1)] * 1025).text(["missing"]), "block 1027 Limit 7"),
-    "65 programs": BadBlock(Block([COUNT] * 65, []).text(["missing"] * 65), "block 66 Limit 7"),
+    "1,025 calls": BadBlock(MachineBlock([COUNT], [count(1)] * 1025).text(["missing"]), "block 1027 Limit 7"),
+    "65 programs": BadBlock(MachineBlock([COUNT] * 65, []).text(["missing"] * 65), "block 66 Limit 7"),
     "a value of 65 bytes in format 1": BadBlock(with_value(1, 65, False), "block 2 Limit 7"),
     "a value of 65 bytes under rules one": BadBlock(with_value(1, 65), "block 3 Limit 7"),
     "a value of 257 bytes under rules two": BadBlock(with_value(2, 257), "block 3 Limit 7"),
@@ -105,11 +105,11 @@ def ended(after: bytes, fault: Fault = Fault.BAD_LINE) -> Trial:
     return session([], [], [answers.refused(fault)], after, b"rvstm: " + fault)
 
 
-def framed(block: Block, word: Word = Word.FRAME) -> Request:
+def framed(block: MachineBlock, word: Word = Word.FRAME) -> Request:
     return Request(word, (), block.text([frames.name_of(COUNT.file)]))
 
 
-def answered(block: Block) -> Answer:
+def answered(block: MachineBlock) -> Answer:
     return Done(f"{block.receipts_text()}end\n".encode())
 
 
@@ -176,7 +176,7 @@ def program_refused(file: bytes, message: str, command: str = "seq") -> Trial:
 def with_headers(number: int) -> bytes:
     """A program file of COUNT with more program headers, of no kind."""
     extra = number - 1
-    headers = bytearray(elf_of(Part(TEXT, COUNT.text, READ | EXECUTE)))
+    headers = bytearray(elf_of(ElfPart(TEXT, COUNT.text, READ | EXECUTE)))
     headers[44:46] = number.to_bytes(2, "little")
     headers[56:60] = (84 + 32 * extra).to_bytes(4, "little")
     return bytes(headers[:84]) + bytes(32 * extra) + COUNT.text

@@ -8,9 +8,9 @@ from rvstm_developers.large import blocks
 from rvstm_developers.large.blocks import COUNT, LONGEST_PROGRAM, count
 from rvstm_developers.large.limits import Make, Trial
 from rvstm_developers.models import machine
-from rvstm_developers.models.machine import DATA, TEXT, Block, Call, Instruction
+from rvstm_developers.models.machine import DATA, TEXT, MachineBlock, MachineCall, Instruction
 from rvstm_developers import texts
-from rvstm_developers.machine_code import EXECUTE, READ, WRITE, Part, elf_of
+from rvstm_developers.machine_code import EXECUTE, READ, WRITE, ElfPart, elf_of
 from rvstm_tools.texts.keys import numbered_key as key
 
 TEXT_WORDS, DATA_BYTES = 16_384, 61_440  # of a source at most
@@ -37,14 +37,14 @@ def assembled() -> Trial:
     data = blocks.filled(DATA_BYTES, 5)
     lines = [line if line.endswith(":") else f"\t{line}  # {'a remark of some length ' * 2}" for line in loop]
     lines += [".data", *(f"  .byte {byte}   # a byte of data" for byte in data)]
-    wanted = elf_of(Part(TEXT, bytes.fromhex(text), READ | EXECUTE), Part(DATA, data, READ | WRITE))
+    wanted = elf_of(ElfPart(TEXT, bytes.fromhex(text), READ | EXECUTE), ElfPart(DATA, data, READ | WRITE))
     files = {"source": texts.lines_of(lines).encode()}
     return Trial(["asm", "source", "--out", "made"], wanted, files=files, file="made")
 
 
 def listed() -> Trial:
     words = [list(LISTED)[number % len(LISTED)] for number in range((LONGEST_PROGRAM - 84) // 4)]
-    file = elf_of(Part(TEXT, b"".join(map(texts.word, words)), READ | EXECUTE))
+    file = elf_of(ElfPart(TEXT, b"".join(map(texts.word, words)), READ | EXECUTE))
     lines = [f"{TEXT + 4 * place:08x} {word:08x} {LISTED[word]}\n" for place, word in enumerate(words)]
     return Trial(["dis", "0.elf"], "".join(lines).encode(), files={"0.elf": file.ljust(LONGEST_PROGRAM, b"\0")})
 
@@ -52,14 +52,14 @@ def listed() -> Trial:
 # ---- replays
 
 
-class Said(NamedTuple):
+class DebugLine(NamedTuple):
     """A line that is given to `debug`, and what it answers; None if it answers nothing."""
 
     line: str
     answer: str | None
 
 
-def replayed(block: Block, number: int, rows: list[Said]) -> Trial:
+def replayed(block: MachineBlock, number: int, rows: list[DebugLine]) -> Trial:
     wanted = texts.lines_of(row.answer for row in rows if row.answer is not None).encode()
     given = texts.lines_of(row.line for row in rows).encode()
     files = {"block": block.text(["0.elf"]), "0.elf": COUNT.file}
@@ -75,51 +75,51 @@ def text_of(row: Instruction) -> str:
     return name
 
 
-def where(call: Call) -> str:
+def where(call: MachineCall) -> str:
     return f"{call.steps} {call.pc:08x} {text_of(call.program.code[(call.pc - TEXT) // 4])}"
 
 
-def registers(call: Call) -> str:
+def registers(call: MachineCall) -> str:
     return f"regs {' '.join(f'{value:08x}' for value in call.registers)}"
 
 
 class Moments:
-    def __init__(self, block: Block, number: int) -> None:
-        self.store = Block(block.programs, block.calls[:number], block.store, block.rules).storage()
+    def __init__(self, block: MachineBlock, number: int) -> None:
+        self.store = MachineBlock(block.programs, block.calls[:number], block.store, block.rules).storage()
         self.call, self.rules = block.calls[number], block.rules
         self.program = block.programs[self.call.program]
 
     @functools.lru_cache
-    def at(self, moment: float = math.inf) -> Call:
-        return Call(self.program, self.rules, self.store, self.call.gas, self.call.data).until(moment)
+    def at(self, moment: float = math.inf) -> MachineCall:
+        return MachineCall(self.program, self.rules, self.store, self.call.gas, self.call.data).until(moment)
 
 
 def debugged(rounds: int) -> Trial:
     """A call of so many rounds: to its last moment and back, step by step at both ends and in the middle."""
-    block = Block([COUNT], [count(1), count(1), count(1, rounds), count(1)])
+    block = MachineBlock([COUNT], [count(1), count(1), count(1, rounds), count(1)])
     moments = Moments(block, 2)
     end = moments.at()
     middle, loop = moments.at(rounds + 1), moments.at(2)
     last, memory = end.steps, end.bytes(machine.INPUT, 4096).hex()
     rows = [
-        Said("w", where(moments.at(0))), Said(f"t {last}", where(end)), Said("r", registers(end)), Said("s", "refused AtEnd 2"),
-        Said(f"v {key(1).hex()}", "value 03000000"), Said("b", where(moments.at(last - 1))), Said("s", where(end)), Said("t 0", where(moments.at(0))),
-        Said("b", "refused AtStart 3"), Said(f"t {last + 1}", "refused AtEnd 2"), Said("t 4294967295", "refused AtEnd 2"), Said("t 4294967296", "what"),
-        Said(f"t {rounds + 1}", where(middle)), Said("r", registers(middle)), Said("b", where(moments.at(rounds))), Said("t 2", where(loop)),
-        Said("r", registers(loop)), Said(f"g {end.pc:08x}", where(moments.at(last - 1))), Said("m 00100000 4096", memory), Said("m 00100000 4097", "what"),
-        Said("m 0010f000 4096", end.bytes(0x10F000, 4096).hex()), Said("m 0010f001 4096", "refused BadRange 4"), Said("t 3", where(moments.at(3))),
-        Said("e", f"ends returned - {end.limit - end.left} {last}"), Said(f"v {key(1).hex()}", "value 02000000"), Said("q", None),
+        DebugLine("w", where(moments.at(0))), DebugLine(f"t {last}", where(end)), DebugLine("r", registers(end)), DebugLine("s", "refused AtEnd 2"),
+        DebugLine(f"v {key(1).hex()}", "value 03000000"), DebugLine("b", where(moments.at(last - 1))), DebugLine("s", where(end)), DebugLine("t 0", where(moments.at(0))),
+        DebugLine("b", "refused AtStart 3"), DebugLine(f"t {last + 1}", "refused AtEnd 2"), DebugLine("t 4294967295", "refused AtEnd 2"), DebugLine("t 4294967296", "what"),
+        DebugLine(f"t {rounds + 1}", where(middle)), DebugLine("r", registers(middle)), DebugLine("b", where(moments.at(rounds))), DebugLine("t 2", where(loop)),
+        DebugLine("r", registers(loop)), DebugLine(f"g {end.pc:08x}", where(moments.at(last - 1))), DebugLine("m 00100000 4096", memory), DebugLine("m 00100000 4097", "what"),
+        DebugLine("m 0010f000 4096", end.bytes(0x10F000, 4096).hex()), DebugLine("m 0010f001 4096", "refused BadRange 4"), DebugLine("t 3", where(moments.at(3))),
+        DebugLine("e", f"ends returned - {end.limit - end.left} {last}"), DebugLine(f"v {key(1).hex()}", "value 02000000"), DebugLine("q", None),
     ]
     return replayed(block, 2, rows)
 
 
 def back_to_back(rounds: int) -> Trial:
     """A call of so many rounds, from its last moment back by single steps."""
-    block = Block([COUNT], [count(1, rounds)])
+    block = MachineBlock([COUNT], [count(1, rounds)])
     moments = Moments(block, 0)
     last = moments.at().steps
-    rows = [Said(f"t {last}", where(moments.at()))]
-    rows += [Said("b", where(moments.at(last - step))) for step in range(1, 9)]
+    rows = [DebugLine(f"t {last}", where(moments.at()))]
+    rows += [DebugLine("b", where(moments.at(last - step))) for step in range(1, 9)]
     return replayed(block, 0, rows)
 
 

@@ -20,12 +20,12 @@ class Fault(Bytes):
 
 
 @dataclass(frozen=True)
-class Found:
+class FoundRequest:
     request: Request
     after: int
 
 
-def next_request(text: bytes, place: int = 0) -> Found | Fault:
+def next_request(text: bytes, place: int = 0) -> FoundRequest | Fault:
     """The request at a place of an input, or why there is none."""
     if place == len(text):
         return Fault.NONE
@@ -35,11 +35,11 @@ def next_request(text: bytes, place: int = 0) -> Found | Fault:
     first, *fields = text[place:end].split(b" ")
     word = Word(first)
     if word not in WITH_BODY:
-        return Found(Request(word, tuple(fields)), end + 1)
+        return FoundRequest(Request(word, tuple(fields)), end + 1)
     after = end + 1 + int(fields.pop())
     if after > len(text):
         return Fault.CUT
-    return Found(Request(word, tuple(fields), text[end + 1 : after]), after)
+    return FoundRequest(Request(word, tuple(fields), text[end + 1 : after]), after)
 
 
 @dataclass(frozen=True)
@@ -53,7 +53,7 @@ class Input:
 def requests_of(text: bytes) -> Input:
     requests: list[Request] = []
     found = next_request(text)
-    while isinstance(found, Found):
+    while isinstance(found, FoundRequest):
         if found.request.word == Word.QUIT:
             return Input(requests, Fault.NONE)
         requests.append(found.request)

@@ -9,7 +9,7 @@ from typing import NamedTuple, Self
 from rvstm_developers.models import waits
 from rvstm_developers import machine_code as code
 from rvstm_developers import texts
-from rvstm_developers.machine_code import EXECUTE, PAGE, READ, WRITE, Part, elf_of
+from rvstm_developers.machine_code import EXECUTE, PAGE, READ, WRITE, ElfPart, elf_of
 from rvstm_developers.texts import word
 from rvstm_tools.debugging import charges
 from rvstm_tools.debugging.charges import StorageCall
@@ -89,12 +89,12 @@ def encoded(row: Instruction) -> int:
     return code.branch(name, first, second, third)
 
 
-class Program:
+class MachineProgram:
     def __init__(self, source: Sequence[str], data: bytes = b"") -> None:
         self.source, self.data = source, data
         self.code = instructions_of(source)
         self.text = b"".join(word(encoded(row)) for row in self.code)
-        segments = [Part(TEXT, self.text, READ | EXECUTE)] + [Part(DATA, data, READ | WRITE)] * bool(data)
+        segments = [ElfPart(TEXT, self.text, READ | EXECUTE)] + [ElfPart(DATA, data, READ | WRITE)] * bool(data)
         self.file = elf_of(*segments)
         assert len(self.text) <= PAGE
 
@@ -102,10 +102,10 @@ class Program:
 # ---- one call
 
 
-class Call:
+class MachineCall:
     """A call that runs over a storage, which it does not change. Its steps are counted, and the keys of its reads are kept."""
 
-    def __init__(self, program: Program, rules: int, store: Storage, limit: int, data: bytes) -> None:
+    def __init__(self, program: MachineProgram, rules: int, store: Storage, limit: int, data: bytes) -> None:
         self.program, self.rules, self.store, self.left, self.limit = program, rules, store, limit, limit
         self.pc, self.steps, self.output = TEXT, 0, b""
         self.end: End | None = None
@@ -248,8 +248,8 @@ def field_of(change: Change) -> str:
 # ---- blocks
 
 
-class Block:
-    def __init__(self, programs: Sequence[Program], calls: Iterable[CallLine], store: Storage | None = None, rules: int = 1) -> None:
+class MachineBlock:
+    def __init__(self, programs: Sequence[MachineProgram], calls: Iterable[CallLine], store: Storage | None = None, rules: int = 1) -> None:
         self.programs, self.calls, self.store, self.rules = programs, list(calls), store or {}, rules
         self.receipts: list[Receipt] | None = None
         self.keys: list[list[Key]] = []  # of each call the keys that it read
@@ -264,7 +264,7 @@ class Block:
             return self.receipts
         self.receipts, self.left = [], dict(self.store)
         for number, (program, limit, data) in enumerate(self.calls):
-            call = Call(self.programs[program], self.rules, self.left, limit, data).until(math.inf)
+            call = MachineCall(self.programs[program], self.rules, self.left, limit, data).until(math.inf)
             receipt = call.receipt(number)
             self.receipts.append(receipt)
             self.keys.append(call.keys)

@@ -17,7 +17,7 @@ Run = Generator[str, Value, dict[str, Value]]  # a run of a contract
 Item = TypeVar("Item")
 
 
-class Status(enum.Enum):
+class CallStatus(enum.Enum):
     READY = enum.auto()
     EXECUTING = enum.auto()
     EXECUTED = enum.auto()
@@ -105,7 +105,7 @@ class Pause:
     writes: Writes = ()
 
 
-class Block:
+class ModelBlock:
     """Calls on an empty storage. No call has more reads and writes than are given."""
 
     def __init__(self, calls: Iterable[Contract], reads: int, writes: int) -> None:
@@ -131,7 +131,7 @@ def pause_of(run: Run, values: Sequence[Value]) -> Pause:
     return Pause(asked)
 
 
-def writes_in_order(block: Block) -> Iterator[Writes]:
+def writes_in_order(block: ModelBlock) -> Iterator[Writes]:
     storage: dict[str, Value] = {}
     for index in range(len(block.calls)):
         answers: tuple[Answer, ...] = ()
@@ -147,35 +147,35 @@ class Recorded(NamedTuple):
     reads: tuple[Read, ...]
 
 
-class Call(NamedTuple):
-    status: Status = Status.READY
+class CallState(NamedTuple):
+    status: CallStatus = CallStatus.READY
     incarnation: int = 0
     parked: int | None = None
     last: Recorded | None = None
 
 
-class Entry(NamedTuple):
+class WriteEntry(NamedTuple):
     key: str
     writer: int
     incarnation: int | None  # none in an estimate
     value: Value
 
 
-Versions = tuple[Entry, ...]  # by ascending key and writer
+Versions = tuple[WriteEntry, ...]  # by ascending key and writer
 
 
 # Tasks are no named tuples: two tasks of different kinds are never equal.
 
 
 @dataclass(frozen=True, slots=True)
-class Running:
+class RunningCall:
     call: int
     answers: tuple[Answer, ...] = ()
     blocked: int | None = None
 
 
 @dataclass(frozen=True, slots=True)
-class Moving:
+class MovingKeys:
     """The keys of a run that have to move, and whether one of them is new."""
 
     call: int
@@ -197,8 +197,8 @@ class Marking:
     keys: tuple[str, ...]
 
 
-Task = Running | Moving | Validating | Marking | None  # none if a worker has no task
-AnyTask = TypeVar("AnyTask", Running, Moving, Validating, Marking)
+Task = RunningCall | MovingKeys | Validating | Marking | None  # none if a worker has no task
+AnyTask = TypeVar("AnyTask", RunningCall, MovingKeys, Validating, Marking)
 
 
 class Counts(NamedTuple):
@@ -208,10 +208,10 @@ class Counts(NamedTuple):
     validations: int = 0
 
 
-class State(NamedTuple):
+class BlockState(NamedTuple):
     """The state of a block: of each call, of each worker, and the two indices."""
 
-    calls: tuple[Call, ...]
+    calls: tuple[CallState, ...]
     versions: Versions
     execution: int
     validation: int
@@ -221,44 +221,44 @@ class State(NamedTuple):
     record_count: int
 
 
-Step = Callable[[Block, State, int], State]  # what makes a step: of a block, a state and the number of a worker
+Step = Callable[[ModelBlock, BlockState, int], BlockState]  # what makes a step: of a block, a state and the number of a worker
 
 
-def start(block: Block, workers: int) -> State:
-    calls = (Call(),) * len(block.calls)
-    return State(calls, (), 0, 0, (None,) * workers, (Counts(),) * workers, (0,) * workers, 0)
+def start(block: ModelBlock, workers: int) -> BlockState:
+    calls = (CallState(),) * len(block.calls)
+    return BlockState(calls, (), 0, 0, (None,) * workers, (Counts(),) * workers, (0,) * workers, 0)
 
 
 def replaced(items: tuple[Item, ...], place: int, item: Item) -> tuple[Item, ...]:
     return items[:place] + (item,) + items[place + 1 :]
 
 
-def with_call(index: int, state: State, call: Call) -> State:
+def with_call(index: int, state: BlockState, call: CallState) -> BlockState:
     return state._replace(calls=replaced(state.calls, index, call))
 
 
-def with_task(worker: int, task: Task, state: State) -> State:
+def with_task(worker: int, task: Task, state: BlockState) -> BlockState:
     return state._replace(tasks=replaced(state.tasks, worker, task))
 
 
-def task_of(kind: type[AnyTask], state: State, worker: int) -> AnyTask:
+def task_of(kind: type[AnyTask], state: BlockState, worker: int) -> AnyTask:
     """The task of a worker, which is of this kind."""
     task = state.tasks[worker]
     assert isinstance(task, kind)
     return task
 
 
-def last_of(call: Call) -> Recorded:
+def last_of(call: CallState) -> Recorded:
     assert call.last is not None
     return call.last
 
 
-def is_done(state: State) -> bool:
+def is_done(state: BlockState) -> bool:
     """Both indices are past the last call, and no worker has a task."""
     return state.execution == state.validation == len(state.calls) and all(task is None for task in state.tasks)
 
 
-def reading(versions: Versions, key: str, reader: int) -> Entry | None:
+def reading(versions: Versions, key: str, reader: int) -> WriteEntry | None:
     """The entry of the greatest writer below the reader, or None."""
     return next((entry for entry in reversed(versions) if entry.key == key and entry.writer < reader), None)
 
@@ -271,13 +271,13 @@ def stands(versions: Versions, reader: int, read: Read | Answer) -> bool:
     return entry.incarnation is not None and read.origin == Origin(entry.writer, entry.incarnation)
 
 
-def changed(versions: Versions, key: str, writer: int, entry: Entry | None) -> Versions:
+def changed(versions: Versions, key: str, writer: int, entry: WriteEntry | None) -> Versions:
     """The versions with another entry at a place, or with none."""
     others = [other for other in versions if (other.key, other.writer) != (key, writer)]
     return tuple(sorted(others + ([entry] if entry else []), key=lambda other: (other.key, other.writer)))
 
 
-def ask(block: Block, state: State, worker: int) -> State:
+def ask(block: ModelBlock, state: BlockState, worker: int) -> BlockState:
     if is_done(state):
         return state._replace(dones=replaced(state.dones, worker, state.dones[worker] + 1))
     if state.validation < state.execution:
@@ -287,53 +287,53 @@ def ask(block: Block, state: State, worker: int) -> State:
     return state
 
 
-def ask_validation(worker: int, state: State) -> State:
+def ask_validation(worker: int, state: BlockState) -> BlockState:
     index = state.validation
     call = state.calls[index]
     state = state._replace(validation=index + 1)
-    if call.status != Status.EXECUTED:
+    if call.status != CallStatus.EXECUTED:
         return state
     return with_task(worker, Validating(index, call.incarnation, len(last_of(call).reads)), state)
 
 
-def ask_execution(worker: int, state: State) -> State:
+def ask_execution(worker: int, state: BlockState) -> BlockState:
     index = state.execution
     call = state.calls[index]
-    is_ready = call.status == Status.READY
+    is_ready = call.status == CallStatus.READY
     state = state._replace(execution=index + 1)
-    return with_task(worker, Running(index), with_call(index, state, call._replace(status=Status.EXECUTING))) if is_ready else state
+    return with_task(worker, RunningCall(index), with_call(index, state, call._replace(status=CallStatus.EXECUTING))) if is_ready else state
 
 
-def read_key(block: Block, state: State, worker: int) -> State:
+def read_key(block: ModelBlock, state: BlockState, worker: int) -> BlockState:
     """The run is given its answer, or it is blocked on the writer of an estimate."""
-    task = task_of(Running, state, worker)
+    task = task_of(RunningCall, state, worker)
     key = block.pause(task.call, task.answers).asked
     assert key is not None
     entry = reading(state.versions, key, task.call)
     if entry is None:
         answer = Answer(key, None, None)
     elif entry.incarnation is None:
-        return with_task(worker, Running(task.call, task.answers, entry.writer), state)
+        return with_task(worker, RunningCall(task.call, task.answers, entry.writer), state)
     else:
         answer = Answer(key, entry.value, Origin(entry.writer, entry.incarnation))
-    return with_task(worker, Running(task.call, (*task.answers, answer)), state)
+    return with_task(worker, RunningCall(task.call, (*task.answers, answer)), state)
 
 
-def park(block: Block, state: State, worker: int) -> State:
+def park(block: ModelBlock, state: BlockState, worker: int) -> BlockState:
     """The run starts again if the call that blocked it is EXECUTED by now; otherwise its call is parked on that call."""
-    task = task_of(Running, state, worker)
+    task = task_of(RunningCall, state, worker)
     call = state.calls[task.call]
     assert task.blocked is not None
     if call.incarnation >= INCARNATION_LIMIT:
         raise LimitMet("IncarnationLimit")
-    if state.calls[task.blocked].status == Status.EXECUTED:
-        return with_task(worker, Running(task.call), state)
-    return with_task(worker, None, with_call(task.call, state, call._replace(status=Status.ABORTING, parked=task.blocked)))
+    if state.calls[task.blocked].status == CallStatus.EXECUTED:
+        return with_task(worker, RunningCall(task.call), state)
+    return with_task(worker, None, with_call(task.call, state, call._replace(status=CallStatus.ABORTING, parked=task.blocked)))
 
 
-def record(block: Block, state: State, worker: int) -> State:
+def record(block: ModelBlock, state: BlockState, worker: int) -> BlockState:
     """The run is kept, and its keys have to move: those that it wrote, and then those that only the run before it wrote."""
-    task = task_of(Running, state, worker)
+    task = task_of(RunningCall, state, worker)
     call = state.calls[task.call]
     writes = block.pause(task.call, task.answers).writes
     if state.record_count + len(writes) > RECORD_LIMIT:
@@ -343,7 +343,7 @@ def record(block: Block, state: State, worker: int) -> State:
     written, before = keys_of(writes), keys_of(call.last.writes if call.last else ())
     left_over = tuple(key for key in before if key not in written)
     run = Recorded(writes, tuple(Read(answer.key, answer.origin) for answer in task.answers))
-    moving = Moving(task.call, written + left_over, any(key not in before for key in written))
+    moving = MovingKeys(task.call, written + left_over, any(key not in before for key in written))
     state = state._replace(record_count=state.record_count + len(writes))
     return with_task(worker, moving, with_call(task.call, state, call._replace(last=run)))
 
@@ -352,22 +352,22 @@ def keys_of(writes: Writes) -> tuple[str, ...]:
     return tuple(key for key, _ in writes)
 
 
-def move_key(block: Block, state: State, worker: int) -> State:
+def move_key(block: ModelBlock, state: BlockState, worker: int) -> BlockState:
     """The next key is published or withdrawn."""
-    task = task_of(Moving, state, worker)
+    task = task_of(MovingKeys, state, worker)
     call, key = state.calls[task.call], task.keys[0]
     writes = dict(last_of(call).writes)
-    entry = Entry(key, task.call, call.incarnation, writes[key]) if key in writes else None
+    entry = WriteEntry(key, task.call, call.incarnation, writes[key]) if key in writes else None
     state = state._replace(versions=changed(state.versions, key, task.call, entry))
-    return with_task(worker, Moving(task.call, task.keys[1:], task.new), state)
+    return with_task(worker, MovingKeys(task.call, task.keys[1:], task.new), state)
 
 
-def finish_execution(block: Block, state: State, worker: int) -> State:
+def finish_execution(block: ModelBlock, state: BlockState, worker: int) -> BlockState:
     """The call is EXECUTED, and the calls that are parked on it are readied. If its run wrote a new key, all calls from it on are
     validated again; otherwise it alone is, by this worker."""
-    task = task_of(Moving, state, worker)
+    task = task_of(MovingKeys, state, worker)
     index = task.call
-    state = resume_dependents(index, with_call(index, state, state.calls[index]._replace(status=Status.EXECUTED)))
+    state = resume_dependents(index, with_call(index, state, state.calls[index]._replace(status=CallStatus.EXECUTED)))
     if state.validation <= index:
         return with_task(worker, None, state)
     if task.new:
@@ -376,22 +376,22 @@ def finish_execution(block: Block, state: State, worker: int) -> State:
     return with_task(worker, Validating(index, call.incarnation, len(last_of(call).reads)), state)
 
 
-def resume_dependents(index: int, state: State) -> State:
+def resume_dependents(index: int, state: BlockState) -> BlockState:
     """All calls that are parked on a call are readied, and the execution index is lowered to the least of them."""
-    parked = [place for place, call in enumerate(state.calls) if call.status == Status.ABORTING and call.parked == index]
+    parked = [place for place, call in enumerate(state.calls) if call.status == CallStatus.ABORTING and call.parked == index]
     calls = tuple(next_incarnation(call) if place in parked else call for place, call in enumerate(state.calls))
     return state._replace(calls=calls, execution=min([state.execution, *parked]))
 
 
-def next_incarnation(call: Call) -> Call:
-    return call._replace(status=Status.READY, incarnation=call.incarnation + 1, parked=None)
+def next_incarnation(call: CallState) -> CallState:
+    return call._replace(status=CallStatus.READY, incarnation=call.incarnation + 1, parked=None)
 
 
-def is_executed_at(incarnation: int, call: Call) -> bool:
-    return call.status == Status.EXECUTED and call.incarnation == incarnation
+def is_executed_at(incarnation: int, call: CallState) -> bool:
+    return call.status == CallStatus.EXECUTED and call.incarnation == incarnation
 
 
-def check_read(block: Block, state: State, worker: int) -> State:
+def check_read(block: ModelBlock, state: BlockState, worker: int) -> BlockState:
     """The task ends if the call has no such run any more; otherwise its next read is checked."""
     task = task_of(Validating, state, worker)
     call = state.calls[task.call]
@@ -404,44 +404,44 @@ def check_read(block: Block, state: State, worker: int) -> State:
     return with_task(worker, Validating(task.call, task.incarnation, task.left, True), state)
 
 
-def decide(block: Block, state: State, worker: int) -> State:
+def decide(block: ModelBlock, state: BlockState, worker: int) -> BlockState:
     """The call is taken back if a read did not stand and the run is still its last one; otherwise the task ends."""
     task = task_of(Validating, state, worker)
     call = state.calls[task.call]
     if not (task.failed and is_executed_at(task.incarnation, call)):
         return with_task(worker, None, state)
     marking = Marking(task.call, keys_of(last_of(call).writes))
-    return with_task(worker, marking, with_call(task.call, state, call._replace(status=Status.ABORTING)))
+    return with_task(worker, marking, with_call(task.call, state, call._replace(status=CallStatus.ABORTING)))
 
 
-def mark_estimate(block: Block, state: State, worker: int) -> State:
+def mark_estimate(block: ModelBlock, state: BlockState, worker: int) -> BlockState:
     task = task_of(Marking, state, worker)
-    estimate = Entry(task.keys[0], task.call, None, None)
+    estimate = WriteEntry(task.keys[0], task.call, None, None)
     state = state._replace(versions=changed(state.versions, estimate.key, task.call, estimate))
     return with_task(worker, Marking(task.call, task.keys[1:]), state)
 
 
-def finish_abort(block: Block, state: State, worker: int) -> State:
+def finish_abort(block: ModelBlock, state: BlockState, worker: int) -> BlockState:
     """The call is readied, and those above it are validated again. The worker runs it if the execution index is past it."""
     index = task_of(Marking, state, worker).call
     state = state._replace(validation=min(state.validation, index + 1))
     call = next_incarnation(state.calls[index])
     state = with_call(index, state, call)
     if index < state.execution:
-        return with_task(worker, Running(index), with_call(index, state, call._replace(status=Status.EXECUTING)))
+        return with_task(worker, RunningCall(index), with_call(index, state, call._replace(status=CallStatus.EXECUTING)))
     return with_task(worker, None, state)
 
 
-def due_step(block: Block, state: State, worker: int) -> Step:
+def due_step(block: ModelBlock, state: BlockState, worker: int) -> Step:
     """One of the ten functions above."""
     match state.tasks[worker]:
         case None:
             return ask
-        case Running(call, answers, blocked):
+        case RunningCall(call, answers, blocked):
             if blocked is not None:
                 return park
             return record if block.pause(call, answers).asked is None else read_key
-        case Moving(_, keys, _):
+        case MovingKeys(_, keys, _):
             return move_key if keys else finish_execution
         case Validating(_, _, left, failed):
             return decide if failed or not left else check_read
@@ -450,7 +450,7 @@ def due_step(block: Block, state: State, worker: int) -> Step:
     raise AssertionError("a task of no kind")
 
 
-def step(block: Block, state: State, worker: int) -> State:
+def step(block: ModelBlock, state: BlockState, worker: int) -> BlockState:
     """The state after the step that a worker owes. It meets a limit where that step is refused."""
     due = due_step(block, state, worker)
     state = due(block, state, worker)

@@ -39,14 +39,14 @@ class Seq(NamedTuple):
     refusal: bytes
 
 
-class Asked(NamedTuple):
+class AskedBlock(NamedTuple):
     """A block that `rvstm seq` is asked for, and whether it finds no program."""
 
     block: bytes
     is_without_programs: bool
 
 
-Known = dict[Asked, Seq]
+Known = dict[AskedBlock, Seq]
 """What `seq` printed of blocks. Models may share it: programs are named by their hashes, so a block has one result."""
 
 
@@ -64,13 +64,13 @@ class Ran:
     left: Left | None = None
 
 
-class Outcome(NamedTuple):
+class SessionOutcome(NamedTuple):
     output: bytes
     errors: bytes
     status: int
 
 
-class Model:
+class SessionModel:
     """A session in Python. Its own folder has the programs under their names, and so `seq` finds them there."""
 
     def __init__(self, runner: Runner, settings: Settings = Settings(), known: Known | None = None) -> None:
@@ -163,7 +163,7 @@ class Model:
         return answers.refused(refusal) if refusal.startswith(b"block ") else None
 
     def seq(self, block: bytes, folder: Path) -> Seq:
-        asked = Asked(block, folder == self.empty)
+        asked = AskedBlock(block, folder == self.empty)
         if asked not in self.known:
             self.known[asked] = self.run_seq(block, folder)
         return self.known[asked]
@@ -231,12 +231,12 @@ class Model:
 
     # ---- a whole input
 
-    def outcome(self, text: bytes) -> Outcome:
+    def outcome(self, text: bytes) -> SessionOutcome:
         asked = inputs.requests_of(text)
         output = b"".join(self.answer(request).text() for request in asked.requests)
         if asked.fault is Fault.NONE:
-            return Outcome(output, b"", 0)
-        return Outcome(output + answers.refused(asked.fault).text(), b"rvstm: " + asked.fault, 1)
+            return SessionOutcome(output, b"", 0)
+        return SessionOutcome(output + answers.refused(asked.fault).text(), b"rvstm: " + asked.fault, 1)
 
 
 def key_of(field: bytes) -> Key:

@@ -12,7 +12,7 @@ from rvstm_tools.texts.keys import Key
 from rvstm_tools.texts.results import Added, Receipt
 
 
-class Wait(NamedTuple):
+class KeyWait(NamedTuple):
     writer: int
     key: Key
 
@@ -32,7 +32,7 @@ def text_of_reads(receipts: Sequence[Receipt], keys_of_calls: Iterable[set[Key]]
     paths: list[int] = []
     counts: Counter[Key] = Counter()
     for receipt, keys in zip(receipts, keys_of_calls):
-        waits = [Wait(writer, key) for key in sorted(keys) for writer in writers_of(receipts, key, receipt.number)]
+        waits = [KeyWait(writer, key) for key in sorted(keys) for writer in writers_of(receipts, key, receipt.number)]
         paths.append(receipt.gas + max((paths[wait.writer] for wait in waits), default=0))
         earliest: dict[Key, int] = {}
         for wait in waits:

@@ -65,13 +65,13 @@ class Rows:
 
 
 @dataclass(frozen=True)
-class Read:
+class ReadFile:
     rows: Rows
     check: str
 
 
 @dataclass(frozen=True)
-class Written:
+class WrittenAnswers:
     """The answers of an output that may be cut, and what there is of the next one."""
 
     answers: list[Answer]
@@ -99,17 +99,17 @@ def refusal_of(run: Ended) -> str | None:
     return REFUSALS.get(run.errors) if run.status == 1 and not run.output else None
 
 
-def answers_of(text: bytes) -> Written:
+def answers_of(text: bytes) -> WrittenAnswers:
     """The answers of an output that may be cut."""
     lines, place = io.BytesIO(text), 0
     found: list[Answer] = []
     while (answer := answers.next_answer(lines)) is not None:
         found.append(answer)
         place += len(answer.text())
-    return Written(found, text[place:])
+    return WrittenAnswers(found, text[place:])
 
 
-class Asked(Session):
+class NeedySession(Session):
     def need(self, request: Request) -> Answer:
         answer = self.ask(request)
         if answer is None:
@@ -123,14 +123,14 @@ class Asked(Session):
         return b"".join(answer.text() for answer in self.asked())
 
 
-class Plain(Asked):
+class Plain(NeedySession):
     """A session without a file, which has what one with a file has to have."""
 
     def __init__(self, rvstm: Path, settings: Settings = PLAIN) -> None:
         super().__init__(rvstm, settings._replace(digest=True, workers=None))
 
 
-class OverFile(Asked):
+class OverFile(NeedySession):
     def __init__(self, rvstm: Path, path: Path, settings: Settings = PLAIN, *, is_as_here: bool = False) -> None:
         super().__init__(rvstm, settings._replace(store=str(path)), is_as_here=is_as_here)
 
@@ -163,7 +163,7 @@ def copied(path: Path, folder: Path) -> Path:
 # ---- what stock SQLite reads
 
 
-def read_by_sqlite(path: Path) -> Read:
+def read_by_sqlite(path: Path) -> ReadFile:
     """What stock SQLite reads in a file. It changes the file: it may fold the log into it, and remove the log."""
     base = sqlite3.connect(path, timeout=0)
     try:
@@ -175,7 +175,7 @@ def read_by_sqlite(path: Path) -> Read:
     finally:
         base.close()
     found = None if session is None else StoredSession(*session)
-    return Read(Rows(storage, programs, found, b"".join(lines) if lines else None), check)
+    return ReadFile(Rows(storage, programs, found, b"".join(lines) if lines else None), check)
 
 
 class Statement(NamedTuple):

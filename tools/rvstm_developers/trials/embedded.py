@@ -7,7 +7,7 @@ from random import Random
 
 from rvstm_developers import embedded_library
 from rvstm_developers.drawing import programs, sessions
-from rvstm_developers.embedded_library import CLOSE, LETTERS, OPEN, OPEN_WITH, Called, Library, Status
+from rvstm_developers.embedded_library import CLOSE, LETTERS, OPEN, OPEN_WITH, Called, Library, LibraryStatus
 from rvstm_developers.models.inputs import Fault
 from rvstm_developers.models.sessions import HIGHEST
 from rvstm_developers import options, texts
@@ -28,7 +28,7 @@ SANITIZERS = ("-fsanitize=address,undefined", "-fno-sanitize-recover=all", "-g")
 ZEROS = requests.key_field(numbered_key(0))
 BAD_NAMES = (b"", b"0" * 63, b"0" * 65, b"A" * 64, b"-", b"0" * 63 + b"\n")
 BAD_DIGESTS = (b"", b"--", b"0" * 63, b"F" * 64)
-REFUSED_AS_A_LINE = Called(Status.REFUSED, b"refused " + Fault.BAD_LINE)
+REFUSED_AS_A_LINE = Called(LibraryStatus.REFUSED, b"refused " + Fault.BAD_LINE)
 LINES_SHOWN = 12
 
 
@@ -79,15 +79,15 @@ class Compared:
 
     def check_closed(self) -> None:
         for letter in (*sorted(LETTERS.values()), CLOSE):
-            self.want(Called(Status.CLOSED), letter)
+            self.want(Called(LibraryStatus.CLOSED), letter)
 
     def open(self) -> None:
         """Opens the session, once with settings that none has, and twice more after it is open."""
         self.check_closed()
-        self.want(Called(Status.BAD_SETTINGS), OPEN_WITH, self.choice.choice(embedded_library.BAD_SETTINGS_TEXTS))
-        self.want(Called(Status.DONE, b"ok 0\n"), OPEN_WITH, embedded_library.settings_text(self.settings))
-        self.want(Called(Status.ALREADY_OPEN), OPEN)
-        self.want(Called(Status.ALREADY_OPEN), OPEN_WITH, embedded_library.BAD_SETTINGS_TEXTS[0])
+        self.want(Called(LibraryStatus.BAD_SETTINGS), OPEN_WITH, self.choice.choice(embedded_library.BAD_SETTINGS_TEXTS))
+        self.want(Called(LibraryStatus.DONE, b"ok 0\n"), OPEN_WITH, embedded_library.settings_text(self.settings))
+        self.want(Called(LibraryStatus.ALREADY_OPEN), OPEN)
+        self.want(Called(LibraryStatus.ALREADY_OPEN), OPEN_WITH, embedded_library.BAD_SETTINGS_TEXTS[0])
 
     def step(self) -> None:
         """Asks both for the next request, or the library for what no line says, which changes nothing."""
@@ -103,7 +103,7 @@ class Compared:
         self.check(self.driver.ask(self.place, request), Called(status, wanted.line, wanted.body), request)
 
     def close(self) -> None:
-        self.want(Called(Status.DONE, b"ok 0\n"), CLOSE)
+        self.want(Called(LibraryStatus.DONE, b"ok 0\n"), CLOSE)
         self.check_closed()
         if self.chain.end() != Ended(b"", b"", 0):
             raise UserError("chain does not end by `q`")

@@ -11,7 +11,7 @@ from typing import NamedTuple, TypeVar
 
 from rvstm_developers.models import scheduler as model
 from rvstm_developers.models.measures import SMALLER, Measure, check_causes, check_quiet, need, work_by_incarnation, worked
-from rvstm_developers.models.scheduler import Block, Contract, Running, Validating
+from rvstm_developers.models.scheduler import ModelBlock, Contract, RunningCall, Validating
 from rvstm_developers.models.scheduler import conditional, copy, count, get, put, read_all, wander
 from rvstm_developers import texts
 from rvstm_tools.errors import MisuseError
@@ -21,20 +21,20 @@ LEAST_SECONDS = 10
 MOST_STATES = 200_000
 A, B, C = "a", "b", "c"
 SMALL = {
-    "put, get": Block([Contract(put, A, 1), Contract(get, A)], 1, 1),
-    "get, put": Block([Contract(get, A), Contract(put, A, 1)], 1, 1),
-    "two counts": Block([Contract(count, A)] * 2, 1, 1),
-    "put, conditional, get": Block([Contract(put, A, 1), Contract(conditional, A, B, C), Contract(get, B)], 1, 2),
-    "put, remove, get": Block([Contract(put, A, 1), Contract(put, A, None), Contract(get, A)], 1, 1),
-    "put, copy, get": Block([Contract(put, A, 1), Contract(copy, A, B), Contract(get, B)], 1, 1),
-    "conditional, put, copy": Block([Contract(conditional, A, B, C), Contract(put, A, 1), Contract(copy, B, A)], 1, 2),
-    "three counts": Block([Contract(count, A)] * 3, 1, 1),
-    "four counts": Block([Contract(count, A)] * 4, 1, 1),
+    "put, get": ModelBlock([Contract(put, A, 1), Contract(get, A)], 1, 1),
+    "get, put": ModelBlock([Contract(get, A), Contract(put, A, 1)], 1, 1),
+    "two counts": ModelBlock([Contract(count, A)] * 2, 1, 1),
+    "put, conditional, get": ModelBlock([Contract(put, A, 1), Contract(conditional, A, B, C), Contract(get, B)], 1, 2),
+    "put, remove, get": ModelBlock([Contract(put, A, 1), Contract(put, A, None), Contract(get, A)], 1, 1),
+    "put, copy, get": ModelBlock([Contract(put, A, 1), Contract(copy, A, B), Contract(get, B)], 1, 1),
+    "conditional, put, copy": ModelBlock([Contract(conditional, A, B, C), Contract(put, A, 1), Contract(copy, B, A)], 1, 2),
+    "three counts": ModelBlock([Contract(count, A)] * 3, 1, 1),
+    "four counts": ModelBlock([Contract(count, A)] * 4, 1, 1),
 }
 Found = TypeVar("Found")
 
 
-class Edge(NamedTuple):
+class WorkStep(NamedTuple):
     """A step of work: the number of the state after it, and the call that it changed for the calls above it, or None."""
 
     after: int
@@ -49,10 +49,10 @@ class Most(NamedTuple):
 class Graph:
     """All states of a block by some workers, without what is only counted, and the steps of work between them."""
 
-    def __init__(self, block: Block, workers: int, until: float) -> None:
+    def __init__(self, block: ModelBlock, workers: int, until: float) -> None:
         first = model.start(block, workers)
         self.states, places = [first], {first: 0}
-        self.steps: list[list[Edge]] = []
+        self.steps: list[list[WorkStep]] = []
         for state in self.states:
             if len(self.states) > MOST_STATES or time.time() > until:
                 break
@@ -65,7 +65,7 @@ class Graph:
                     if after not in places:
                         places[after] = len(self.states)
                         self.states.append(after)
-                    self.steps[-1].append(Edge(places[after], step.changed))
+                    self.steps[-1].append(WorkStep(places[after], step.changed))
         self.measure = Measure(block, workers)
         cost = work_by_incarnation(workers, len(block.calls), block.reads, block.writes)
         need(self.measure.cost == cost and self.measure.left(first) <= len(block.calls) * cost, "the start has too much left")
@@ -138,7 +138,7 @@ def check_small(tally: Tally, until: float) -> None:
 
 
 class Walk:
-    def __init__(self, block: Block, workers: int) -> None:
+    def __init__(self, block: ModelBlock, workers: int) -> None:
         self.block, self.state, self.measure = block, model.start(block, workers), Measure(block, workers)
         self.work, self.causes = 0, [0] * len(block.calls)
 
@@ -183,7 +183,7 @@ class Extreme(NamedTuple):
 
 def check_walk(seed: int) -> Extreme:
     choice = random.Random(seed)
-    block = Block([random_call(choice) for _ in range(choice.randint(1, 7))], 3, 2)
+    block = ModelBlock([random_call(choice) for _ in range(choice.randint(1, 7))], 3, 2)
     workers = range(choice.randint(1, 6))
     walk, weights = Walk(block, len(workers)), [choice.choice((1, 5, 50)) for _ in workers]
     for worker in choice.choices(workers, weights, k=choice.randrange(1000)):
@@ -210,7 +210,7 @@ class Adversary(Walk):
     """Worker I takes call I and holds it. The highest is let go first; then those above are taken back, the highest first."""
 
     def __init__(self, calls: int) -> None:
-        super().__init__(Block([Contract(read_all, number) for number in range(calls)], calls - 1, 1), calls)
+        super().__init__(ModelBlock([Contract(read_all, number) for number in range(calls)], calls - 1, 1), calls)
         self.calls = calls
         self.schedule: list[int] = []
 
@@ -222,13 +222,13 @@ class Adversary(Walk):
         while self.state.tasks[worker]:
             self.step(worker)
 
-    def take(self, kind: type[Running | Validating], call: int) -> int:
+    def take(self, kind: type[RunningCall | Validating], call: int) -> int:
         """A worker without a task asks until it has one, which is of this kind and of this call. Returns its number."""
         worker = self.state.tasks.index(None)
         while self.state.tasks[worker] is None:
             self.step(worker)
         task = self.state.tasks[worker]
-        need(isinstance(task, (Running, Validating)) and (type(task), task.call) == (kind, call), "another task is handed out")
+        need(isinstance(task, (RunningCall, Validating)) and (type(task), task.call) == (kind, call), "another task is handed out")
         return worker
 
     def hold_above(self, call: int) -> dict[int, int]:
@@ -236,14 +236,14 @@ class Adversary(Walk):
 
     def take_back(self, call: int, worker: int) -> None:
         """The worker holds a validation of the call that fails. The call runs again, and then all above it, the highest first."""
-        while not isinstance(self.state.tasks[worker], Running):
+        while not isinstance(self.state.tasks[worker], RunningCall):
             self.step(worker)
         held, highest = self.hold_above(call), self.calls - 1
         if held:
             self.end_task(held.pop(highest))  # it is taken back, and parked on this call
         self.end_task(worker)
         if call < highest:
-            self.end_task(self.take(Running, highest))
+            self.end_task(self.take(RunningCall, highest))
         self.take_back_all(held)
 
     def take_back_all(self, held: dict[int, int]) -> None:

@@ -39,7 +39,7 @@ SESSION_WORDS = (
 )
 
 
-class Kind(enum.Enum):
+class FileKind(enum.Enum):
     ELF = "elf"
     BLOCK = "block"
     SOURCE = "source"
@@ -55,21 +55,21 @@ class Seed:
     data: bytes
 
 
-def seeds() -> dict[Kind, list[Seed]]:
+def seeds() -> dict[FileKind, list[Seed]]:
     patterns = {
-        Kind.ELF: ("examples/*/*.elf", "bench/programs/*.elf"),
-        Kind.BLOCK: ("examples/*/*.block",),
-        Kind.SOURCE: ("examples/*/*.s", "bench/programs/*.s"),
-        Kind.SCHEDULE: ("examples/*/*.schedule",),
+        FileKind.ELF: ("examples/*/*.elf", "bench/programs/*.elf"),
+        FileKind.BLOCK: ("examples/*/*.block",),
+        FileKind.SOURCE: ("examples/*/*.s", "bench/programs/*.s"),
+        FileKind.SCHEDULE: ("examples/*/*.schedule",),
     }
     found = {
         kind: [Seed(path.parent, path.read_bytes()) for pattern in each for path in sorted(TOP.glob(pattern))]
         for kind, each in patterns.items()
     }
-    found[Kind.LINES] = [Seed(TOP, DEBUG_LINES)]
-    found[Kind.STORAGE] = [Seed(TOP, b"")]
-    folders = sorted({seed.folder for seed in found[Kind.BLOCK]})
-    found[Kind.SESSION] = [Seed(folder, session_of(folder)) for folder in folders]
+    found[FileKind.LINES] = [Seed(TOP, DEBUG_LINES)]
+    found[FileKind.STORAGE] = [Seed(TOP, b"")]
+    folders = sorted({seed.folder for seed in found[FileKind.BLOCK]})
+    found[FileKind.SESSION] = [Seed(folder, session_of(folder)) for folder in folders]
     return found
 
 
@@ -248,37 +248,37 @@ def fuzz_session(runs: Runs, choice: Random, folder: Path, text: bytes) -> None:
         runs.fail(settings.words(), difference)
 
 
-def data_of(runs: Runs, choice: Random, kind: Kind, others: Sequence[Seed]) -> Seed:
+def data_of(runs: Runs, choice: Random, kind: FileKind, others: Sequence[Seed]) -> Seed:
     """A file of a kind, mostly damaged, and the folder in which it is used."""
     seed, head = choice.choice(others), choice.choice(texts.HEADS)
-    if kind is Kind.STORAGE:
+    if kind is FileKind.STORAGE:
         return Seed(seed.folder, storage_block(choice, head, programs.make(runs.rvstm, choice, runs.out)))
-    if kind is Kind.SESSION:
+    if kind is FileKind.SESSION:
         return Seed(seed.folder, damaged_session(choice, seed.data, others))
-    data = seed.data.replace(texts.HEADS[0].encode(), head.encode(), 1) if kind is Kind.BLOCK else seed.data
+    data = seed.data.replace(texts.HEADS[0].encode(), head.encode(), 1) if kind is FileKind.BLOCK else seed.data
     return Seed(seed.folder, damaged(choice, data, others))
 
 
-def fuzz_file(runs: Runs, choice: Random, kind: Kind, seed: Seed) -> None:
+def fuzz_file(runs: Runs, choice: Random, kind: FileKind, seed: Seed) -> None:
     folder, path, block = seed.folder, runs.damaged, COUNTER / "counter.block"
     path.write_bytes(seed.data)
     match kind:
-        case Kind.ELF:
+        case FileKind.ELF:
             runs.run(folder, ["dis", path])
             text = texts.block_text([path], {}, [CallLine(0, 100_000, bytes(1))] * 3, choice.choice(texts.HEADS))
             runs.second.write_text(text, encoding="utf-8")
             fuzz_block(runs, choice, folder, runs.second, path)
-        case Kind.BLOCK | Kind.STORAGE:
+        case FileKind.BLOCK | FileKind.STORAGE:
             runs.second.write_text(texts.lines_of(choice.randrange(2) for _ in range(2000)), encoding="utf-8")
             fuzz_block(runs, choice, folder, path, runs.second)
-        case Kind.SOURCE:
+        case FileKind.SOURCE:
             if runs.run(folder, ["asm", path, "--out", runs.out]) is not None:
                 runs.run(folder, ["dis", runs.out])
-        case Kind.SCHEDULE:
+        case FileKind.SCHEDULE:
             runs.run(COUNTER, ["drive", block, "--workers", "2", "--schedule", path])
-        case Kind.SESSION:
+        case FileKind.SESSION:
             fuzz_session(runs, choice, folder, seed.data)
-        case Kind.LINES:
+        case FileKind.LINES:
             runs.run(COUNTER, ["debug", block, "--call", "1"], seed.data)
 
 

@@ -43,7 +43,7 @@ class Memory(NamedTuple):
     length: int
 
 
-class Row(NamedTuple):
+class MomentState(NamedTuple):
     """The state at a moment: the registers, the pc, and the upper end of the stack."""
 
     registers: list[int]
@@ -56,13 +56,13 @@ class Trace:
         with Debugger(call) as session:
             self.total = session.run_to_end()
         self.last = self.total - 1
-        self.rows: list[Row] = []
+        self.rows: list[MomentState] = []
         with Debugger(call) as session:
             line = session.answer("w")
             for _ in range(self.total):
                 stack = session.memory(STACK, STACK_END - STACK)
                 assert stack is not None
-                self.rows.append(Row(session.registers(), int(line.split(" ")[1], 16), stack))
+                self.rows.append(MomentState(session.registers(), int(line.split(" ")[1], 16), stack))
                 line = session.answer("s")
         self.addresses = sorted({row.pc for row in self.rows})
         self.words: list[int] = []  # words of the stack that change
@@ -116,7 +116,7 @@ class Round:
         self.points: set[int] = set()
         self.watches: set[Memory] = set()
         self.wire = MovingWire(draw)
-        self.server = gdb.Server(self.wire, lambda hear: moments.Call(call, View(), hear))
+        self.server = gdb.Server(self.wire, lambda hear: moments.DebuggedCall(call, View(), hear))
 
     def require(self, holds: bool, what: str) -> None:
         if not holds:

@@ -7,7 +7,7 @@ from pathlib import Path
 from typing import NamedTuple
 
 from rvstm_developers import comparing
-from rvstm_developers.models.sessions import Known, Model
+from rvstm_developers.models.sessions import Known, SessionModel
 from rvstm_developers.stores.files import answers_of
 from rvstm_developers import options, running, texts
 from rvstm_developers.running import Word
@@ -83,27 +83,27 @@ class Tools:
 
 
 @dataclass(frozen=True)
-class Trial:
+class GrowthTrial:
     """What is run again and again, and how it may end after a refusal: of the trial, how it ended, and how it ends without one."""
 
     name: str
     folder: Path
     words: Sequence[Word]
-    is_right: Callable[["Trial", Ended, Ended], bool]
+    is_right: Callable[["GrowthTrial", Ended, Ended], bool]
     data: bytes = b""
 
 
-class Sums(NamedTuple):
+class RunSums(NamedTuple):
     runs: int
     failed: int
 
 
-def commands(rvstm: Path, place: Path) -> Iterator[Trial]:
+def commands(rvstm: Path, place: Path) -> Iterator[GrowthTrial]:
     out, turns = place / "out.elf", place / "turns.schedule"
     turns.write_text("0\n1\n" * 200, encoding="utf-8")
 
-    def of(name: str, example: str, *words: Word, data: bytes = b"") -> Trial:
-        return Trial(name, TOP / "examples" / example, [rvstm, *words], is_right, data)
+    def of(name: str, example: str, *words: Word, data: bytes = b"") -> GrowthTrial:
+        return GrowthTrial(name, TOP / "examples" / example, [rvstm, *words], is_right, data)
 
     yield of("seq", "counter", "seq", "counter.block")
     yield of("seq in C", "token", "seq", "token.block")
@@ -120,13 +120,13 @@ def commands(rvstm: Path, place: Path) -> Iterator[Trial]:
     yield of("debug", "counter", "debug", "counter.block", "--call", "2", data=b"s\nr\nm 00010000 16\ng 00000000\nb\nw\n")
 
 
-def run_refused(trial: Trial, tools: Tools, number: int) -> Ended:
+def run_refused(trial: GrowthTrial, tools: Tools, number: int) -> Ended:
     """Runs a trial, of which the request for memory of a number is refused; none is if the number is 0."""
     more = {"LD_PRELOAD": str(tools.library), "FAILING_REQUEST": str(number), "REFUSED_FILE": str(tools.mark)}
     return running.run(trial.words, trial.folder, trial.data, SECONDS_A_RUN, {**os.environ, **more})
 
 
-def is_right(trial: Trial, answer: Ended, wanted: Ended) -> bool:
+def is_right(trial: GrowthTrial, answer: Ended, wanted: Ended) -> bool:
     """Whether an answer of a run that met a refusal is one that it may be."""
     if answer.status == 0:
         return answer.output == wanted.output and not answer.errors
@@ -172,7 +172,7 @@ def working_requests(file: bytes) -> list[Request]:
     return [Request(Asks.PROGRAM, (), file), frame, frame._replace(word=Asks.TRY), frame, Request(Asks.DUMP), get]
 
 
-class Session:
+class RefusedSession:
     def __init__(self, rvstm: Path, settings: Settings, asked: Iterable[Request]) -> None:
         self.settings, self.requests = settings, list(asked)
         self.text = requests.text_of(self.requests)
@@ -182,10 +182,10 @@ class Session:
 
     def answers_but_for(self, rvstm: Path, known: Known, failed: int | None) -> list[Answer | None]:
         """The answers if one request fails for want of memory; None for that."""
-        model = Model(Program(rvstm, comparing.SECONDS_A_BLOCK), self.settings, known)
+        model = SessionModel(Program(rvstm, comparing.SECONDS_A_BLOCK), self.settings, known)
         return [None if number == failed else model.answer(request) for number, request in enumerate(self.requests)]
 
-    def is_right(self, _: Trial, answer: Ended, wanted: Ended) -> bool:
+    def is_right(self, _: GrowthTrial, answer: Ended, wanted: Ended) -> bool:
         if answer.status == 2 or REFUSED.match(answer.errors):
             return answer.status != 0 and not answer.output
         if answer.status or answer.errors:
@@ -201,32 +201,32 @@ class Session:
         return all(one.text() in may if other is None else one == other for one, other, may in zip(came, wanted, failures))
 
 
-def is_passed(_: Trial, answer: Ended, wanted: Ended) -> bool:
+def is_passed(_: GrowthTrial, answer: Ended, wanted: Ended) -> bool:
     return answer.status == 0
 
 
-def sessions_of(rvstm: Path, place: Path) -> Iterator[Trial]:
+def sessions_of(rvstm: Path, place: Path) -> Iterator[GrowthTrial]:
     work, counter = place / "work.elf", TOP / "examples/counter/counter.elf"
     running.output_of([rvstm, "asm", TOP / "bench/programs/work.s", "--out", work])
     counting, working = list(counting_requests(counter.read_bytes())), working_requests(work.read_bytes())
 
-    def of(name: str, settings: Settings, asked: Iterable[Request]) -> Trial:
-        session = Session(rvstm, settings, asked)
-        return Trial(name, place, [rvstm, *settings.words()], session.is_right, session.text)
+    def of(name: str, settings: Settings, asked: Iterable[Request]) -> GrowthTrial:
+        session = RefusedSession(rvstm, settings, asked)
+        return GrowthTrial(name, place, [rvstm, *settings.words()], session.is_right, session.text)
 
     yield of("chain", Settings(), [request for request in counting if request.word != Asks.BEGIN])
     yield of("chain with a digest and brief", Settings(digest=True, brief=True), counting)
     yield of("chain by threads", Settings(digest=True, workers=2), working)
 
 
-def tests_of(path: Path, place: Path) -> Iterator[Trial]:
+def tests_of(path: Path, place: Path) -> Iterator[GrowthTrial]:
     listed = running.output_of([path, "--list"]).decode()
     for test in re.findall(r"^(\S+): test$", listed, re.MULTILINE):
         if test.startswith(TAKEN):
-            yield Trial(test, place, [path, test], is_passed)
+            yield GrowthTrial(test, place, [path, test], is_passed)
 
 
-def run_all(place: Path, trials: Iterable[Trial]) -> Sums:
+def run_all(place: Path, trials: Iterable[GrowthTrial]) -> RunSums:
     runs = failed = 0
     source, tools = place / "refuses.c", Tools(place / "refuses.so", place / "refused")
     source.write_text(LIBRARY, encoding="utf-8")
@@ -246,7 +246,7 @@ def run_all(place: Path, trials: Iterable[Trial]) -> Sums:
                 failed += 1
                 print(f"failed: {trial.name}, request {number}: {answer.status} {answer.errors!r} {answer.output[:99]!r}")
         print(f"{trial.name}: {number - 1} requests, {refusals} refused", flush=True)
-    return Sums(runs, failed)
+    return RunSums(runs, failed)
 
 
 def run(given: argparse.Namespace) -> int:

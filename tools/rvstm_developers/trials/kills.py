@@ -178,7 +178,7 @@ class KilledFile:
 
 
 @dataclass
-class Rounds:
+class KillRounds:
     rvstm: Path
     folder: Path
     choice: Random
@@ -200,7 +200,7 @@ class Rounds:
 
 
 def run(given: argparse.Namespace) -> int:
-    rounds = Rounds(given.rvstm, given.folder, random.Random(given.seed), Counter())
+    rounds = KillRounds(given.rvstm, given.folder, random.Random(given.seed), Counter())
     while rounds.done < given.rounds:
         with texts.new_folder("kills-") as place:
             rounds.over_one_file(place, min(ROUNDS_A_FILE, given.rounds - rounds.done))

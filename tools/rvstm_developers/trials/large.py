@@ -12,7 +12,7 @@ from typing import NamedTuple
 from rvstm_developers.large import blocks, limits, sessions
 from rvstm_developers.large import texts as long_texts
 from rvstm_developers.large.limits import USUAL_STACK, Trial
-from rvstm_developers.models.machine import Block
+from rvstm_developers.models.machine import MachineBlock
 from rvstm_developers import options, texts
 from rvstm_tools.options import Command, argument
 from rvstm_tools.texts import differences
@@ -52,15 +52,15 @@ class Usage(NamedTuple):
 @dataclass(frozen=True)
 class StackRow:
     command: str
-    wanted: Callable[[Block], bytes]
+    wanted: Callable[[MachineBlock], bytes]
     options: tuple[str, ...] = ()
 
 
 STACK_ROWS = (
-    StackRow("seq", Block.result),
-    StackRow("run", Block.result, ("--workers", "1")),
-    StackRow("run", Block.result, ("--workers", "32")),
-    StackRow("conflicts", Block.conflicts),
+    StackRow("seq", MachineBlock.result),
+    StackRow("run", MachineBlock.result, ("--workers", "1")),
+    StackRow("run", MachineBlock.result, ("--workers", "32")),
+    StackRow("conflicts", MachineBlock.conflicts),
 )
 
 
@@ -117,7 +117,7 @@ class Bench:
         self.tell(name, fault, f"{high} KiB of {USUAL_STACK} serve, {low} do not")
 
 
-class Row(NamedTuple):
+class LargeRow(NamedTuple):
     name: str
     make: Callable[[], Trial]
     tell: Callable[[str, Trial], None]
@@ -138,7 +138,7 @@ def block_files(name: str) -> dict[str, bytes]:
     return files | {"block": block.text(files)}
 
 
-def by(words: Sequence[str], wanted: Callable[[Block], bytes], name: str) -> Trial:
+def by(words: Sequence[str], wanted: Callable[[MachineBlock], bytes], name: str) -> Trial:
     return Trial(list(words), wanted(blocks.made(name)), files=block_files(name))
 
 
@@ -153,16 +153,16 @@ def by_drive(workers: int, missing: int, name: str) -> Trial:
     return Trial(words, blocks.made(name).result(), files=files)
 
 
-def rows_of_block(bench: Bench, name: str) -> Iterator[Row]:
-    yield Row(f"{name}, seq", functools.partial(by, ["seq", "block"], Block.result, name), bench.row)
-    yield Row(f"{name}, conflicts", functools.partial(by, ["conflicts", "block"], Block.conflicts, name), bench.row)
+def rows_of_block(bench: Bench, name: str) -> Iterator[LargeRow]:
+    yield LargeRow(f"{name}, seq", functools.partial(by, ["seq", "block"], MachineBlock.result, name), bench.row)
+    yield LargeRow(f"{name}, conflicts", functools.partial(by, ["conflicts", "block"], MachineBlock.conflicts, name), bench.row)
     for workers in WORKERS:
-        make = functools.partial(by, ["run", "block", "--workers", str(workers)], Block.result, name)
-        yield Row(f"{name}, run by {workers}", make, bench.row)
-    yield Row(f"{name}, drive by 1", functools.partial(by_drive, 1, 0, name), bench.row)
-    yield Row(f"{name}, drive by 1, a line short", functools.partial(by_drive, 1, 1, name), bench.row)
+        make = functools.partial(by, ["run", "block", "--workers", str(workers)], MachineBlock.result, name)
+        yield LargeRow(f"{name}, run by {workers}", make, bench.row)
+    yield LargeRow(f"{name}, drive by 1", functools.partial(by_drive, 1, 0, name), bench.row)
+    yield LargeRow(f"{name}, drive by 1, a line short", functools.partial(by_drive, 1, 1, name), bench.row)
     if name in IN_TURN:
-        yield Row(f"{name}, drive by 5", functools.partial(by_drive, 5, 0, name), bench.row)
+        yield LargeRow(f"{name}, drive by 5", functools.partial(by_drive, 5, 0, name), bench.row)
 
 
 def session_words(name: str, *more: str) -> list[str]:
@@ -184,33 +184,33 @@ def kept_session(bench: Bench, number: int, workers: Sequence[str], name: str) -
     return Trial(session_words(name, "--store", "store", *workers), part.answers, input=part.text)
 
 
-def rows_of_session(bench: Bench, name: str) -> Iterator[Row]:
-    yield Row(f"{name}, chain", functools.partial(whole_session, (), name), bench.row)
+def rows_of_session(bench: Bench, name: str) -> Iterator[LargeRow]:
+    yield LargeRow(f"{name}, chain", functools.partial(whole_session, (), name), bench.row)
     for count in WORKERS * (name in BY_WORKERS):
-        yield Row(f"{name}, chain by {count}", functools.partial(whole_session, ("--workers", str(count)), name), bench.row)
+        yield LargeRow(f"{name}, chain by {count}", functools.partial(whole_session, ("--workers", str(count)), name), bench.row)
     for number in range(sessions.MAKERS[name].parts + 1):
         workers = PARTS_WORKERS[number] * (name in BY_PARTS)
         row = f"{name}, chain in a file, part {number + 1}" + (f" by {workers}" if workers else "")
         make = functools.partial(kept_session, bench, number, ("--workers", workers) if workers else (), name)
-        yield Row(row, make, bench.row)
+        yield LargeRow(row, make, bench.row)
 
 
-def rows_of_stacks(bench: Bench) -> Iterator[Row]:
+def rows_of_stacks(bench: Bench) -> Iterator[LargeRow]:
     """The longest chain of waits, and the most keys, each with the least stack."""
     chain, keys = "1,024 calls on one key", "a file of 262,144 keys"
     for name, one in itertools.product((chain, keys), STACK_ROWS):
         make = functools.partial(by, [one.command, "block", *one.options], one.wanted, name)
-        yield Row(f"the least stack, {name}, {' '.join((one.command, *one.options))}", make, bench.least_stack)
-    yield Row(f"the least stack, {chain}, chain", functools.partial(whole_session, (), chain), bench.least_stack)
+        yield LargeRow(f"the least stack, {name}, {' '.join((one.command, *one.options))}", make, bench.least_stack)
+    yield LargeRow(f"the least stack, {chain}, chain", functools.partial(whole_session, (), chain), bench.least_stack)
 
 
-def rows(bench: Bench, is_small: bool) -> Iterator[Row]:
+def rows(bench: Bench, is_small: bool) -> Iterator[LargeRow]:
     for name in blocks.SMALL if is_small else blocks.MAKERS:
         yield from rows_of_block(bench, name)
     for name in () if is_small else sessions.MAKERS:
         yield from rows_of_session(bench, name)
     for name, make in (long_texts.rows(is_small) | limits.ROWS).items():
-        yield Row(name, make, bench.row)
+        yield LargeRow(name, make, bench.row)
     yield from () if is_small else rows_of_stacks(bench)
 
 

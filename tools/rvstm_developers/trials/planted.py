@@ -20,7 +20,7 @@ BUGS = (
 """In the order of their numbers in bank.c, from 1 on."""
 
 
-class Found(NamedTuple):
+class FoundBug(NamedTuple):
     """How a bug was found: after how many seconds and calls, and how many calls are left after how many seconds."""
 
     seconds: float
@@ -32,7 +32,7 @@ class Found(NamedTuple):
         return f"{self.seconds:6.1f} s  {self.calls:>9} calls  {self.left:>2} left  {self.whole:6.1f} s"
 
 
-def explored(words: list[str | Path]) -> Found | None:
+def explored(words: list[str | Path]) -> FoundBug | None:
     """What a run of `rvstm-tools explore` finds, by its lines and when they come; None if nothing is broken."""
     begun, seconds, calls, found = time.monotonic(), 0.0, "", None
     with subprocess.Popen(words, stdout=subprocess.PIPE, encoding="utf-8") as process:
@@ -41,7 +41,7 @@ def explored(words: list[str | Path]) -> Found | None:
             if form := re.match("broken by call ([0-9]+) of all", line):
                 seconds, calls = time.monotonic() - begun, form[1]
             if form := re.match("of [0-9]+ calls ([0-9]+) are left", line):
-                found = Found(seconds, calls, form[1], time.monotonic() - begun)
+                found = FoundBug(seconds, calls, form[1], time.monotonic() - begun)
     return found
 
 

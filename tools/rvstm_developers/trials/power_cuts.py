@@ -31,7 +31,7 @@ Item = TypeVar("Item")
 
 
 @dataclass(frozen=True)
-class Recorded:
+class RecordedFrame:
     before: Both
     steps: list[Step]
 
@@ -54,7 +54,7 @@ class Recording:
     """A session that was recorded: its name, what its images may hold, and the steps that are cut, or None for all."""
 
     name: str
-    recorded: Recorded
+    recorded: RecordedFrame
     expected: Allowed
     are_cut: set[int] | None = None
 
@@ -78,21 +78,21 @@ class Recorder:
         running.output_of(["cc", "-O2", "-shared", "-fPIC", "-o", self.library, RECORDER])
         self.environment = dict(os.environ, LD_PRELOAD=str(self.library), STORE_FILE=str(self.path), STORE_LIST=str(self.list))
 
-    def record(self, before: Both, asked: Iterable[Request]) -> Recorded:
+    def record(self, before: Both, asked: Iterable[Request]) -> RecordedFrame:
         """Records a session. What its steps leave has to be what is there."""
         files.put(self.path, before)
         self.list.unlink(missing_ok=True)
         run = files.run(self.rvstm, self.path, asked, environment=self.environment)
         if run.status or run.errors:
             raise UserError(f"a session that is recorded ends with status {run.status}: {run.errors!r}")
-        recorded = Recorded(before, disks.steps_of(self.list))
+        recorded = RecordedFrame(before, disks.steps_of(self.list))
         there = files.contents(self.path)
         if Both(there.file or b"", there.log or b"") != after(recorded, len(recorded.steps)):
             raise UserError("a call that changes the file or its log is not in the list")
         return recorded
 
 
-def after(recorded: Recorded, number: int) -> Both:
+def after(recorded: RecordedFrame, number: int) -> Both:
     disk = Disk(recorded.before)
     for step in recorded.steps[:number]:
         if step.whose != OUTPUT:
@@ -100,11 +100,11 @@ def after(recorded: Recorded, number: int) -> Both:
     return disk.both()
 
 
-def last_answer(recorded: Recorded) -> int:
+def last_answer(recorded: RecordedFrame) -> int:
     return max(number for number, step in enumerate(recorded.steps, 1) if step.whose == OUTPUT)
 
 
-def cuts(recorded: Recorded, are_cut: set[int] | None) -> Iterator[Cut]:
+def cuts(recorded: RecordedFrame, are_cut: set[int] | None) -> Iterator[Cut]:
     disk, written_before = Disk(recorded.before), 0
     for number, step in enumerate(recorded.steps):
         if step.whose == OUTPUT:
@@ -115,7 +115,7 @@ def cuts(recorded: Recorded, are_cut: set[int] | None) -> Iterator[Cut]:
             yield Cut(disk, written_before)
 
 
-def around(choice: Random, recorded: Recorded) -> set[int]:
+def around(choice: Random, recorded: RecordedFrame) -> set[int]:
     steps = recorded.steps
     numbers = {number + near for number, step in enumerate(steps) if step.whose == FILE for near in range(-AROUND, AROUND)}
     return numbers | {choice.randrange(len(steps)) for _ in range(OTHER_CUTS)}

@@ -33,24 +33,24 @@ LENGTH_REGISTER = 11
 
 
 @dataclass(frozen=True)
-class Moment:
+class StepMoment:
     pc: int
     text: str
 
 
 @dataclass(frozen=True)
-class Replay:
-    moments: list[Moment]
+class StepReplay:
+    moments: list[StepMoment]
     registers: list[int]
 
 
-def replay_of(rvstm: Path, block: Path, call: int, steps: int) -> Replay:
+def replay_of(rvstm: Path, block: Path, call: int, steps: int) -> StepReplay:
     lines = b"w\n" + b"s\n" * (steps + 1) + b"r\n"
     *shown, registers = running.output_of([rvstm, "debug", block, "--call", str(call)], data=lines).decode().splitlines()
     if shown[-1] != "refused AtEnd 2":
         raise UserError(f"call {call} of {block} makes more than {steps} steps")
     rows = [line.split(" ", 2) for line in shown if line[0] != "r"]
-    return Replay([Moment(int(pc, 16), text) for _, pc, text in rows], [int(word, 16) for word in registers.split(" ")[1:]])
+    return StepReplay([StepMoment(int(pc, 16), text) for _, pc, text in rows], [int(word, 16) for word in registers.split(" ")[1:]])
 
 
 def cost_of(text: str, registers: Sequence[int]) -> int:
@@ -71,7 +71,7 @@ def ends_of(text: str, registers: Sequence[int]) -> tuple[End, ...]:
     return (End.MISALIGNED,) if mnemonic in ("jal", "jalr", *BRANCHES) else ENDS.get(mnemonic, ())
 
 
-def differences(receipt: Receipt, limit: int, replay: Replay) -> Iterator[str]:
+def differences(receipt: Receipt, limit: int, replay: StepReplay) -> Iterator[str]:
     *before, end = replay.moments
     registers = replay.registers
     spent, last = sum(cost_of(earlier.text, registers) for earlier in before[:-1]), cost_of(end.text, registers)
@@ -90,7 +90,7 @@ def differences(receipt: Receipt, limit: int, replay: Replay) -> Iterator[str]:
 
 
 @dataclass
-class Tally:
+class WordTally:
     words: int = 0
     executed: int = 0
     calls: int = 0
@@ -99,7 +99,7 @@ class Tally:
     ends: Counter[str] = field(default_factory=Counter)
     mnemonics: Counter[str] = field(default_factory=Counter)
 
-    def add(self, other: "Tally") -> None:
+    def add(self, other: "WordTally") -> None:
         self.words += other.words
         self.executed += other.executed
         self.calls += other.calls
@@ -108,24 +108,24 @@ class Tally:
         self.ends += other.ends
         self.mnemonics += other.mnemonics
 
-    def take(self, receipt: Receipt, replay: Replay) -> None:
+    def take(self, receipt: Receipt, replay: StepReplay) -> None:
         self.calls += 1
         self.steps += len(replay.moments) - 1
         self.ends[receipt.end] += 1
         self.mnemonics.update(moment.text.split(" ", 1)[0] for moment in replay.moments[:-1])
 
 
-def compare(rvstm: Path, seed: str) -> Tally:
+def compare(rvstm: Path, seed: str) -> WordTally:
     choice: Random = random.Random(seed)
     with texts.new_folder() as folder:
         file, block = folder / "random.elf", folder / "random.block"
-        made = words.program_of(choice, words.Words(choice))
+        made = words.program_of(choice, words.RandomWords(choice))
         file.write_bytes(made.file)
         limits = [LAUNCH_GAS + choice.choice(GAS_LIMITS) for _ in range(CALLS_A_PROGRAM)]
         calls = [CallLine(0, limit, words.input_of(choice, made.count)) for limit in limits]
         block.write_text(texts.block_text([file], {}, calls), encoding="utf-8")
         result = results.result_of(running.output_of([rvstm, "seq", block]).decode())
-        tally, places = Tally(words=made.count), set[int]()
+        tally, places = WordTally(words=made.count), set[int]()
         for receipt in result.receipts:
             replay = replay_of(rvstm, block, receipt.number, receipt.gas + 1)
             tally.take(receipt, replay)
@@ -140,7 +140,7 @@ def compare(rvstm: Path, seed: str) -> Tally:
 
 def run(given: argparse.Namespace) -> int:
     seed = random.randrange(2**32) if given.seed is None else given.seed
-    began, total, number = time.monotonic(), Tally(), 0
+    began, total, number = time.monotonic(), WordTally(), 0
     with ProcessPoolExecutor() as pool:
         while total.words < given.words:
             seeds = [f"{seed}/{number + place}" for place in range(os.cpu_count() or 1)]

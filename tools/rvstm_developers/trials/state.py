@@ -29,7 +29,7 @@ HEAP = re.compile(r"heap: (\d+) bytes at most, 0 blocks left")
 COLUMNS = ("database", "keys", "filled in, s", "MiB", f"{TRANSFERS:,} transfers, s", "bytes of the block")
 
 
-class Spent(NamedTuple):
+class DriverRun(NamedTuple):
     printed: str
     seconds: float
     heap: int
@@ -55,7 +55,7 @@ def transfers(step: int) -> tuple[list[int], str]:
     return sorted({number for pair in pairs for number in pair}), texts.lines_of(calls)
 
 
-def run_block(program: Path, database: Path, parts: Iterable[str]) -> Spent:
+def run_block(program: Path, database: Path, parts: Iterable[str]) -> DriverRun:
     """Hands a block file in, part by part."""
     began = time.perf_counter()
     words, environment, pipe = [program, database], {**os.environ, "HEAP_COUNTS": "1"}, subprocess.PIPE
@@ -69,7 +69,7 @@ def run_block(program: Path, database: Path, parts: Iterable[str]) -> Spent:
     heap = HEAP.search(said)
     if process.returncode or heap is None:
         raise UserError(f"{program.name} ended with status {process.returncode}: {said.strip()}")
-    return Spent(printed, time.perf_counter() - began, int(heap[1]))
+    return DriverRun(printed, time.perf_counter() - began, int(heap[1]))
 
 
 def check(rvstm: Path, place: Path, stores: str, calls: str, came: str) -> str:

@@ -95,7 +95,7 @@ class Room(NamedTuple):
     is_bounded: bool = False  # whether this process, and so each that it starts, may write short files alone
 
 
-class Trial:
+class StoreTrial:
     """A sound file, what a session over it holds, and how many trials there were."""
 
     def __init__(self, rvstm: Path, choice: Random, place: Path) -> None:
@@ -148,7 +148,7 @@ def other_database(path: Path, *pragmas: str) -> None:
     files.changed(path, *map(Statement, (*pragmas, "CREATE TABLE other (number)", "INSERT INTO other VALUES (1)")))
 
 
-def try_foreign(trial: Trial) -> None:
+def try_foreign(trial: StoreTrial) -> None:
     texts = {"a short text": b"text\n", "a long text": b"text\n" * 9_999, "a head alone": b"SQLite format 3\0" + b"x" * 9_999}
     for what, text in texts.items():
         trial.fresh().write_bytes(text)
@@ -166,7 +166,7 @@ def try_foreign(trial: Trial) -> None:
     trial.refuses("a folder that is not there", UNREADABLE, trial.folder / "missing/file")
 
 
-def try_links(trial: Trial) -> None:
+def try_links(trial: StoreTrial) -> None:
     """Links: one to a file is followed, one to nothing and a second name of a file are refused."""
     trial.fresh().symlink_to("nothing")
     trial.refuses("a link to nothing", UNREADABLE)
@@ -178,7 +178,7 @@ def try_links(trial: Trial) -> None:
     trial.refuses("a second name", UNREADABLE, name)
 
 
-def try_rights(trial: Trial) -> None:
+def try_rights(trial: StoreTrial) -> None:
     """A file and a folder without rights, for another user if this one has all."""
     user = NOBODY if os.getuid() == 0 else None
     trial.sound_file().chmod(0o600 if user else 0)
@@ -208,7 +208,7 @@ def sqlite_is_locked(path: Path) -> bool:
         base.close()
 
 
-def try_two(trial: Trial) -> None:
+def try_two(trial: StoreTrial) -> None:
     with files.OverFile(trial.rvstm, trial.sound_file()) as first:
         first.held()
         trial.refuses("a second session", BUSY)
@@ -224,7 +224,7 @@ def try_two(trial: Trial) -> None:
     trial.reads("a session after sqlite3", trial.held)
 
 
-def try_journal(trial: Trial) -> None:
+def try_journal(trial: StoreTrial) -> None:
     subprocess.run([sys.executable, "-c", HOT, trial.sound_file()], check=True)
     trial.refuses("a hot journal", HOT_JOURNAL)
     files.read_by_sqlite(trial.path)
@@ -264,7 +264,7 @@ def move_twice(path: Path) -> None:
 WAYS = {"removed": remove, "moved": move, "replaced": replace, "moved, with a link in its place": move_and_link}
 
 
-def try_taken_away(trial: Trial) -> None:
+def try_taken_away(trial: StoreTrial) -> None:
     """Files that are taken away from a session between two frames: the next frame ends it, and is not answered."""
     log = files.log_of(trial.path)
     for name, way in WAYS.items():
@@ -293,7 +293,7 @@ def try_taken_away(trial: Trial) -> None:
         trial.tell("both moved away and back, a frame", "answered" if answer else session.end(), "answered")
 
 
-def take(trial: Trial, what: str, path: Path, way: Callable[[], None]) -> None:
+def take(trial: StoreTrial, what: str, path: Path, way: Callable[[], None]) -> None:
     """Takes a file away from a session that was asked something, and gives it questions and a frame."""
     with files.OverFile(trial.rvstm, path) as session:
         before = session.held()
@@ -304,7 +304,7 @@ def take(trial: Trial, what: str, path: Path, way: Callable[[], None]) -> None:
         trial.tell(f"{what}, a frame", came, UNREADABLE)
 
 
-def try_bereft(trial: Trial) -> None:
+def try_bereft(trial: StoreTrial) -> None:
     """A log whose file is missing, empty or of one byte: one with all that a killed session kept, and others."""
     held = files.made(trial.rvstm, trial.fresh(), files.first_requests(trial.choice))
     killed = files.contents(trial.path)
@@ -332,7 +332,7 @@ def try_bereft(trial: Trial) -> None:
 # ---- what was changed between two sessions
 
 
-def try_changes(trial: Trial) -> None:
+def try_changes(trial: StoreTrial) -> None:
     for change in CHANGES:
         files.changed(trial.sound_file(), *change.statements)
         if change.refusal:
@@ -342,7 +342,7 @@ def try_changes(trial: Trial) -> None:
             trial.reads(f"by sqlite3, {change.what}", files.answers_by(read.rows))
 
 
-def try_settings(trial: Trial) -> None:
+def try_settings(trial: StoreTrial) -> None:
     trial.sound_file()
     for settings in OTHERS:
         trial.refuses(f"other settings, {' '.join(settings.words()[1:])}", OTHER_SETTINGS, settings=settings)
@@ -357,7 +357,7 @@ def mounted_larger(place: Path) -> None:
 
 
 @contextmanager
-def small_disk(trial: Trial) -> Iterator[Room | None]:
+def small_disk(trial: StoreTrial) -> Iterator[Room | None]:
     """A disk with little room; None if it may not be mounted."""
     place = trial.place / "disk"
     place.mkdir(exist_ok=True)
@@ -387,7 +387,7 @@ def raised(process: Popen[bytes] | None) -> None:
     resource.prlimit(process.pid, resource.RLIMIT_FSIZE, (LARGE, LARGE))
 
 
-def try_full(trial: Trial) -> None:
+def try_full(trial: StoreTrial) -> None:
     """A disk that gets full under a session, or is full as it starts."""
     with small_disk(trial) as disk:
         if disk:
@@ -400,7 +400,7 @@ def try_full(trial: Trial) -> None:
     fill(trial, "a file as long as it may be", Room(trial.fresh(), raised, is_bounded=True))
 
 
-def fill(trial: Trial, what: str, room: Room) -> None:
+def fill(trial: StoreTrial, what: str, room: Room) -> None:
     """Gives frames to a session until one fails, and then once more after there is room."""
     with bounded() if room.is_bounded else nullcontext():
         session = files.OverFile(trial.rvstm, room.path, is_as_here=room.is_bounded)
@@ -431,7 +431,7 @@ def fill(trial: Trial, what: str, room: Room) -> None:
         trial.tell(f"{what}, the next session", "read" if is_right else f"{came.errors!r} or other contents", "read")
 
 
-def start_full(trial: Trial, room: Room) -> None:
+def start_full(trial: StoreTrial, room: Room) -> None:
     filler = room.path.parent / "filler"
     with open(filler, "wb", buffering=0) as file, suppress(OSError):
         while file.write(bytes(4096)):
@@ -451,7 +451,7 @@ TRIALS = (try_foreign, try_links, try_rights, try_two, try_journal, try_taken_aw
 def run(given: argparse.Namespace) -> int:
     with texts.new_folder("store-faults-") as place:
         os.chmod(place, 0o755)
-        trial = Trial(given.rvstm, random.Random(given.seed), place)
+        trial = StoreTrial(given.rvstm, random.Random(given.seed), place)
         for part in TRIALS:
             part(trial)
     print(f"{trial.tried} trials, {trial.bad} bad")

@@ -27,7 +27,7 @@ MOST_WRITES = 256
 
 
 @dataclass(frozen=True)
-class Way:
+class EndedWay:
     name: str
     ended: Ended
     counting_workers: int | None = None
@@ -42,13 +42,13 @@ def driven(rvstm: Path, folder: Path, block: Path, workers: int, choice: Random)
     return done
 
 
-def ways(rvstm: Path, folder: Path, block: Path, choice: Random) -> Iterator[Way]:
+def ways(rvstm: Path, folder: Path, block: Path, choice: Random) -> Iterator[EndedWay]:
     for _ in range(RUNS_A_BLOCK):
         workers = choice.choice(WORKER_NUMBERS)
         ended = running.run([rvstm, "run", block, "--workers", str(workers), "--counts"], folder)
-        yield Way(f"run by {workers} workers", ended, workers)
+        yield EndedWay(f"run by {workers} workers", ended, workers)
     workers = choice.choice(WORKER_NUMBERS)
-    yield Way(f"drive by {workers} workers", driven(rvstm, folder, block, workers, choice))
+    yield EndedWay(f"drive by {workers} workers", driven(rvstm, folder, block, workers, choice))
 
 
 def most_steps(calls: int, gas: int, workers: int, executions: int) -> int:
@@ -74,7 +74,7 @@ def is_bounded(text: str, workers: int, counts: bytes) -> bool:
     return steps - asks <= most_steps(len(gases), max(gases), workers, executions)
 
 
-def is_wrong(way: Way, wanted: Ended, text: str) -> bool:
+def is_wrong(way: EndedWay, wanted: Ended, text: str) -> bool:
     """Whether a run prints or ends otherwise than `seq`, or its workers make more steps than they may."""
     if (way.ended.status, way.ended.output) != (wanted.status, wanted.output):
         return True
@@ -88,7 +88,7 @@ def busy() -> list[subprocess.Popen[bytes]]:
 
 
 @dataclass
-class Comparison:
+class Stress:
     rvstm: Path
     folder: Path
     place: Path
@@ -139,7 +139,7 @@ def run(given: argparse.Namespace) -> int:
     others: list[subprocess.Popen[bytes]] = []
     try:
         with texts.new_folder() as place:
-            done = Comparison(given.rvstm, given.folder, place, choice)
+            done = Stress(given.rvstm, given.folder, place, choice)
             while time.monotonic() < end and not stop:
                 if not others and time.monotonic() > half:
                     others = busy()

@@ -10,7 +10,7 @@ from rvstm_tools.errors import Status, UserError
 from rvstm_tools.options import Command, argument
 from rvstm_tools.programs import compilers, finding
 from rvstm_tools.templates import folders
-from rvstm_tools.templates.folders import Language, Places
+from rvstm_tools.templates.folders import Language, TemplateNames
 
 LAUNCHER = "rvstm-tools"
 DETAILS = f"""\
@@ -44,7 +44,7 @@ def run(given: argparse.Namespace) -> int:
     name = finding.absolute(folder).name
     folders.check_name(name, language)
     sdk = finding.sdk()
-    make_files(folder, folders.files_of(language, Places(name, str(sdk), words_of_tools())))
+    make_files(folder, folders.files_of(language, TemplateNames(name, str(sdk), words_of_tools())))
     lack = compilers.lack(sdk, is_rust=given.rust)
     if lack:
         raise UserError(f"{folder} is made, and not built: {lack}; then run `make` in {folder}")

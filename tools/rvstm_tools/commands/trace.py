@@ -4,7 +4,7 @@ from pathlib import Path
 
 from rvstm_tools import options
 from rvstm_tools.debugging import traces
-from rvstm_tools.debugging.replays import Replay
+from rvstm_tools.debugging.replays import StorageReplay
 from rvstm_tools.debugging.sessions import CallOf
 from rvstm_tools.debugging.traces import Places
 from rvstm_tools.errors import Status, UserError
@@ -51,7 +51,7 @@ def trace(given: argparse.Namespace, program: Program, block: GivenBlock) -> Non
     view = block.view
     receipt = receipt_of(program, block)
     head = blockfiles.head_of_call(block.path, block.call)
-    replay = Replay(CallOf(program.path, block.path, block.call, block.folder), head.rules)
+    replay = StorageReplay(CallOf(program.path, block.path, block.call, block.folder), head.rules)
     replay.end_by(receipt, head.limit)
     places = Places(str(block.folder / head.program), given.lines, replay.addresses())
     title = f"call {given.call} of {os.path.basename(given.file)}"

@@ -158,7 +158,7 @@ class Fact(NamedTuple):
     turn: Turn
 
 
-class Replay:
+class StorageReplay:
     def __init__(self, call: CallOf, rules: int) -> None:
         self.rules = rules
         self.gas = 0
