@@ -6,7 +6,7 @@ from collections.abc import Iterator, Sequence
 from dataclasses import dataclass
 
 from checks import definitions, reading, sources
-from checks.citations import Cited, Origin
+from checks.citations import Cited, CitationPlace
 from checks.definitions import Type
 from checks.reading import AskedCall, Module, Reading, ReadingRow
 
@@ -57,7 +57,7 @@ class Book:
         """The names of the kit that the book has."""
         found = dict[Module, set[str]]()
         for cited in self.reading.cited:
-            if cited.kind is Origin.KIT:
+            if cited.kind is CitationPlace.KIT:
                 found.setdefault(reading.module_of(cited), set()).add(cited.name)
         return [Names(module, tuple(sorted(found[module]))) for module in self.reading.modules]
 
@@ -84,7 +84,7 @@ def contract_of(asked: AskedCall) -> str:
 def entries_of(row: ReadingRow) -> list[BookEntry]:
     """The definitions of a file that a book has, in the order of the file."""
     lines, held = sources.lines_of(row.file), definitions.places(row.file)
-    return [BookEntry(Cited(Origin.DEFINITION, row.file, name), "\n".join(lines[at] for at in held[name])) for name in row.cited]
+    return [BookEntry(Cited(CitationPlace.DEFINITION, row.file, name), "\n".join(lines[at] for at in held[name])) for name in row.cited]
 
 
 def seen_of(held: Type) -> Iterator[tuple[str, str]]:

@@ -8,7 +8,7 @@ from html import escape
 
 from checks import book, citations, definitions, reading, sources
 from checks.book import Book, BookEntry, Names
-from checks.citations import Cited, Origin
+from checks.citations import Cited, CitationPlace
 from checks.definitions import Type
 from checks.reading import AskedCall, ReadingRow
 
@@ -51,7 +51,7 @@ dd { margin: 0; }
 
 
 def anchor(cited: Cited) -> str:
-    place = reading.module_of(cited).library + "." + reading.module_of(cited).name if cited.kind is Origin.KIT else f"{cited.place}.{cited.name}"
+    place = reading.module_of(cited).library + "." + reading.module_of(cited).name if cited.kind is CitationPlace.KIT else f"{cited.place}.{cited.name}"
     return f"{cited.kind.value}-{re.sub(r'[^0-9A-Za-z_.◌]+', '-', place)}" + ("" if place.isascii() else f"-{abs(sum(map(ord, place)))}")
 
 
@@ -78,8 +78,8 @@ class Page:
         """A text, as a link if the book has what it refers to."""
         if cited not in self.held.reading.cited:
             return escape(text)
-        kind = {Origin.KIT: "kit", Origin.TYPE: "type", Origin.DEFINITION: "definition"}[cited.kind]
-        where = f"{reading.module_of(cited).library} {reading.module_of(cited).name}" if cited.kind is Origin.KIT else cited.place
+        kind = {CitationPlace.KIT: "kit", CitationPlace.TYPE: "type", CitationPlace.DEFINITION: "definition"}[cited.kind]
+        where = f"{reading.module_of(cited).library} {reading.module_of(cited).name}" if cited.kind is CitationPlace.KIT else cited.place
         return f'<a class="{kind}" href="#{anchor(cited)}" title="{escape(where)}">{escape(text)}</a>'
 
     def linked_token(self, token: str, names: Mapping[str, Cited]) -> str:
@@ -160,7 +160,7 @@ class Page:
         return f'<p class="quiet">used by {links}</p>' if users else ""
 
     def type(self, held: Type) -> Iterator[str]:
-        cited = Cited(Origin.TYPE, held.crate, held.name)
+        cited = Cited(CitationPlace.TYPE, held.crate, held.name)
         ghost = "\n".join([*held.model.values(), *re.findall(r"ghost .*", held.code)])
         names = by_word(citations.names_in(held.path, sources.without_comments(ghost)))
         types = citations.code_names(held.path, held.code)
@@ -172,7 +172,7 @@ class Page:
 
     def kit(self, names: Names) -> Iterator[str]:
         module = names.module
-        cited = next(cited for cited in self.held.reading.cited if cited.kind is Origin.KIT and reading.module_of(cited) == module)
+        cited = next(cited for cited in self.held.reading.cited if cited.kind is CitationPlace.KIT and reading.module_of(cited) == module)
         file = reading.kit_file(module)
         yield f'<section class="entry" id="{anchor(cited)}"><h3>{escape(module.library)} {escape(module.name)}</h3>'
         yield f'<p class="quiet">{escape(str(file))}</p>' if file else ""
@@ -186,7 +186,7 @@ class Page:
         yield f"<li><b>together</b><span>{held.lines:,}</span></li></ol>"
         yield "<h2>Types of the code</h2><ul>" if held.types else ""
         for entry in held.types:
-            yield f'<li><a href="#{anchor(Cited(Origin.TYPE, entry.crate, entry.name))}">{escape(entry.name)}</a><span>{entry.crate}</span></li>'
+            yield f'<li><a href="#{anchor(Cited(CitationPlace.TYPE, entry.crate, entry.name))}">{escape(entry.name)}</a><span>{entry.crate}</span></li>'
         yield "</ul>" if held.types else ""
         yield '<h2>Of the kit</h2><ul><li><a href="#kit">modules</a></li></ul></nav>' if held.modules else "</nav>"
 

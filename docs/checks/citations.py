@@ -24,7 +24,7 @@ MEMBER_OF = re.compile(r"(?<![\w.])(\w+)\.([^\s(){}\[\];,.]+)")
 BIND = "◌>>=◌"  # what puts the steps of `do` together
 
 
-class Origin(enum.Enum):
+class CitationPlace(enum.Enum):
     """Where a name is from."""
 
     DEFINITION = "definition"
@@ -36,7 +36,7 @@ class Origin(enum.Enum):
 class Cited:
     """What a name refers to: a definition of a file below crates/, a type of a crate's code, or a name of a module of the kit."""
 
-    kind: Origin
+    kind: CitationPlace
     place: str  # the file, the crate, or the module
     name: str
 
@@ -53,15 +53,15 @@ def target(taken: sources.Taken) -> Cited | None:
     """What a name of a module refers to; None for what the prover makes and nobody reads."""
     parts = taken.module.split(".")
     if parts[0] != "Rattle" or not sources.is_crate(parts[1]):
-        return None if "proofs" in parts else Cited(Origin.KIT, taken.module, taken.name)
+        return None if "proofs" in parts else Cited(CitationPlace.KIT, taken.module, taken.name)
     if parts[2:4] == ["specs", "declared"]:
         held = [part for part in (*parts[4:], taken.name) if part in types(parts[1])]
-        return Cited(Origin.TYPE, parts[1], held[0]) if held else None
+        return Cited(CitationPlace.TYPE, parts[1], held[0]) if held else None
     file = f"{parts[1]}/specs/{parts[3]}.antt" if parts[2] == "specs" else ""
     if not (sources.CRATES / file).is_file():
         return None
     owner = items(file).owner.get(taken.name)
-    return Cited(Origin.DEFINITION, file, owner) if owner else None
+    return Cited(CitationPlace.DEFINITION, file, owner) if owner else None
 
 
 def words_of(text: str) -> set[str]:
@@ -107,7 +107,7 @@ def code_names(path: Path, text: str) -> dict[str, Cited]:
     for word in sorted(set(re.findall(r"\b[A-Z]\w*", text))):
         crate = imported.get(word, own)
         if sources.is_crate(crate) and word in types(crate):
-            found[word] = Cited(Origin.TYPE, crate, word)
+            found[word] = Cited(CitationPlace.TYPE, crate, word)
     return found
 
 
@@ -123,15 +123,15 @@ def cited_by_type(cited: Cited) -> set[Cited]:
 def own_names(cited: Cited) -> dict[str, Cited]:
     held = items(cited.place)
     words = words_of(held.by_name[cited.name].code)
-    return {name: Cited(Origin.DEFINITION, cited.place, owner) for name, owner in held.owner.items() if owner != cited.name and is_in(name, words)}
+    return {name: Cited(CitationPlace.DEFINITION, cited.place, owner) for name, owner in held.owner.items() if owner != cited.name and is_in(name, words)}
 
 
 @functools.cache
 def citations(cited: Cited) -> frozenset[Cited]:
-    if cited.kind is Origin.DEFINITION:
+    if cited.kind is CitationPlace.DEFINITION:
         code = items(cited.place).by_name[cited.name].code
         return frozenset({*own_names(cited).values(), *cited_by_text(sources.CRATES / cited.place, code)})
-    return frozenset(cited_by_type(cited)) if cited.kind is Origin.TYPE else frozenset()
+    return frozenset(cited_by_type(cited)) if cited.kind is CitationPlace.TYPE else frozenset()
 
 
 def closure(begin: Iterable[Item], used_by: Callable[[Item], Iterable[Item]]) -> set[Item]:

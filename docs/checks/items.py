@@ -42,7 +42,7 @@ class Items:
 
 
 @dataclass(frozen=True)
-class SourceLine:
+class ModuleLine:
     """A line of a file, without the indentation of its module, and the arguments of all modules around it."""
 
     number: int
@@ -50,7 +50,7 @@ class SourceLine:
     arguments: str
 
 
-def lines_in_modules(text: str) -> Iterator[SourceLine]:
+def lines_in_modules(text: str) -> Iterator[ModuleLine]:
     """The lines of a file except empty ones and the heads of modules."""
     modules, head = [(0, "")], ""
     for number, line in enumerate(text.splitlines(), 1):
@@ -65,7 +65,7 @@ def lines_in_modules(text: str) -> Iterator[SourceLine]:
         if head or (indent == modules[-1][0] and line.lstrip().startswith("module ")):
             head = f"{head} {line.strip()}".strip()
         else:
-            yield SourceLine(number, line[modules[-1][0] :], modules[-1][1])
+            yield ModuleLine(number, line[modules[-1][0] :], modules[-1][1])
 
 
 @functools.cache

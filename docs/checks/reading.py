@@ -12,7 +12,7 @@ from pathlib import Path
 
 from checks import calls, sources
 from checks.calls import PublicCall
-from checks.citations import Cited, Origin, citations, cited_by_call, closure
+from checks.citations import Cited, CitationPlace, citations, cited_by_call, closure
 from checks.definitions import Type, places
 from rvstm_tools.errors import MisuseError
 
@@ -86,14 +86,14 @@ class Reading:
     @functools.cached_property
     def types(self) -> list[Type]:
         """The types and traits of the code that are named, lowest crate first."""
-        found = [cited.type for cited in self.cited if cited.kind is Origin.TYPE]
+        found = [cited.type for cited in self.cited if cited.kind is CitationPlace.TYPE]
         return sorted(found, key=lambda held: (sources.crate_names().index(held.crate), held.path, held.line))
 
     @functools.cached_property
     def modules(self) -> list[Module]:
         """The modules of the kit that a name comes from, without those that were read before."""
-        new = {module_of(cited) for cited in self.cited if cited.kind is Origin.KIT}
-        old = {module_of(cited) for cited in self.before if cited.kind is Origin.KIT}
+        new = {module_of(cited) for cited in self.cited if cited.kind is CitationPlace.KIT}
+        old = {module_of(cited) for cited in self.before if cited.kind is CitationPlace.KIT}
         return sorted(new - old, key=lambda module: (module.library != "std", module.library, module.name))
 
     @property
@@ -120,16 +120,16 @@ def files_below(cited: Cited) -> frozenset[str]:
     while left:
         for other in citations(left.pop()) - seen:
             seen.add(other)
-            if other.kind is Origin.DEFINITION:
+            if other.kind is CitationPlace.DEFINITION:
                 found.add(other.place)
-            elif other.kind is Origin.TYPE:
+            elif other.kind is CitationPlace.TYPE:
                 left.append(other)
     return frozenset(found)
 
 
 def in_order(found: Iterable[Cited]) -> list[str]:
     """The files of some definitions, each after those that it uses; of several the one in the lowest crate comes first."""
-    held = [cited for cited in found if cited.kind is Origin.DEFINITION]
+    held = [cited for cited in found if cited.kind is CitationPlace.DEFINITION]
     files = {cited.place for cited in held}
     below = {file: set[str]() for file in files}
     for cited in held:
@@ -152,7 +152,7 @@ def lines_left_out(file: str, names: Iterable[str]) -> int:
 
 def row_of(file: str, found: set[Cited]) -> ReadingRow:
     names = list(places(file))
-    cited = tuple(name for name in names if Cited(Origin.DEFINITION, file, name) in found)
+    cited = tuple(name for name in names if Cited(CitationPlace.DEFINITION, file, name) in found)
     rest = tuple(name for name in names if name not in cited)
     lines = len(sources.lines_of(file))
     return ReadingRow(file, lines - lines_left_out(file, rest), lines, cited, rest)

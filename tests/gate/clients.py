@@ -38,7 +38,7 @@ def frame_of(path: Path) -> tuple[list[bytes], bytes]:
     return list(named.files.values()), named.block
 
 
-class Session(Pipes):
+class ClientSession(Pipes):
     """A process that answers requests."""
 
     def __init__(self, program: Path, *words: Word, before: Sequence[Word] = ()) -> None:

@@ -8,7 +8,7 @@ import time
 from pathlib import Path
 
 from gate.runner import Case, Run, holds, same
-from gate.clients import NO_DIGEST, Session, asks
+from gate.clients import NO_DIGEST, ClientSession, asks
 
 COPIES = 12
 LONGEST_WAIT = 1.3  # at most, from a frame to a stop, in times of what a frame lasts
@@ -34,7 +34,7 @@ def is_stopped(stat: Path) -> bool:
         return True
 
 
-def stop(session: Session) -> None:
+def stop(session: ClientSession) -> None:
     """Stops a session. Each of its threads stops by itself."""
     session.process.send_signal(signal.SIGSTOP)
     until = time.monotonic() + SECONDS_TO_STOP
@@ -50,7 +50,7 @@ def copy(path: Path, to: Path) -> None:
 
 def height_of(run: Run, path: Path) -> int:
     """The height of the session that a file has. Its storage is that of this height."""
-    with Session(run.program, "--store", path) as session:
+    with ClientSession(run.program, "--store", path) as session:
         found, dump = STATE.search(session.ask(asks("state"))), session.ask(asks("dump"))
         assert found
         height = int(found[1])
@@ -65,7 +65,7 @@ def stopped(run: Run) -> None:
     """A copy of both files, made while all threads are stopped, opens at the height before or after the frame that runs."""
     choice, path, found = random.Random(run.setting.seed), run.place / "file", list[int]()
     run.note(f"seed {run.setting.seed}")
-    with Session(run.program, "--workers", "2", "--store", path) as session:
+    with ClientSession(run.program, "--workers", "2", "--store", path) as session:
         session.ask(frame(1))
         began = time.monotonic()
         session.ask(frame(2))
@@ -89,7 +89,7 @@ def alone(run: Run) -> None:
     """What nothing reports: a copy of FILE alone is an older session. A request that finds FILE moved is not kept. A backup beside
     another session's FILE-wal is refused, and opens if that is removed."""
     path, backup = run.place / "file", run.place / "backup"
-    with Session(run.program, "--store", path) as session:
+    with ClientSession(run.program, "--store", path) as session:
         session.ask(frame(1))
         session.ask(frame(2))
         shutil.copy(path, run.place / "alone")
@@ -102,12 +102,12 @@ def alone(run: Run) -> None:
     (run.place / "moved").rename(path)
     same(height_of(run, path), 2, "the height after FILE was put back")
     same(height_of(run, backup), 2, "the height of the backup, which has no log then")
-    with Session(run.program, "--store", path) as session:
+    with ClientSession(run.program, "--store", path) as session:
         for height in (3, 4):
             session.ask(frame(height))
         session.kill()
     shutil.copy(backup, path)
-    with Session(run.program, "--store", path) as session:
+    with ClientSession(run.program, "--store", path) as session:
         run.note(f"beside another session's FILE-wal: {session.ended(b'')[1].strip() or 'opened'}")
     shutil.copy(backup, path)
     Path(f"{path}-wal").unlink(missing_ok=True)

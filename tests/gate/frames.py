@@ -4,7 +4,7 @@ from pathlib import Path
 
 from gate.calls import Word, command, rvstm
 from gate.runner import Case, Run, holds, same, shown
-from gate.clients import Session, asks, name_of
+from gate.clients import ClientSession, asks, name_of
 from gate.many import CALL, FORTY, KEY, value
 from gate.tables import has_pieces, table
 from gate.texts import written
@@ -81,14 +81,14 @@ def too_many_calls(run: Run) -> None:
 def closed_and_killed(run: Run) -> None:
     """The next session goes on where the one before ended, whether that closed its file or was killed."""
     for path, is_killed in ((run.place / "closed", False), (run.place / "killed", True)):
-        with Session(run.program, "--store", path) as session:
+        with ClientSession(run.program, "--store", path) as session:
             session.ask(asks("frame", ONE_ENTRY.encode()))
             session.expect(asks("frame", b""), NO_HEADER)
             if is_killed:
                 session.kill()
             else:
                 same(session.ended(b""), (b"", "", 0))
-        with Session(run.program, "--store", path) as session:
+        with ClientSession(run.program, "--store", path) as session:
             same(session.ended(asks("last") + asks("list", None, ZEROS, "9")), (KEPT, "", 0))
 
 

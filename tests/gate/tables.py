@@ -10,7 +10,7 @@ from typing import Any
 
 from gate.calls import EndedCommand, rvstm
 from gate.runner import TOP, Case, Run, holds, same, shown
-from gate.clients import Session, asks
+from gate.clients import ClientSession, asks
 from gate.outside import program_of
 
 FOLDER = TOP / "tests/tables"
@@ -228,7 +228,7 @@ def check_image(run: Run, one: ChangedImage, contents: dict[str, bytes]) -> None
 
 def check_turns(run: Run, given: Table) -> None:
     """One request after the other, each after the answer to the one before."""
-    with Session(run.program, *given.options.split()) as session:
+    with ClientSession(run.program, *given.options.split()) as session:
         for turn in given.turns:
             session.expect(asks("program", given.contents[turn.program]) if turn.program else turn.request.encode(), turn.answer.encode())
         same(session.ended(), (b"", "", 0))
