@@ -186,7 +186,3 @@ class ChangedFiles(InFolder):
         with self.assertRaises(UserError):
             verifying.bare("far", valid[:last] + (1 << 31).to_bytes(8, "little") + valid[last + 8 :])
         self.assertLess(processor_seconds() - began, MOST_SECONDS)
-
-
-if __name__ == "__main__":
-    unittest.main()

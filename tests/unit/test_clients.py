@@ -307,7 +307,3 @@ class OfReplays(WithChain):
         folder.mkdir()
         message = f"session: {folder}: no file in it ends with .frame or .block or .list\n"
         self.assertEqual(called("session", "--replay", str(folder)), (1, "", message))
-
-
-if __name__ == "__main__":
-    unittest.main()

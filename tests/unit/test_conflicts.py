@@ -135,7 +135,3 @@ class Command(InFolder):
     def test_wrong_command_lines(self) -> None:
         for words in (list[str](), ["a.block"], ["a.block", "--svg"], ["a.block", "b.block", "--svg", "out"]):
             self.assertEqual(called("conflicts", *words)[0], 2)
-
-
-if __name__ == "__main__":
-    unittest.main()

@@ -85,7 +85,3 @@ class Inputs(InFolder):
             self.write("two.list", f"program a a.elf\nshape input take u8:1\n{calls}"),
         ]
         self.assertEqual(counts_of_inputs(list(map(lists.read_list, paths))), {"add": 2, "done": 0, "take": 4, "": 4})
-
-
-if __name__ == "__main__":
-    unittest.main()

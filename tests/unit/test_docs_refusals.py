@@ -103,7 +103,3 @@ class Refusals(unittest.TestCase):
     def test_a_new_area(self) -> None:
         with sources('fn more() -> LineParts {\n    LineParts::without_line("other", "Odd", 1)\n}\n'):
             self.assertEqual(list(refusals.differences()), ["docs/refusals.py: no enumeration has the area other, which the sources print"])
-
-
-if __name__ == "__main__":
-    unittest.main()

@@ -167,7 +167,3 @@ class OfSources(InFolder):
             sources.check_is_of(ElfFile(other), path)
         message = f"{other}: not the program of {path} with its lines: make both from one source with one compiler"
         self.assertEqual(str(caught.exception), message)
-
-
-if __name__ == "__main__":
-    unittest.main()

@@ -87,7 +87,3 @@ class Encodings(unittest.TestCase):
         }.items():
             with self.subTest(text):
                 self.assertIs(any(map(is_without, calls_in(text.encode()))), is_wrong)
-
-
-if __name__ == "__main__":
-    unittest.main()

@@ -819,7 +819,3 @@ class OfModels(OverBank):
                 self.assertEqual(status, 2)
                 if message:
                     self.assertEqual(faults, f"explore: {message}\n")
-
-
-if __name__ == "__main__":
-    unittest.main()

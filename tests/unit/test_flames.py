@@ -53,7 +53,3 @@ class Picture(unittest.TestCase):
         self.assertEqual(flames.label_of("abcdefgh", 100), "abcdefgh")
         self.assertEqual(flames.label_of("abcdefghijklmnop", 60), "abcde..")  # seven letters of 7.3 pixels
         self.assertEqual(flames.label_of("abcdefgh", 30), "")
-
-
-if __name__ == "__main__":
-    unittest.main()

@@ -195,7 +195,3 @@ class GateTest(unittest.TestCase):
             printed = process.communicate()[0]
         self.assertEqual(process.returncode, 1)
         self.assertEqual(printed.splitlines()[-2:], ["failed: the gate was interrupted", "4 passed, 1 failed, 0 skipped"])
-
-
-if __name__ == "__main__":
-    unittest.main()

@@ -102,7 +102,3 @@ class DifferenceTest(unittest.TestCase):
         """A command that a page shows nothing of prints nothing."""
         self.assertEqual(pages.first_difference([], []), "")
         self.assertIn("came a", pages.first_difference([], ["a"]))
-
-
-if __name__ == "__main__":
-    unittest.main()

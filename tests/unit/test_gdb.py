@@ -330,7 +330,3 @@ class Ending(unittest.TestCase):
             (0x10FFFF, 2, False), (0x10000, 0, False),
         ):
             self.assertIs(moments.is_watchable(start, length), can)
-
-
-if __name__ == "__main__":
-    unittest.main()

@@ -82,7 +82,3 @@ class OutsideCauses(InFolder):
         for name, text in RIGHT.items():
             with self.subTest(name):
                 self.assertEqual(self.wrong_places(text), 0)
-
-
-if __name__ == "__main__":
-    unittest.main()

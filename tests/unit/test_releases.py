@@ -338,7 +338,3 @@ class OfManPages(InFolder):
         self.assertEqual(completed("rvstm-tools", "tr"), ["trace"])
         self.assertEqual(completed("rvstm-tools", "re"), ["release", "result"])
         self.assertEqual(completed("rvstm-tools", "trace", "--li"), ["--list", "--lines"])
-
-
-if __name__ == "__main__":
-    unittest.main()

@@ -204,7 +204,3 @@ class Heads(InFolder):
             with self.subTest(text), self.assertRaises(UserError) as caught:
                 blockfiles.head_of_call(path, 0)
             self.assertEqual(str(caught.exception), f"{path}: it is not the block file that rvstm ran")
-
-
-if __name__ == "__main__":
-    unittest.main()

@@ -148,7 +148,3 @@ class Json(unittest.TestCase):
             {**call, "writes": [{"key": ALICE}]}, {**call, "registers": []}, {"kind": "store", "key": ZERO},
         ):
             self.assertFalse(is_as(wrong, form, form), wrong)
-
-
-if __name__ == "__main__":
-    unittest.main()

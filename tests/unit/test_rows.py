@@ -199,7 +199,3 @@ class InTools(InFolder):
         path = self.write("a.list", "store row:acct:account:alice u8:1\n")
         _, output, _ = called_with(text, "result", "--list", path)
         self.assertEqual(output.splitlines()[2:4], ["      row:acct:account:alice: 01  1", shown_rows[1]])
-
-
-if __name__ == "__main__":
-    unittest.main()

@@ -76,7 +76,3 @@ class Command(InFolder):
         for word in ("0", "33", "-1", "x", "\u0663", "9" * 5000):
             self.assertEqual(called("schedule", word, "1")[0], 2)
         self.assertEqual(called("schedule", "2", "3", "x")[0], 2)
-
-
-if __name__ == "__main__":
-    unittest.main()

@@ -131,7 +131,3 @@ class PrintedTest(unittest.TestCase):
         groups = runpy.run_path(str(Path(__file__).parents[1] / "run"))["GROUPS"]
         names = [case.name for group in groups for case in group.cases()]
         self.assertEqual(len(names), len(set(names)))
-
-
-if __name__ == "__main__":
-    unittest.main()

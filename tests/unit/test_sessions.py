@@ -250,7 +250,3 @@ class OfAKeptSession(InFolder):
             with self.subTest(message), self.assertRaises(UserError) as caught:
                 self.kept(text)
             self.assertEqual(str(caught.exception), message)
-
-
-if __name__ == "__main__":
-    unittest.main()

@@ -248,7 +248,3 @@ class InTools(InFolder):
         path = self.write("a.list", "shape row:lots bid:u64\nstore row:lots:lamp u64:7\n")
         status, output, _ = called_with(f"store {LAMP.hex()} 0700000000000000\nend\n", "result", "--list", path)
         self.assertEqual((status, output.splitlines()[-1]), (0, "      row:lots:lamp: bid 7"))
-
-
-if __name__ == "__main__":
-    unittest.main()

@@ -33,7 +33,3 @@ class TablesTest(unittest.TestCase):
         for pieces, wanted in (("ab", True), ("ba", False), ("aa", False), ("", True)):
             with self.subTest(pieces=pieces):
                 self.assertEqual(has_pieces("a b", list(pieces)), wanted)
-
-
-if __name__ == "__main__":
-    unittest.main()
