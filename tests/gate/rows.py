@@ -23,7 +23,7 @@ TABLE(acct);
 TABLE(B);
 FULL_TABLE(pay);
 
-/* A count of bytes that are left out, and a row: its key with a constant length, and that with a length known only now. */
+/* A count of bytes that are left out, and a row: its key with a constant length, and with one known only now. */
 static void keys_of_bytes(const u8 *row, u32 length) {{
     struct key keys[2];
     switch (length) {{
@@ -49,7 +49,8 @@ static void keys_of_parts(const u8 *input) {{
     return_output(keys, sizeof keys);
 }}
 
-static const struct key constants[] = {{TEXT_KEY(acct, "pot"), TEXT_KEY(B, "abcdefghijklmnopqrstuvwxyz0"), NUMBER_KEY(acct, 0x123456789abcdef0)}};
+static const struct key constants[] = {{
+    TEXT_KEY(acct, "pot"), TEXT_KEY(B, "abcdefghijklmnopqrstuvwxyz0"), NUMBER_KEY(acct, 0x123456789abcdef0)}};
 
 void contract(const u8 *input, u32 length) {{
     if (length == 0) {{

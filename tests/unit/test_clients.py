@@ -21,9 +21,11 @@ CHAIN = f"""\
 #!{sys.executable} -IS
 import sys
 ANSWERS = {{
-    b"state": b"rules 1\\nheight 1\\nkeys 2\\nprograms 1\\nframe-limit 67108864\\nframe-gas none\\nbrief 0\\ndigest " + b"ab" * 32 + b"\\n",
+    b"state": b"rules 1\\nheight 1\\nkeys 2\\nprograms 1\\nframe-limit 67108864\\nframe-gas none\\n"
+    b"brief 0\\ndigest " + b"ab" * 32 + b"\\n",
     b"frame": b"call 0 returned gas 9 pc 00010000 out 07\\nwrite 0 {BOB} 0500000000000000\\nend\\n",
-    b"get": b"value 0500000000000000\\n", b"dump": b"rvblock 2\\ngas 1\\nstore {ALICE} -\\nstore {BOB} 0500000000000000\\n",
+    b"get": b"value 0500000000000000\\n",
+    b"dump": b"rvblock 2\\ngas 1\\nstore {ALICE} -\\nstore {BOB} 0500000000000000\\n",
     b"list": b"store {BOB} 0500000000000000\\n", b"program": b"cd" * 32 + b"\\n", b"begin": b"", b"forget": b"",
 }}
 ANSWERS[b"try"] = ANSWERS[b"last"] = ANSWERS[b"frame"]

@@ -11,7 +11,8 @@ BASE_LIB = """\
 //! Numbers.
 pub mod limits;
 mod numbers;
-pub use numbers::{Alone, Boxed, Called, Fault, Held, LIMIT, Named, Tested, again, by_law, by_path, for_c, listed, no_page, only_here, ruled, starred};
+pub use numbers::{Alone, Boxed, Called, Fault, Held, LIMIT, Named, Tested, again, by_law, by_path, for_c,
+    listed, no_page, only_here, ruled, starred};
 """
 LIMITS = """\
 pub const LOW: u32 = 1;

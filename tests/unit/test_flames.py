@@ -41,8 +41,8 @@ class Picture(unittest.TestCase):
         titles = [title.text for title in root.iter(f"{SVG}title")]
         self.assertEqual(titles[0], "call 0: 535 gas, 100.0 %, 0 of its own")
         self.assertIn("pay: 225 gas, 42.1 %, 20 of its own", titles)
-        widths = {title.text: float(group.find(f"{SVG}rect").attrib["width"])  # type: ignore[union-attr]  # each bar has one
-                  for group in root.iter(f"{SVG}g") for title in group.iter(f"{SVG}title")}
+        bars = [(title.text, group.find(f"{SVG}rect")) for group in root.iter(f"{SVG}g") for title in group.iter(f"{SVG}title")]
+        widths = {text: float(bar.attrib["width"]) for text, bar in bars if bar is not None}
         self.assertEqual(widths["start: 535 gas, 100.0 %, 10 of its own"], 1180)
         self.assertEqual(widths["READ: 300 gas, 56.1 %, 300 of its own"], round(1180 * 300 / 535, 2))
 

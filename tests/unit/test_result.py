@@ -37,12 +37,11 @@ storage
       "alice": "hi"  6869  26984
       ffffffffffffffffffffffffffffffffffffffffffffffffffffffffffffffff: -
 """
-ROWS_OF_REGISTERS = """\
-        zero 00000000    ra 00000001    sp 00000002    gp 00000003    tp 00000004    t0 00000005    t1 00000006    t2 00000007
-          s0 00000008    s1 00000009    a0 0000000a    a1 0000000b    a2 0000000c    a3 0000000d    a4 0000000e    a5 0000000f
-          a6 00000010    a7 00000011    s2 00000012    s3 00000013    s4 00000014    s5 00000015    s6 00000016    s7 00000017
-          s8 00000018    s9 00000019   s10 0000001a   s11 0000001b    t3 0000001c    t4 0000001d    t5 0000001e    t6 0000001f
-"""
+REGISTERS = "zero ra sp gp tp t0 t1 t2 s0 s1 a0 a1 a2 a3 a4 a5 a6 a7 s2 s3 s4 s5 s6 s7 s8 s9 s10 s11 t3 t4 t5 t6".split()
+ROWS_OF_REGISTERS = "".join(
+    "  ".join(f"{name:>{12 if at == 0 else 4}} {8 * row + at:08x}" for at, name in enumerate(REGISTERS[8 * row : 8 * row + 8])) + "\n"
+    for row in range(4)
+)
 OBJECTS: list[Form] = [
     {"kind": "call", "call": 0, "end": "returned", "gas": 639, "pc": "00010034", "output": "07000000", "writes": [
         {"key": ALICE, "value": "6869"}, {"key": ZERO, "add": "18446744073709551615"}]},

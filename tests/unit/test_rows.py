@@ -129,19 +129,18 @@ class Words(unittest.TestCase):
             "row:a:b,,c": "row:a:b,,c: a part of the row is empty",
             "row:a:b,": "row:a:b,: a part of the row is empty",
             "row:a:7": "row:a:7: a number in a row has a size, as in u64:7; the text of these digits is hex:37",
-            "row:a:key:alice,u64:7,u8:1,u8:2": "row:a:key:alice,u64:7,u8:1,u8:2: with u8:1 the row has 29 bytes; it has at most 28",
+            (word := "row:a:key:alice,u64:7,u8:1,u8:2"): f"{word}: with u8:1 the row has 29 bytes; it has at most 28",
             "row:a:table:b:c": "row:a:table:b:c: with table:b:c the row has 32 bytes; it has at most 28",
-            "row:a:" + "x" * 29: "row:a:" + "x" * 29 + ": with " + "x" * 29 + " the row has 29 bytes; it has at most 28",
+            f"row:a:{'x' * 29}": f"row:a:{'x' * 29}: with {'x' * 29} the row has 29 bytes; it has at most 28",
             "row:a:u8:256": "u8:256: a number of 8 bits is at most 255",
             "row:a:key:7": "key:7: an account has a name, and this is a number",
             "row:a:key:" + "b" * 21: "key:" + "b" * 21 + ": an account has at most 20 bytes, and this is 21",
             "account:": "account:: no name follows it",
             "account:7": "account:7: an account has a name, and this is a number",
-            "account:" + "\u00e9" * 11: "account:" + "\u00e9" * 11 + ": an account has at most 20 bytes, and this is 22",
+            f"account:{'é' * 11}": f"account:{'é' * 11}: an account has at most 20 bytes, and this is 22",
             "i8:128": "i8:128: a number of 8 bits with a sign is of -128 to 127",
             "i8:-129": "i8:-129: a number of 8 bits with a sign is of -128 to 127",
-            "i64:-9223372036854775809": "i64:-9223372036854775809: a number of 64 bits with a sign is of -9223372036854775808 to "
-                                        "9223372036854775807",
+            f"i64:{-2**63 - 1}": f"i64:{-2**63 - 1}: a number of 64 bits with a sign is of {-2**63} to {2**63 - 1}",
         }.items():
             with self.subTest(word[:20]), self.assertRaises(UserError) as caught:
                 words.bytes_of(word)

@@ -108,8 +108,8 @@ class Running(InFolderWithProgram):
 
     def test_several_blocks(self) -> None:
         """Each is run over what the ones before it left. An expectation is of the call above it, or of the last storage."""
-        content = f"{BEGIN}expect returned u8:7\nblock\nstore key:2 u8:2\ncall a 8\nexpect gas at most 5\nexpect same by 2 workers\nstorage\n" \
-                  "expect key:1 u8:1\nexpect key:1 u8:3\n"
+        content = f"{BEGIN}expect returned u8:7\nblock\nstore key:2 u8:2\ncall a 8\nexpect gas at most 5\nexpect same by 2 workers\n"
+        content += "storage\nexpect key:1 u8:1\nexpect key:1 u8:3\n"
         program = FakeProgram([Printed(result()), Printed(result(6, "03"))], {2: Printed(result(6, "03"))})
         said = self.tried(content, program)
         self.assertEqual(said[0], "failed  a.list: 2 calls, expectations: 2 of 5 not met")

@@ -8,6 +8,7 @@ import subprocess
 import sys
 from collections.abc import Callable, Iterator, Mapping
 from contextlib import contextmanager, nullcontext, suppress
+from functools import partial
 from pathlib import Path
 from random import Random
 from subprocess import Popen
@@ -270,7 +271,7 @@ def try_taken_away(trial: StoreTrial) -> None:
     for name, way in WAYS.items():
         for place in (trial.path, log):
             what = f"{place.name} {name}"
-            take(trial, what, trial.sound_file(), lambda way=way, place=place: way(place))  # type: ignore[misc]  # mypy infers no defaults
+            take(trial, what, trial.sound_file(), partial(way, place))
             if way is move:
                 place.with_name("moved").rename(place)
                 came = files.run(trial.rvstm, trial.path)
