@@ -51,7 +51,8 @@ pre a.kit, .key a.kit { color: var(--kit); }
 dl { margin: 0.5rem 0; }
 dt { color: var(--quiet); font-size: 0.86rem; margin-top: 0.4rem; }
 dd { margin: 0; }
-@media (max-width: 60rem) { nav { position: static; width: auto; border: 0; border-bottom: 1px solid var(--line); max-height: 40vh; }
+@media (max-width: 60rem) { nav { position: static; width: auto; border: 0; max-height: 40vh;
+    border-bottom: 1px solid var(--line); }
     main { margin: 0; padding: 1rem; } }
 @media print { nav { display: none; } main { margin: 0; } }
 """

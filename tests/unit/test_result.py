@@ -37,9 +37,9 @@ storage
       "alice": "hi"  6869  26984
       ffffffffffffffffffffffffffffffffffffffffffffffffffffffffffffffff: -
 """
-REGISTERS = "zero ra sp gp tp t0 t1 t2 s0 s1 a0 a1 a2 a3 a4 a5 a6 a7 s2 s3 s4 s5 s6 s7 s8 s9 s10 s11 t3 t4 t5 t6".split()
+NAMES_OF_REGISTERS = "zero ra sp gp tp t0 t1 t2 s0 s1 a0 a1 a2 a3 a4 a5 a6 a7 s2 s3 s4 s5 s6 s7 s8 s9 s10 s11 t3 t4 t5 t6".split()
 ROWS_OF_REGISTERS = "".join(
-    "  ".join(f"{name:>{12 if at == 0 else 4}} {8 * row + at:08x}" for at, name in enumerate(REGISTERS[8 * row : 8 * row + 8])) + "\n"
+    "  ".join(f"{name:>{12 if at == 0 else 4}} {8 * row + at:08x}" for at, name in enumerate(NAMES_OF_REGISTERS[8 * row : 8 * row + 8])) + "\n"
     for row in range(4)
 )
 OBJECTS: list[Form] = [

@@ -31,8 +31,8 @@ for the answers of a session that was cut
 .B 2
 a wrong command line
 .SH SEE ALSO
-formats.md has every file, request and answer exactly. messages.md has each refusal, when it comes and what to do. Debian's
-package puts both into /usr/share/doc/rvstm.
+formats.md has every file, request and answer exactly. messages.md has each refusal, when it comes and what to do.
+Debian's package puts both into /usr/share/doc/rvstm.
 """
 
 
