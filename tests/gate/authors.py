@@ -131,7 +131,6 @@ def programs_of_strangers(run: Run) -> None:
 
 
 def cases() -> list[Case]:
-    """All of them."""
     needs = (*CONTRACTS, Tool.LLVM)
     return [
         Case("programs of strangers", programs_of_strangers),

@@ -64,7 +64,6 @@ def random_sequences(run: Run) -> None:
 
 
 def cases() -> list[Case]:
-    """All of them."""
     found = []
     databases = {
         "sqlite": ("cc", "sqlite.c", "sqlite3", Tool.LIBSQLITE), "lmdb": ("c++ -std=c++17", "lmdb.cpp", "lmdb", Tool.LIBLMDB),

@@ -14,8 +14,6 @@ Word = str | Path
 
 @dataclass(frozen=True)
 class EndedCommand:
-    """How a command ended."""
-
     words: tuple[str, ...]
     out: str
     errors: str
@@ -45,7 +43,6 @@ def command(words: Sequence[Word], folder: Word = ".", data: str | bytes = b"", 
 
 
 def rvstm(run: Run, *words: Word, folder: Word = ".", data: str | bytes = b"") -> EndedCommand:
-    """Runs the program."""
     return command([run.program, *words], folder, data)
 
 
@@ -55,5 +52,4 @@ def tool_words(name: str) -> list[str]:
 
 
 def tool(run: Run, name: str, *words: Word, folder: Word = ".", data: str | bytes = b"") -> EndedCommand:
-    """Runs a tool, which runs the program."""
     return command([*tool_words(name), *words], folder, data, {"RVSTM": str(run.program)})

@@ -18,17 +18,14 @@ def asks(word: str, body: bytes | None = None, *fields: str) -> bytes:
 
 
 def done(body: bytes = b"") -> bytes:
-    """The answer to a request that was done."""
     return b"ok %d\n" % len(body) + body
 
 
 def refused(what: str) -> bytes:
-    """The answer to a request that is refused."""
     return f"refused {what}\n".encode()
 
 
 def name_of(program: bytes) -> bytes:
-    """The name of a program."""
     return frames.name_of(program).encode()
 
 
@@ -39,13 +36,10 @@ def frame_of(path: Path) -> tuple[list[bytes], bytes]:
 
 
 class ClientSession(Pipes):
-    """A process that answers requests."""
-
     def __init__(self, program: Path, *words: Word, before: Sequence[Word] = ()) -> None:
         super().__init__([*before, program, "chain", *words])
 
     def ask(self, request: bytes) -> bytes:
-        """The answer to a request, line and bytes."""
         self.give(request)
         line = self.output.readline()
         size = int(line.split()[1]) if line.startswith(b"ok ") else 0

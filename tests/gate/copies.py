@@ -27,7 +27,6 @@ def frame(height: int) -> bytes:
 
 
 def is_stopped(stat: Path) -> bool:
-    """Whether a thread is stopped, or has ended."""
     try:
         return stat.read_text(encoding="utf-8").rpartition(")")[2].split()[0] == "T"
     except (FileNotFoundError, ProcessLookupError):
@@ -115,7 +114,6 @@ def alone(run: Run) -> None:
 
 
 def cases() -> list[Case]:
-    """All of them."""
     return [
         Case("copies: of a stopped session", stopped, cost=3),
         Case("copies: of FILE alone, and put back", alone, cost=2),

@@ -53,12 +53,10 @@ CHARGES = re.compile(r" gas \d+ pc [0-9a-f]+")
 
 
 def folders() -> list[str]:
-    """The examples that have a block of their name."""
     return sorted(path.parent.name for path in EXAMPLES.glob("*/*.block") if path.stem == path.parent.name)
 
 
 def without_registers(text: str) -> str:
-    """A result without its registers."""
     return "".join(line for line in text.splitlines(keepends=True) if not line.startswith("regs "))
 
 
@@ -85,7 +83,6 @@ def in_rust(run: Run) -> None:
 
 
 def block_of_list(run: Run, name: str) -> None:
-    """A list makes the block that is committed."""
     same(tool(run, "block", EXAMPLES / name / f"{name}.list").done(), (EXAMPLES / name / f"{name}.block").read_text(encoding="utf-8"))
 
 
@@ -216,7 +213,6 @@ def on_this_machine(run: Run, name: str) -> None:
 
 
 def failing_on_this_machine(run: Run) -> None:
-    """Checks that do not hold, and what they print."""
     folder = FIXTURES / "outputs"
     shutil.copy(folder / "failing.c", run.place)
     made(run, folder / "failing-test.c", "failing-test", more=["CC=cc"])
@@ -230,7 +226,6 @@ def failing(run: Run, name: str) -> None:
 
 
 def keys_of_tables(run: Run) -> None:
-    """Keys of tables by the words of their list."""
     folder, outputs = EXAMPLES / "lock", FIXTURES / "outputs"
     result = rvstm(run, "seq", "lock.block", folder=folder).done()
     table = tool(run, "result", "--list", "lock.list", folder=folder, data=result).done()
@@ -318,7 +313,6 @@ def lines_stop(run: Run) -> None:
 
 
 def cases() -> list[Case]:
-    """All of them."""
     names, found = folders(), list[Case]()
     listed = [name for name in names if (EXAMPLES / name / f"{name}.list").is_file()]
     explored = [name for name in (*names, *IN_BLOCKS) if (EXAMPLES / name / f"{name}.explore").is_file()]

@@ -70,7 +70,6 @@ def counts_go_on(run: Run) -> None:
 
 
 def too_many_calls(run: Run) -> None:
-    """A frame of 1,025 calls."""
     text = rvstm(run, "chain", data=session_over(table("programs").contents["COUNT"], [CALL * 1025])).done()
     holds(text.endswith("\nrefused block 1027 Limit 7\n"), text, "refused block 1027 Limit 7")
 
@@ -101,7 +100,6 @@ def is_refused(run: Run, path: Path, content: bytes, what: str) -> None:
 
 
 def texts(run: Run) -> None:
-    """Texts, once and 1,000 times, are no sessions."""
     for text in TEXTS:
         for times in (1, 1000):
             is_refused(run, run.place / "file", text.encode() * times, f"{shown(text)} {times} times")
@@ -133,7 +131,6 @@ def by_threads(run: Run) -> None:
 
 
 def not_text(run: Run) -> None:
-    """A word of the command line that is not UTF-8."""
     done = command([run.program, "seq", "\udcff.block"])
     came = (done.status, done.out, done.errors)
     holds(came[:2] == (2, "") and "error: a word of the command line is not UTF-8\n" in done.errors, came, "status 2")

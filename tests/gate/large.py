@@ -36,6 +36,5 @@ def rows_pass(run: Run, names: Sequence[str]) -> None:
 
 
 def cases() -> list[Case]:
-    """One for each group of rows."""
     found = [Case(f"large: {name}", partial(rows_pass, names=names), cost=4, needs_speed=True) for name, names in BY_SPEED.items()]
     return found + [Case(f"large: {name}", partial(rows_pass, names=names), cost=2) for name, names in AT_ONCE.items()]

@@ -54,8 +54,6 @@ END_OF_PARTS = 44
 
 @dataclass(frozen=True)
 class RefusedCall:
-    """The parts of a refusal."""
-
     area: bytes
     number: int
     name: bytes
@@ -74,7 +72,6 @@ TOO_LONG, OTHER_DIGEST = RefusedCall(b"frame", 4, b"TooLong"), RefusedCall(b"fra
 def state(
     rules: int = 1, height: int = 0, keys: int = 0, programs: int = 0, limit: int = 67_108_864, gas: str = "none", more: str = "brief 0\n",
 ) -> bytes:
-    """What a session says of itself."""
     text = f"rules {rules}\nheight {height}\nkeys {keys}\nprograms {programs}\nframe-limit {limit}\nframe-gas {gas}\n"
     return (text + more).encode()
 
@@ -85,7 +82,6 @@ def narrow(digest: str, **counts: int) -> bytes:
 
 
 def each(status: LibraryStatus, answer: RefusedCall | None, *calls: tuple[str, Sequence[Given]]) -> Sequence[Row]:
-    """Rows of calls that all have one answer."""
     return [(name, given, status, answer) for name, given in calls]
 
 
@@ -201,14 +197,11 @@ A_HUNDRED_BLOCKS: Sequence[Row] = [
 
 
 class LibrarySession:
-    """A session of the library."""
-
     def __init__(self, library: Path) -> None:
         self.library, self.handle = ctypes.CDLL(str(library)), Handle()
         self.library.rvstm_answer_length.restype = ctypes.c_size_t
 
     def call(self, name: str, *words: object) -> LibraryStatus:
-        """The status of a call by the end of its name."""
         return LibraryStatus(self.library["rvstm_" + name](ctypes.byref(self.handle), *words))
 
     def ask(self, name: str, given: Sequence[Given]) -> LibraryStatus:
@@ -250,7 +243,6 @@ def answers(run: Run, rows: Sequence[Row]) -> None:
 
 
 def cases() -> list[Case]:
-    """One for each session."""
     sessions = {
         "calls without a session": UNOPENED, "sessions are opened and closed": OPENED, "settings": WITH_SETTINGS, "programs": PROGRAMS,
         "frames": FRAMES, "storages": STORAGES, "what no line says": WITHOUT_A_LINE, "a hundred blocks": A_HUNDRED_BLOCKS,

@@ -48,11 +48,9 @@ class Blocks:
     storage: Storage = field(default_factory=dict)
 
     def begin(self) -> Request:
-        """The request that begins the session."""
         return requests.begin(0, NO_DIGEST, texts.dump_of(Rules.THREE, self.storage))
 
     def at(self, number: int) -> Request:
-        """The frame of a height."""
         is_strange = number % BLOCKS == STRANGER_AT
         return Request(Word.FRAME, (), STRANGE if is_strange else self.listed[(number - 1) % len(self.listed)])
 
@@ -83,12 +81,10 @@ def model_of(run: Run, blocks: Blocks) -> Iterator[SessionModel]:
 
 
 def next_digest(digest: bytes, answer: Answer) -> bytes:
-    """The digest after one more answer."""
     return hashlib.sha256(digest + answer.text()).digest()
 
 
 def needed(session: Session, request: Request) -> Answer:
-    """The answer to a request, which is there."""
     answer = session.ask(request)
     assert answer is not None
     return answer
@@ -156,7 +152,6 @@ def from_a_file(run: Run) -> None:
 
 
 def signed_calls(run: Run, tests: str) -> None:
-    """Some tests of the example."""
     if command([PYTHON, "-c", "import cryptography"]).status:
         raise Lacks("python3-cryptography")
     more = {"RVSTM": str(run.program), "PYTHONDONTWRITEBYTECODE": "1"}
@@ -179,7 +174,6 @@ def few_lines(run: Run) -> None:
 
 
 def cases() -> list[Case]:
-    """All of them."""
     return [
         Case("node: from a dump", from_a_dump, cost=2),
         Case("node: from a file", from_a_file, cost=8),

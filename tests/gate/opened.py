@@ -53,5 +53,4 @@ def opened(run: Run) -> None:
 
 
 def cases() -> list[Case]:
-    """The only one."""
     return [Case("opened: files in their order", opened, (Tool.CC,))]

@@ -34,7 +34,6 @@ def rows(path: Path, separator: str, count: int) -> list[list[str]]:
 
 
 def by_seq(run: Run, text: str, folder: Path = FOLDER) -> str:
-    """The result of a block by `seq`."""
     return rvstm(run, "seq", written(run.place / "case.block", text), folder=folder).done()
 
 
@@ -147,7 +146,6 @@ def images(run: Run) -> None:
 
 
 def program_of(words: Sequence[int]) -> bytes:
-    """An ELF file whose text has these words."""
     size = 4 * len(words)
     ident = b"\x7fELF\1\1\1" + bytes(9)
     header = struct.pack("<HHIIIIIHHHHHH", 2, 243, 1, 0x10000, 52, 0, 0, 52, 32, 1, 0, 0, 0)
@@ -186,7 +184,6 @@ def legal_words(run: Run) -> None:
 
 
 def fuzzed(run: Run) -> None:
-    """Damaged files of each kind."""
     run.note(f"seed {run.setting.seed}")
     done = command([*tool_words("fuzz"), run.program, str(RANDOM_SECONDS), str(run.setting.seed)])
     holds(done.status == 0, last_lines(done.out + done.errors), "status 0")
@@ -213,12 +210,10 @@ def last_lines(text: str, count: int = 3) -> str:
 
 
 def chunks(names: Sequence[str], size: int) -> Iterator[Sequence[str]]:
-    """Parts of a list."""
     return (names[at : at + size] for at in range(0, len(names), size))
 
 
 def cases() -> list[Case]:
-    """All of them."""
     of = "from outside:"
     found = [
         Case(f"{of} images", images, cost=2),

@@ -51,12 +51,10 @@ class PageBlock:
 
     @property
     def name(self) -> str:
-        """Where it is."""
         return f"{self.page}:{self.line}"
 
 
 def page_files() -> list[Path]:
-    """The pages, README first."""
     others = ("bench/README.md", "examples/cluster/README.md")
     return [TOP / "README.md", TOP / "CONTRIBUTING.md", *sorted((TOP / "docs").glob("*.md")), *(TOP / name for name in others)]
 
@@ -126,7 +124,6 @@ def blocks_of(page: str, text: str) -> list[PageBlock]:
 
 
 def line_pattern(line: str) -> str:
-    """A line of a page as a regular expression."""
     return ".*".join(re.escape(part) for part in line.split(CUT))
 
 

@@ -21,7 +21,6 @@ NEW_NAMES = [f".rvstm.new{number}" for number in range(100)]
 
 
 def migrated(run: Run, path: str | Path) -> EndedCommand:
-    """Puts the new bytes at a path."""
     written(run.place / "block", GIVEN)
     return rvstm(run, "migrate", "block", "--out", path, folder=run.place)
 
@@ -34,22 +33,18 @@ def puts(run: Run, path: str, *names: str) -> None:
 
 
 def refuses(run: Run, path: str | Path) -> None:
-    """The new bytes may not be put at a path."""
     migrated(run, path).refused(UNWRITABLE)
 
 
 def names_in(folder: Path) -> list[str]:
-    """The names in a folder."""
     return sorted(os.listdir(folder))
 
 
 def old(run: Run, path: str) -> Path:
-    """A file with the old bytes."""
     return written(run.place / path, OLD)
 
 
 def has_old(path: Path) -> None:
-    """A file has the old bytes."""
     same(path.read_text(encoding="utf-8"), OLD, path.name)
 
 
@@ -218,7 +213,6 @@ def stolen(run: Run) -> None:
 
 
 def cases() -> list[Case]:
-    """All of them."""
     plain: dict[str, Callable[[Run], None]] = {
         "a file is made and replaced": made_and_replaced, "a left-over file is removed": left_over, "other names stay": other_names,
         "all names are taken": all_names, "links are followed": links, "devices and pipes are written": devices_and_pipes,

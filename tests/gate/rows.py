@@ -109,7 +109,6 @@ def batches(calls: Sequence[Batched]) -> list[Sequence[Batched]]:
 
 
 def part_of(run: Run, calls: Sequence[GivenCall]) -> str:
-    """The file of a block of these calls."""
     written(run.place / "keys.block", block(["keys.elf"], calls))
     return "keys.block"
 
@@ -260,7 +259,6 @@ def refused(run: Run, compiler: str) -> None:
 
 
 def cases() -> list[Case]:
-    """All of them."""
     found = [Case("rows on this machine", keys_on_this_machine, (Tool.CC, Tool.MAKE))]
     for compiler, needs in NEEDS.items():
         found += [

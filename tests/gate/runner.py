@@ -48,7 +48,6 @@ class Tool(enum.Enum):
 
     @functools.cache
     def is_there(self) -> bool:
-        """Whether the machine has it."""
         if not shutil.which(self.asks[0]):
             return False
         done = subprocess.run(self.asks, stdin=subprocess.DEVNULL, capture_output=True, encoding="utf-8", errors="replace")
@@ -99,7 +98,6 @@ class Run:
 
     @property
     def program(self) -> Path:
-        """The program."""
         return self.setting.program
 
     def note(self, text: str) -> None:
@@ -158,8 +156,6 @@ SECONDS_BETWEEN_LOOKS = 0.02
 
 @dataclass(frozen=True)
 class Outcome:
-    """How a case ended."""
-
     case: Case
     why: str = ""
     """Why it failed, in one line; empty if it passed."""
@@ -170,14 +166,11 @@ class Outcome:
 
     @property
     def is_passed(self) -> bool:
-        """Whether it ran and passed."""
         return not self.why and not self.lacks
 
 
 @dataclass
 class Running:
-    """The process of a case."""
-
     case: Case
     process: int
     place: Path
@@ -254,7 +247,6 @@ def kill(group: int) -> None:
 
 
 def result(running: Running) -> Outcome:
-    """The outcome of a case that ended."""
     seconds = time.monotonic() - running.began
     try:
         why, missing, notes = pickle.loads(running.place.with_suffix(".outcome").read_bytes())
@@ -301,7 +293,6 @@ SLOWNESS = 8
 
 
 def parser() -> argparse.ArgumentParser:
-    """The parser of the command line."""
     made = argparse.ArgumentParser(
         prog="tests/run",
         description="Runs what users run, over a program that is there. Proves nothing, and needs neither root nor the network. "
@@ -349,7 +340,6 @@ def lines_of(outcome: Outcome, with_times: bool) -> list[str]:
 
 
 def sums(outcomes: Sequence[Outcome], more_failed: int = 0) -> str:
-    """The last line."""
     passed, skipped = sum(one.is_passed for one in outcomes), sum(bool(one.lacks) and not one.why for one in outcomes)
     return f"{passed} passed, {len(outcomes) - passed - skipped + more_failed} failed, {skipped} skipped"
 

@@ -183,5 +183,4 @@ def header(run: Run) -> None:
 
 
 def cases() -> list[Case]:
-    """All of them."""
     return [Case("sdk: the edges of host.c", edges, (Tool.CC, Tool.MAKE), cost=2), Case("sdk: gas and ends in contract.h", header)]

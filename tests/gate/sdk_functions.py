@@ -193,7 +193,6 @@ def differences(asked: Sequence[FunctionCall], came: Sequence[Came]) -> None:
 
 
 def as_contracts(run: Run, compiler: str) -> None:
-    """Each function, as a contract."""
     make_contract(run, compiler)
     gas = differences_as_contracts(run, all_asked(run.setting.seed))
     dear = [used for data, used in gas.items() if data[0] == Of.PRODUCT and used > MUL_DIV]
@@ -209,7 +208,6 @@ def make_contract(run: Run, compiler: str) -> None:
 
 
 def many_products(run: Run, compiler: str) -> None:
-    """Products of random numbers, as a contract."""
     make_contract(run, compiler)
     chance = random.Random(run.setting.seed)
     asked = [product(any_number(chance), any_number(chance), any_number(chance), number % 2) for number in range(PRODUCTS)]
@@ -306,7 +304,6 @@ def rust_as_a_contract(run: Run) -> None:
 
 
 def cases() -> list[Case]:
-    """All of them."""
     found = [Case("sdk: each function on this machine", on_this_machine, (Tool.CC, Tool.MAKE), cost=2)]
     for compiler, needs in NEEDS.items():
         found.append(Case(f"sdk: each function as a contract by {compiler}", partial(as_contracts, compiler=compiler), needs, cost=2))

@@ -58,7 +58,6 @@ def state(rules: int, height: int, keys: int, programs: int, digest: bytes | Non
 
 
 def next_digest(digest: bytes, answer: bytes) -> bytes:
-    """The digest after one more answer."""
     return hashlib.sha256(bytes.fromhex(digest.decode()) + answer).hexdigest().encode()
 
 
@@ -122,7 +121,6 @@ def requests() -> Iterator[tuple[bytes, bytes]]:
 
 
 def over_pipes(run: Run) -> None:
-    """Each request, one after the other."""
     with ClientSession(run.program, *SETTINGS) as session:
         for request, answer in requests():
             session.expect(request, answer)
@@ -155,7 +153,6 @@ def settings(run: Run) -> None:
 
 
 def ends(run: Run) -> None:
-    """What ends a session, and how."""
     fault, cut = refused("request BadLine 1"), refused("request Cut 2")
     for data, wanted in (
         (b"", (b"", "", 0)),
@@ -273,7 +270,6 @@ def refused_files(run: Run) -> None:
 
 
 def put(path: Path, data: bytes) -> None:
-    """A file with no log."""
     path.write_bytes(data)
     Path(f"{path}-wal").unlink(missing_ok=True)
 
@@ -419,7 +415,6 @@ def nodes(run: Run) -> None:
 
 
 def cluster_tests(run: Run, module: str) -> None:
-    """The tests of the ledger of several nodes."""
     done = command(["python3", "-m", "unittest", module], TOP / "examples/cluster", more=over(run))
     holds(done.status == 0, last_lines(done.errors), "OK")
     skipped = re.search(r"^skipped, for want of (.*)$", done.errors, re.M)
@@ -442,7 +437,6 @@ def over(run: Run) -> dict[str, str]:
 
 
 def cases() -> list[Case]:
-    """All of them."""
     return [
         Case("session over pipes: each request", over_pipes),
         Case("session over pipes: written ahead", ahead),

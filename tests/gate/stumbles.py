@@ -120,7 +120,6 @@ def why_not_built(run: Run, row: StumbleRow, compiler: str) -> str | None:
 
 
 def library_of_gcc() -> str:
-    """GCC's library for contracts."""
     return command([*COMPILERS["gnu"], "-march=rv32im", "-mabi=ilp32", "-print-libgcc-file-name"]).done().strip()
 
 
@@ -146,7 +145,6 @@ def stumbles(run: Run, rows: Sequence[StumbleRow], compiler: str) -> None:
 
 
 def cases() -> list[Case]:
-    """A case for each source and compiler."""
     found = []
     for source in dict.fromkeys(row.source for row in ROWS):
         for compiler in BOTH:

@@ -151,7 +151,6 @@ class Table:
             raise ValueError(f"a table has no {', '.join(data)}")
 
     def put(self, folder: Path) -> None:
-        """Writes the files and links into a folder."""
         for name, to in self.links.items():
             (folder / name).symlink_to(to)
         for name, content in self.contents.items():
@@ -164,14 +163,12 @@ def program(words: str) -> bytes:
 
 
 def table(name: str) -> Table:
-    """A table."""
     read = Table()
     read.add(tomllib.loads((FOLDER / f"{name}.toml").read_text(encoding="utf-8")))
     return read
 
 
 def has_pieces(text: str, pieces: Sequence[str]) -> bool:
-    """Whether a text has pieces in their order."""
     for piece in pieces:
         _, found, text = text.partition(piece)
         if not found:
@@ -290,7 +287,6 @@ def check_schedule(run: Run, schedule: Schedule, folder: Path) -> None:
 
 
 def check(run: Run, name: str) -> None:
-    """All that a table has."""
     given = table(name)
     if given.rows:
         given.put(run.place)
@@ -312,5 +308,4 @@ def named() -> Iterator[str]:
 
 
 def cases() -> list[Case]:
-    """A case for each table."""
     return [Case(f"table {name}", partial(check, name=name)) for name in named()]

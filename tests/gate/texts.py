@@ -23,7 +23,6 @@ class GivenCall:
 
 
 def block(programs: Sequence[str], calls: Iterable[GivenCall], store: Mapping[str, str] | None = None, head: str = FORMAT_1) -> str:
-    """The text of a block file."""
     lines = [f"program {number} {path}\n" for number, path in enumerate(programs)]
     lines += [f"store {key} {field(value)}\n" for key, value in sorted((store or {}).items())]
     lines += [f"call {call.program} {call.gas} {field(call.data)}\n" for call in calls]
@@ -32,15 +31,12 @@ def block(programs: Sequence[str], calls: Iterable[GivenCall], store: Mapping[st
 
 @dataclass(frozen=True)
 class CallReceipt:
-    """The `call` line of a result."""
-
     end: str
     gas: int
     output: str
 
 
 def receipts(result: str) -> list[CallReceipt]:
-    """The calls of a result."""
     words = [line.split(" ") for line in result.splitlines() if line.startswith("call ")]
     return [CallReceipt(word[2], int(word[4]), word[8]) for word in words]
 
@@ -51,13 +47,11 @@ def ends(result: str) -> list[tuple[str, str]]:
 
 
 def storage(result: str) -> dict[str, str]:
-    """The storage at the end of a result."""
     words = [line.split(" ") for line in result.splitlines() if line.startswith("store ")]
     return {word[1]: word[2] for word in words}
 
 
 def written(path: Path, text: str) -> Path:
-    """A file with a text."""
     path.write_text(text, encoding="utf-8")
     return path
 

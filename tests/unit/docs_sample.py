@@ -116,7 +116,6 @@ FILES = {
 
 
 def forget() -> None:
-    """Forgets what was read of files."""
     for module in MODULES:
         for value in vars(module).values():
             if isinstance(value, functools._lru_cache_wrapper):

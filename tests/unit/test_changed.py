@@ -77,8 +77,6 @@ def processor_seconds() -> float:
 
 
 class FakeSession:
-    """Answers each request as if it was done."""
-
     ANSWERS: dict[bytes, str] = {Word.GET: "absent\n", Word.FRAME: RESULT, Word.TRY: RESULT, Word.LAST: RESULT}
 
     def ask(self, request: Request) -> Done:

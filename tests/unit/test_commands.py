@@ -255,7 +255,6 @@ class CommandLine(unittest.TestCase):
 
 class Launcher(InFolder):
     def test_from_another_folder(self) -> None:
-        """By its path and by a link, at the same time."""
         self.write("a.list", LIST)
         link = self.folder / "link"
         link.symlink_to(LAUNCHER)

@@ -38,8 +38,6 @@ class Reader(html.parser.HTMLParser):
 
 
 class Books(unittest.TestCase):
-    """The sample's book, and one of the repository."""
-
     def test_text(self) -> None:
         with sample.tree():
             text = "\n".join(book.listed(WORDS))

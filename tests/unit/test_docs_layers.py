@@ -27,7 +27,6 @@ class Layers(unittest.TestCase):
     """What is printed and drawn of small lists of crates."""
 
     def misplaced(self, *lines: str) -> Iterable[str]:
-        """The faults of a list of crates."""
         with sample.tree({"crates.txt": "\n".join(lines) + "\n"}):
             return list(layers.misplaced())
 

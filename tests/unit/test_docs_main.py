@@ -21,7 +21,6 @@ class Ended:
 
 
 def ended(words: Sequence[str]) -> Ended:
-    """Runs docs/check with these words."""
     out, error = io.StringIO(), io.StringIO()
     with contextlib.redirect_stdout(out), contextlib.redirect_stderr(error):
         status = main.main(words)
@@ -29,8 +28,6 @@ def ended(words: Sequence[str]) -> Ended:
 
 
 class CommandLine(unittest.TestCase):
-    """The options, over the sample crates."""
-
     def test_options(self) -> None:
         rows = {
             ("--calls", "low"): "  Boxed::doubled (even): The double of a number.",

@@ -9,8 +9,6 @@ from unit import docs_sample as sample
 
 
 class Printed(unittest.TestCase):
-    """The lines of each option."""
-
     def test_calls(self) -> None:
         with sample.tree():
             self.assertEqual(

@@ -252,8 +252,6 @@ def found(others: Mapping[str, str] | None = None) -> dict[unused.UnusedKind, li
 
 
 class Unused(unittest.TestCase):
-    """What is found, and what is not."""
-
     maxDiff = None
 
     def test_names_of_code(self) -> None:

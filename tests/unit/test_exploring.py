@@ -397,8 +397,6 @@ class BankThatAdds(Bank):
 
 
 class Explored(InFolder):
-    """Explorations with a session in this process."""
-
     SESSION: type[InPlace] = Chain
 
     def setUp(self) -> None:
@@ -566,7 +564,6 @@ class OverBank(Explored):
     CALLS = 1000
 
     def described(self, *, model: str = "", more: str = "", most: str = "") -> str:
-        """The path of a description."""
         return self.write("a.explore", BANK_CALLS.format(model=model, more=more, most=most))
 
     def explored(self, path: str, *options: str) -> tuple[int, list[str], str]:

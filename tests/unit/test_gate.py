@@ -36,7 +36,6 @@ class GateTest(unittest.TestCase):
         self.stub("tests/run", 'echo "$*" > cases-ran; echo 30 passed, 0 failed, 2 skipped')
 
     def stub(self, path: str, text: str) -> None:
-        """A command of one line of sh at a path."""
         file = self.top / path
         file.parent.mkdir(parents=True, exist_ok=True)
         file.write_text(f"#!/bin/sh\n{text}\n", encoding="utf-8")
@@ -81,7 +80,6 @@ class GateTest(unittest.TestCase):
                 self.stub(path, "")
 
     def test_check_is_killed(self) -> None:
-        """A check that a signal ends."""
         self.stub("tests/check", "kill -9 $$")
         self.assertIn("failed: tests/check ended with status 137", self.expect("83 passed, 1 failed, 2 skipped", 1))
 
@@ -94,7 +92,6 @@ class GateTest(unittest.TestCase):
         self.assertFalse((self.top / "noted").exists())
 
     def test_case_fails(self) -> None:
-        """What the cases count as failed."""
         self.stub("tests/run", "echo failed: one; echo 29 passed, 1 failed, 2 skipped; exit 1")
         self.expect("83 passed, 1 failed, 2 skipped", 1)
 
@@ -111,7 +108,6 @@ class GateTest(unittest.TestCase):
         self.assertFalse(self.cases_ran())
 
     def test_rt_is_not_there(self) -> None:
-        """A machine without the kit."""
         self.stub("bin/rt", "echo rt: not found >&2; exit 127")
         self.expect("4 passed, 2 failed, 0 skipped", 1)
 
@@ -124,7 +120,6 @@ class GateTest(unittest.TestCase):
                 self.assertFalse(self.cases_ran())
 
     def test_rt_has_another_status(self) -> None:
-        """A status that the count does not explain."""
         self.stub("bin/rt", f"{GREEN}; exit 2")
         self.expect("83 passed, 1 failed, 2 skipped", 1)
 
@@ -143,12 +138,10 @@ class GateTest(unittest.TestCase):
         self.assertTrue(self.cases_ran())
 
     def test_cases_are_killed(self) -> None:
-        """Cases without a count."""
         self.stub("tests/run", "echo passed: one; kill -9 $$")
         self.expect("54 passed, 1 failed, 0 skipped", 1)
 
     def test_no_mypy(self) -> None:
-        """What a machine lacks is counted."""
         self.stub("bin/mypy", "exit 127")
         self.expect("84 passed, 0 failed, 3 skipped", 0)
 
@@ -176,7 +169,6 @@ class GateTest(unittest.TestCase):
             self.assertEqual(words, ["-q update"] if ending else ["-q update", "install mypy strace -q -y --no-install-recommends"])
 
     def test_no_packages(self) -> None:
-        """Nothing is installed elsewhere."""
         self.stub("bin/apt-get", "touch installed")
         for user, variable in (("1000", "true"), ("0", "")):
             self.stub("bin/id", f"echo {user}")

@@ -37,8 +37,6 @@ $ curl there
 
 
 class BlocksTest(unittest.TestCase):
-    """The blocks of PAGE."""
-
     def setUp(self) -> None:
         self.blocks = pages.blocks_of("page.md", PAGE)
 
@@ -59,21 +57,16 @@ class BlocksTest(unittest.TestCase):
         self.assertEqual((second.command, second.printed), ("two \\\n    lines", ("out",)))
 
     def test_comments(self) -> None:
-        """A comment is for the block after it alone."""
         self.assertEqual([block.reason for block in self.blocks], ["", "the network", ""])
         self.assertEqual(self.blocks[2].needs, (Tool.CLANG, Tool.LLVM))
         self.assertEqual([block.needs_speed for block in self.blocks], [False, False, True])
 
 
 class DifferenceTest(unittest.TestCase):
-    """Lines of a page beside lines that came."""
-
     def same(self, wanted: str, came: str) -> None:
-        """They do not differ."""
         self.assertEqual(pages.first_difference(wanted.split("|"), came.split("|")), "")
 
     def differs(self, wanted: str, came: str, text: str) -> None:
-        """They differ, and this is said of it."""
         self.assertIn(text, pages.first_difference(wanted.split("|"), came.split("|")))
 
     def test_whole(self) -> None:

@@ -63,14 +63,11 @@ INTERRUPT = 2
 
 
 def stop(pc: int, moment: int, reason: str = "", signal: int = TRAP) -> str:
-    """The packet of a stop."""
     place = REGISTERS.format(pc=pc.to_bytes(4, "little").hex(), moment=moment.to_bytes(8, "little").hex())
     return f"T{signal:02x}{reason}{place}"
 
 
 class Replayed(InFolder):
-    """A server for the call, without a wire."""
-
     def setUp(self) -> None:
         super().setUp()
         self.serve()
@@ -91,7 +88,6 @@ class Replayed(InFolder):
             raise InterruptedMove
 
     def ask(self, *sent: str) -> str:
-        """The last answer to some packets."""
         return [self.server.answer(packet) for packet in sent][-1]
 
 

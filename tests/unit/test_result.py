@@ -55,7 +55,6 @@ OBJECTS: list[Form] = [
 
 
 def schema() -> Form:
-    """The schema that --schema prints."""
     form: Form = json.loads(called_with("", "result", "--schema")[1])
     return form
 

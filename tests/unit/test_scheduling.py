@@ -18,7 +18,6 @@ SETTING = Setting(Path("/bin/true"), None, False, 1)
 
 
 def fails(run: Run) -> None:
-    """A case that differs."""
     same("a\nb\n", "a\nc\n", "the text")
 
 
@@ -28,12 +27,10 @@ def lacks(run: Run) -> None:
 
 
 def breaks(run: Run) -> None:
-    """A case with a mistake of its own."""
     raise KeyError("mistake")
 
 
 def dies(run: Run) -> None:
-    """A case whose process is ended."""
     os.kill(os.getpid(), 9)
 
 
@@ -57,8 +54,6 @@ def outcomes(*calls: Callable[[Run], None], seconds: float = 20, jobs: int = 2) 
 
 
 class OutcomesTest(unittest.TestCase):
-    """How cases end."""
-
     def test_each_way(self) -> None:
         """What came and what was wanted is one line; a mistake, and a death, fail a case."""
         found = outcomes(fails, lacks, breaks, dies, notes)
@@ -89,10 +84,7 @@ class OutcomesTest(unittest.TestCase):
 
 
 class PrintedTest(unittest.TestCase):
-    """What a run prints, and its status."""
-
     def printed(self, *calls: Callable[[Run], None], words: tuple[str, ...] = ("/bin/true",)) -> tuple[list[str], int]:
-        """The lines of a run over some cases."""
         cases, out = [Case(call.__name__, call) for call in calls], io.StringIO()
         with contextlib.redirect_stdout(out), contextlib.redirect_stderr(io.StringIO()):
             status = runner.main([cases], words)
@@ -107,7 +99,6 @@ class PrintedTest(unittest.TestCase):
         self.assertIn("notes: True", lines)
 
     def test_all_pass(self) -> None:
-        """Nothing failed."""
         lines, status = self.printed(notes, lacks)
         self.assertEqual((lines[-1], status), ("1 passed, 0 failed, 1 skipped", 0))
 
