@@ -62,6 +62,7 @@ def words_of_tools() -> str:
 
 
 def make_files(folder: Path, files: dict[str, str]) -> None:
+    """Writes files by their paths in a folder, which is made, or is empty: a UserError otherwise."""
     folder.mkdir(parents=True, exist_ok=True)
     if any(folder.iterdir()):
         raise UserError(f"{folder}: it is there, and is not empty")
@@ -73,6 +74,7 @@ def make_files(folder: Path, files: dict[str, str]) -> None:
 
 
 def build(folder: Path, name: str) -> None:
+    """Makes the program and its lines by `make`. A UserError has its status."""
     words = ["make", "-s", f"{name}.elf", f"{name}.lines.elf"]
     environment = {key: value for key, value in os.environ.items() if key not in ("MAKEFLAGS", "MAKELEVEL")}
     done = subprocess.run(words, cwd=folder, env=environment, stdin=subprocess.DEVNULL, stdout=subprocess.DEVNULL, check=False)

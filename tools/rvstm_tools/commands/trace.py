@@ -68,6 +68,7 @@ def trace(given: argparse.Namespace, program: Program, block: GivenBlock) -> Non
 
 
 def receipt_of(program: Program, block: GivenBlock) -> Receipt:
+    """The receipt of the call by `rvstm seq`. A UserError if the block has no such call."""
     receipts = results.result_of(running.run_file(program, "seq", block.path, block.folder)).receipts
     if block.call not in range(len(receipts)):
         raise UserError(f"{block.path}: there is no call {block.call}; its {len(receipts)} calls count from 0")

@@ -64,6 +64,7 @@ class WrongPacketError(Exception):
 
 
 def number_of(word: str) -> int:
+    """A number in hex; -1 if it has too many digits. A WrongPacketError for another word."""
     try:
         return int(word, 16) if len(word) <= MOST_DIGITS and "_" not in word else -1
     except ValueError as error:
@@ -255,6 +256,7 @@ class Server:
 
 
 def words_of_hex(text: str) -> list[str]:
+    """At most two words of a text in hex. A WrongPacketError for other letters."""
     try:
         return bytes.fromhex(text).decode(errors="replace").strip().split(None, 1)
     except ValueError as error:

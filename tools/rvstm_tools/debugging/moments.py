@@ -66,6 +66,7 @@ class AnyMoment(Debugger):
             self.take(self.answer_bytes(f"t {moment}"))
 
     def bytes_at(self, address: int, length: int) -> bytes:
+        """Bytes of memory; those outside of it are left out."""
         starts = range(address, address + length, MOST_BYTES)
         return b"".join(self.memory(start, min(MOST_BYTES, address + length - start)) or b"" for start in starts)
 
@@ -160,6 +161,7 @@ class Hits(MomentSearch):
         self.address = address
 
     def up_to(self, moment: int) -> list[int]:
+        """The moments of hits up to one, which is included, in their order."""
         if self.first:
             self.begin(0)
         self.look(moment)
@@ -174,6 +176,7 @@ class MemorySearch(MomentSearch):
         self.start = start
 
     def back(self, moment: int) -> int:
+        """The moment before the last change up to one, which is included; -2 if there is none."""
         return self.before(moment + 1) - 1
 
 
@@ -378,6 +381,7 @@ class DebuggedCall:
         return "".join(f"{address:08x}\n" for address in places) or f"{line}: no code is of this line\n"
 
     def ecalls(self) -> list[int]:
+        """The addresses of all ECALLs of the program. A UserError if rvstm refuses it."""
         path = blockfiles.head_of_call(self.subject.file, self.subject.number).program
         printed = Program(self.subject.program).run(["dis", path], self.subject.folder)
         if printed.refusal:

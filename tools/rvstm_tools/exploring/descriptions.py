@@ -50,6 +50,7 @@ class Time:
     steps: NumberSpans
 
     def drawn(self, random: Random) -> int:
+        """The seconds that pass."""
         step = self.steps.drawn(random, [])
         assert isinstance(step, int)
         return step
@@ -60,6 +61,7 @@ class Time:
         return ends + [less for less in self.steps.simpler(step) if isinstance(less, int)]
 
     def after(self, time: int, step: int) -> int:
+        """The value after it; at most the greatest of its bits."""
         return min(time + step, (1 << self.bits) - 1)
 
     def store_words(self, time: int) -> list[str]:

@@ -63,6 +63,7 @@ class Folder:
 
 
 def saved_call_of(line: object, values: dict[str, object], step: object = None) -> SavedCall:
+    """A call of a saved finding. A TypeError for other objects."""
     if type(line) is not int or not all(isinstance(word, str) for word in values.values()):
         raise TypeError("not a line and words")
     if step is not None and (type(step) is not int or step < 0):

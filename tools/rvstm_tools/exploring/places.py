@@ -107,6 +107,7 @@ Place = Words | NumberSpans | AnyBytes
 
 
 def span_of(found: re.Match[str], most: int) -> Span:
+    """The numbers FIRST..LAST. A UserError above the most, or if the first is above the last."""
     ends = [numbers.at_most(digits, most) for digits in (found[1], found[2] or found[1])]
     first, last = ends
     if first is None or last is None:

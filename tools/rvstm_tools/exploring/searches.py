@@ -247,4 +247,5 @@ class Search:
         return self.calls + sum(made.calls for made in self._waiting.values())
 
     def speed(self) -> float:
+        """Calls a second."""
         return self.made() / max(self.seconds or time.monotonic() - self.begun, LEAST_SECONDS)

@@ -37,6 +37,7 @@ class Shorter:
         return self.finding.calls
 
     def spent(self) -> float:
+        """Seconds."""
         return time.monotonic() - self.begun
 
     def shorten(self, random: Random) -> str:

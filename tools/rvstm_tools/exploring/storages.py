@@ -90,9 +90,11 @@ class StorageByReceipts:
         return sorted(self.data)
 
     def value(self, key: str | bytes) -> bytes | None:
+        """None if the key has none."""
         return self.data.get(self.key_of(key))
 
     def value_before(self, key: str | bytes) -> bytes | None:
+        """The value before the last call; None if there was none."""
         found = self.key_of(key)
         return self.changed[found] if found in self.changed else self.data.get(found)
 
@@ -174,6 +176,7 @@ def shown_value(value: object) -> str:
 
 
 def number_of(data: bytes) -> int:
+    """A number without a sign, the lowest byte first."""
     return int.from_bytes(data, "little")
 
 

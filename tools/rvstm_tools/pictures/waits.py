@@ -48,6 +48,7 @@ def before(calls: Sequence[WaitingCall], call: WaitingCall) -> int | None:
 
 
 def longest_path(calls: Sequence[WaitingCall]) -> set[int]:
+    """The places of its calls, from 0."""
     chain = set[int]()
     if not calls:
         return chain

@@ -78,6 +78,7 @@ def is_loaded_so(data: bytes, without: bytes) -> bool:
 
 
 def bare(name: str, data: bytes) -> bytes:
+    """The bytes of a program without symbols and build id. A UserError if it is none, or is cut."""
     if not data.startswith(ELF_HEAD):
         raise UserError(f"{name}: NOT a program of 64 bits")
     try:
@@ -142,6 +143,7 @@ def by_building(path: str, data: bytes, built: Products, build: Callable[[Produc
 
 
 def sums_of(path: str) -> dict[str, str]:
+    """The SHA-256 of each file, in hex, by its name. A UserError for another line."""
     rows = [line.split() for line in Path(path).read_text(encoding="ascii", errors="replace").splitlines()]
     if not all(len(row) == 2 and CHECKSUM.fullmatch(row[0]) for row in rows):
         raise UserError(f"{path}: not a file of checksums and names")

@@ -46,6 +46,7 @@ def check_name(name: str, language: Language) -> None:
 
 
 def files_of(language: Language, places: TemplateNames) -> dict[str, str]:
+    """The text of each file by its path in the folder. A UserError if a Makefile cannot have the paths."""
     if NOT_IN_A_MAKEFILE.search(places.sdk + places.tools):
         raise UserError(f"{places.sdk}: a path with one of \" $ # \\ cannot be in a Makefile; move the SDK")
     texts = {FOLDER / name: path for name, path in OF_ALL.items()}

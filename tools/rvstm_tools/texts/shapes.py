@@ -70,6 +70,7 @@ class Shape:
 
     @property
     def least(self) -> int:
+        """The bytes of its fields, without the rest that may follow."""
         return length_of(self.fields)
 
     @property
