@@ -11,7 +11,8 @@ RIGHT = """\
 A [guide](guide.md#two--words-here), [again](guide.md#twice-1), [here](#guide), [there](https://example.org/x#y).
 `high::quadrupled` (`value`, `boxed`) and (proved: `low::Boxed::doubled`, `even`; `high::quadrupled`, `value`).
 It is doubled (`low::Boxed::doubled`, `even`, over any box).
-`low/specs/Number.antt`, `counter.block`, `crates/rvstm/out/rvstm`, `rvstm-tools preview`, `docs/check --calls low`.
+`low/specs/Number.antt`, `counter.block`, `crates/rvstm/out/rvstm`, `rvstm-tools preview`, `docs/check --calls low`,
+`rvstm-developers kills`.
 `docs/check --reading high::quadrupled value` lists 16 lines in 2 files.
 
     $ cd examples/counter
@@ -35,6 +36,7 @@ WRONG = {
     ("(guide.md#twice-1)", "(gone.md#twice-1)"): "the link gone.md#twice-1 leads nowhere",
     ("(#guide)", "(#other)"): "the link #other leads to no heading",
     ("rvstm-tools preview", "rvstm-tools peruse"): "rvstm-tools has no command peruse",
+    ("rvstm-developers kills", "rvstm-developers kisses"): "rvstm-developers has no command kisses",
     ("--calls low", "--cells low"): "docs/check has no option --cells",
     ("lists 16 lines in 2 files", "lists 17 lines in 2 files"): "--reading high::quadrupled value lists 16 lines in 2 files, not 17 in 2",
     ("value after low", "values after low"): (

@@ -8,7 +8,7 @@ from unit import TOP
 IMPORT = re.compile(r"^\s*(?:from|import) (\w+)", re.M)
 MAY_USE = {
     "tools/rvstm_tools": {"rvstm_tools"},
-    "docs": {"rvstm_tools", "checks", "refusals"},
+    "docs": {"rvstm_tools", "rvstm_developers", "checks", "refusals"},
     "tools/rvstm_developers": {"rvstm_tools", "rvstm_developers"},
     "tests/gate": {"rvstm_tools", "rvstm_developers", "gate", "embed"},
 }
