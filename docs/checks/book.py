@@ -6,7 +6,7 @@ from collections.abc import Iterator, Sequence
 from dataclasses import dataclass
 
 from checks import definitions, reading, sources
-from checks.citations import Cited, CitationPlace
+from checks.citations import CitationPlace, Cited
 from checks.definitions import Type
 from checks.reading import AskedCall, Module, Reading, ReadingRow
 

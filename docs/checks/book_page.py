@@ -8,7 +8,7 @@ from html import escape
 
 from checks import book, citations, definitions, reading, sources
 from checks.book import Book, BookEntry, Names
-from checks.citations import Cited, CitationPlace
+from checks.citations import CitationPlace, Cited
 from checks.definitions import Type
 from checks.reading import AskedCall, ReadingRow
 

@@ -15,7 +15,7 @@ from typing import TypeVar
 
 from checks import sources
 from checks.calls import PublicCall, split_types
-from checks.definitions import GHOST_FIELD, TypeKind, Type, types
+from checks.definitions import GHOST_FIELD, Type, TypeKind, types
 from checks.items import items
 
 WORD = re.compile(r"(?:^|(?<=[\s(){}\[\];,λ]))[^\s(){}\[\];,.λ]+", re.M)

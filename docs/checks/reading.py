@@ -12,7 +12,7 @@ from pathlib import Path
 
 from checks import calls, sources
 from checks.calls import PublicCall
-from checks.citations import Cited, CitationPlace, citations, cited_by_call, closure
+from checks.citations import CitationPlace, Cited, citations, cited_by_call, closure
 from checks.definitions import Type, places
 from rvstm_tools.errors import MisuseError
 

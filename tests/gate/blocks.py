@@ -9,8 +9,8 @@ from pathlib import Path
 
 from gate.calls import command, tool_words
 from gate.library import STRICT, folder
-from gate.runner import TOP, Case, Run, Tool, holds, same
 from gate.outside import FOLDER, last_lines
+from gate.runner import TOP, Case, Run, Tool, holds, same
 from gate.texts import field, storage
 
 EXAMPLES, COUNTER = TOP / "examples/state", TOP / "examples/counter/counter.elf"

@@ -7,8 +7,8 @@ import signal
 import time
 from pathlib import Path
 
-from gate.runner import Case, Run, holds, same
 from gate.clients import NO_DIGEST, ClientSession, asks
+from gate.runner import Case, Run, holds, same
 
 COPIES = 12
 LONGEST_WAIT = 1.3  # at most, from a frame to a stop, in times of what a frame lasts

@@ -3,9 +3,9 @@
 from pathlib import Path
 
 from gate.calls import Word, command, rvstm
-from gate.runner import Case, Run, holds, same, shown
 from gate.clients import ClientSession, asks, name_of
 from gate.many import CALL, FORTY, KEY, value
+from gate.runner import Case, Run, holds, same, shown
 from gate.tables import has_pieces, table
 from gate.texts import written
 

@@ -8,8 +8,8 @@ from functools import partial
 from pathlib import Path
 
 from gate.calls import command, tool_words
-from gate.runner import TOP, Case, Run, Tool, holds, same
 from gate.outside import last_lines
+from gate.runner import TOP, Case, Run, Tool, holds, same
 from gate.texts import written
 
 EMBED, TOKEN, INCLUDE = TOP / "examples/embed", TOP / "examples/token", TOP / "include"

@@ -13,8 +13,8 @@ from functools import partial
 from pathlib import Path
 
 from gate.calls import command
-from gate.runner import CONTRACTS, TOP, Case, Lacks, Run, holds, same
 from gate.outside import last_lines
+from gate.runner import CONTRACTS, TOP, Case, Lacks, Run, holds, same
 from rvstm_developers.models.sessions import NO_DIGEST, SessionModel
 from rvstm_tools.programs.running import Program
 from rvstm_tools.sessions import answers, requests

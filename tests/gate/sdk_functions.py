@@ -14,8 +14,8 @@ from functools import partial
 from pathlib import Path
 
 from gate.calls import command, rvstm
-from gate.runner import TOP, Case, Lacks, Run, Tool, holds, same
 from gate.rows import MAKEFILE, NEEDS, batches
+from gate.runner import TOP, Case, Lacks, Run, Tool, holds, same
 from gate.texts import GivenCall, block, receipts, written
 
 FUNCTIONS = TOP / "tests/gate/sdk_functions.c"

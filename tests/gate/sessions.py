@@ -11,8 +11,8 @@ from pathlib import Path
 
 from gate.calls import Word, command, tool_words
 from gate.clients import NO_DIGEST, ClientSession, asks, done, frame_of, name_of, refused
-from gate.runner import TOP, Case, Lacks, Run, Tool, holds, same, shown
 from gate.outside import FOLDER, last_lines
+from gate.runner import TOP, Case, Lacks, Run, Tool, holds, same, shown
 
 COUNTER = TOP / "examples/counter"
 KEY, ZEROS, LAST_KEY = f"{1:064x}", "0" * 64, "f" * 64

@@ -9,9 +9,9 @@ from pathlib import Path
 from typing import Any
 
 from gate.calls import EndedCommand, rvstm
-from gate.runner import TOP, Case, Run, holds, same, shown
 from gate.clients import ClientSession, asks
 from gate.outside import program_of
+from gate.runner import TOP, Case, Run, holds, same, shown
 
 FOLDER = TOP / "tests/tables"
 

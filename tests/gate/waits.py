@@ -9,9 +9,9 @@ from pathlib import Path
 
 from gate.runner import same
 from rvstm_developers.models import waits
+from rvstm_tools.debugging.charges import StorageCall
 from rvstm_tools.debugging.replays import StorageReplay, StorageStep
 from rvstm_tools.debugging.sessions import CallOf
-from rvstm_tools.debugging.charges import StorageCall
 from rvstm_tools.programs.running import Program
 from rvstm_tools.texts import results
 from rvstm_tools.texts.keys import Key

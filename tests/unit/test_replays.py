@@ -4,12 +4,11 @@ import sys
 import unittest
 from pathlib import Path
 
-from rvstm_tools.debugging import replays, traces
+from rvstm_tools.debugging import charges, replays, traces
 from rvstm_tools.debugging.replays import Frame, StorageReplay, StorageStep, Turn
 from rvstm_tools.debugging.sessions import CallOf, Debugger, Place, place_of
 from rvstm_tools.debugging.sources import Inlined
 from rvstm_tools.errors import UserError
-from rvstm_tools.debugging import charges
 from rvstm_tools.texts import blockfiles
 from rvstm_tools.texts.blockfiles import CallHead
 from rvstm_tools.texts.keys import Key

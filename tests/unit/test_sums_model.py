@@ -6,11 +6,11 @@ import unittest
 from collections import Counter
 from pathlib import Path
 
-from rvstm_developers.models import inputs
-from rvstm_developers.models.machine import MachineBlock, MachineProgram
 from rvstm_developers.bench import slow_blocks, slow_sums
 from rvstm_developers.bench.blocks import FOLDER
 from rvstm_developers.bench.slow_blocks import Content
+from rvstm_developers.models import inputs
+from rvstm_developers.models.machine import MachineBlock, MachineProgram
 from rvstm_developers.texts import word
 from rvstm_tools.sessions.requests import Word
 from rvstm_tools.texts.blocks import CallLine

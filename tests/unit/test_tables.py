@@ -2,7 +2,7 @@
 
 import unittest
 
-from gate.tables import TableBlock, ChangedImage, Schedule, Table, has_pieces
+from gate.tables import ChangedImage, Schedule, Table, TableBlock, has_pieces
 
 
 class TablesTest(unittest.TestCase):

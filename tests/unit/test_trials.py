@@ -3,12 +3,12 @@
 import unittest
 from unittest import mock
 
-from rvstm_developers.trials import random_words, stress
 from rvstm_developers.models import machine
 from rvstm_developers.models.machine import MachineBlock, MachineProgram
 from rvstm_developers.stores import disks
 from rvstm_developers.stores.disks import FILE, SYNCED, Disk, Step
 from rvstm_developers.stores.files import Both
+from rvstm_developers.trials import random_words, stress
 from rvstm_tools.texts.blocks import CallLine
 from rvstm_tools.texts.keys import numbered_key
 from rvstm_tools.texts.results import End

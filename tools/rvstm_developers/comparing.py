@@ -5,9 +5,9 @@ import threading
 from collections.abc import Sequence
 from pathlib import Path
 
+from rvstm_developers import running
 from rvstm_developers.models import inputs
 from rvstm_developers.models.sessions import SessionModel
-from rvstm_developers import running
 from rvstm_tools.errors import UserError
 from rvstm_tools.programs.pipes import Ended
 from rvstm_tools.programs.running import Program

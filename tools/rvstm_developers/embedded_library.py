@@ -5,8 +5,8 @@ from collections.abc import Sequence
 from dataclasses import dataclass
 from pathlib import Path
 
-from rvstm_developers.models.sessions import HIGHEST
 from rvstm_developers import running
+from rvstm_developers.models.sessions import HIGHEST
 from rvstm_developers.texts import TOP
 from rvstm_tools.errors import UserError
 from rvstm_tools.programs.pipes import Pipes

@@ -11,7 +11,7 @@ from typing import Protocol
 
 from rvstm_developers import options, texts
 from rvstm_developers.bench import blocks, commits, processes, tables
-from rvstm_developers.bench.blocks import TimedCall, TimedBlock
+from rvstm_developers.bench.blocks import TimedBlock, TimedCall
 from rvstm_developers.bench.pictures import COLOURS, LinePicture, Point
 from rvstm_developers.texts import TOP, word
 from rvstm_tools.errors import UserError

@@ -6,7 +6,7 @@ from pathlib import Path
 
 from rvstm_developers import options, running, texts
 from rvstm_developers.bench import blocks, tables
-from rvstm_developers.bench.blocks import FOLDER, RULES, SPEED_PROGRAMS, TimedCall, TimedBlock
+from rvstm_developers.bench.blocks import FOLDER, RULES, SPEED_PROGRAMS, TimedBlock, TimedCall
 from rvstm_developers.running import Word
 from rvstm_tools.errors import UserError
 from rvstm_tools.options import Command

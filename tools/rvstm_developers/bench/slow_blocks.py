@@ -6,8 +6,8 @@ from dataclasses import dataclass, field
 from enum import Enum
 from pathlib import Path
 
-from rvstm_developers import machine_code as code
 from rvstm_developers import texts
+from rvstm_developers import machine_code as code
 from rvstm_developers.bench import slow_programs
 from rvstm_developers.machine_code import PAGE, WORD, FileSegment
 from rvstm_developers.texts import word

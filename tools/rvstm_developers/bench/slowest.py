@@ -5,11 +5,11 @@ from collections.abc import Callable, Sequence
 from dataclasses import dataclass
 from pathlib import Path
 
-from rvstm_developers import options as shared_options
 from rvstm_developers import texts
+from rvstm_developers import options as shared_options
 from rvstm_developers.bench import blocks, slow_sessions, tables
 from rvstm_developers.bench.processes import Spent, sound, timed
-from rvstm_developers.bench.slow_blocks import BLOCKS, CHAIN, CHAIN_4, GAS, SEQ, SlowBlock, Content, Share, endless, used_up, write_block
+from rvstm_developers.bench.slow_blocks import BLOCKS, CHAIN, CHAIN_4, GAS, SEQ, Content, Share, SlowBlock, endless, used_up, write_block
 from rvstm_tools.errors import MisuseError
 from rvstm_tools.options import Command, argument
 

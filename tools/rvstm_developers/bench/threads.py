@@ -6,7 +6,7 @@ from pathlib import Path
 
 from rvstm_developers import options, texts
 from rvstm_developers.bench import blocks, processes, tables
-from rvstm_developers.bench.blocks import FOLDER, SPEED_PROGRAMS, TimedCall, TimedBlock
+from rvstm_developers.bench.blocks import FOLDER, SPEED_PROGRAMS, TimedBlock, TimedCall
 from rvstm_developers.bench.pictures import COLOURS, LinePicture, Point
 from rvstm_developers.running import Word
 from rvstm_tools.options import Command, argument

@@ -3,8 +3,8 @@
 from collections.abc import Sequence
 from pathlib import Path
 
-from rvstm_developers.embedded_library import ARCHIVE
 from rvstm_developers import running
+from rvstm_developers.embedded_library import ARCHIVE
 from rvstm_developers.running import Word
 from rvstm_developers.texts import TOP
 from rvstm_tools.errors import UserError

@@ -4,7 +4,7 @@ from pathlib import Path
 
 from rvstm_developers.sources.causes import ALLOCATING, AREAS, CAUSE, KINDS, NAMED, RESULTS, RULES, SIZE, CauseKind
 from rvstm_developers.sources.rattle import Group, words
-from rvstm_developers.sources.uses import Around, RattleFunction, How, Use, Uses, call_name, is_pattern, is_token, last_call, text_of
+from rvstm_developers.sources.uses import Around, How, RattleFunction, Use, Uses, call_name, is_pattern, is_token, last_call, text_of
 from rvstm_developers.texts import TOP
 from rvstm_tools.options import Command, argument
 

@@ -4,8 +4,8 @@ from collections.abc import Iterator, Sequence
 from pathlib import Path
 from random import Random
 
-from rvstm_developers.drawing import programs
 from rvstm_developers import texts
+from rvstm_developers.drawing import programs
 from rvstm_tools.errors import UserError
 from rvstm_tools.texts.blocks import CallLine
 from rvstm_tools.texts.keys import Key, key_of

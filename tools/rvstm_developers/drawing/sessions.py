@@ -6,8 +6,8 @@ from dataclasses import dataclass
 from pathlib import Path
 from random import Random
 
-from rvstm_developers.models.sessions import HIGHEST
 from rvstm_developers import texts
+from rvstm_developers.models.sessions import HIGHEST
 from rvstm_tools.sessions import frames, requests
 from rvstm_tools.sessions.processes import LONGEST_FRAME, Settings
 from rvstm_tools.sessions.requests import WITH_BODY, Request, Word

@@ -3,8 +3,8 @@
 import functools
 from collections.abc import Callable
 
-from rvstm_developers.models.machine import MEMORY_END, TEXT, MachineBlock, MachineProgram
 from rvstm_developers.machine_code import PAGE
+from rvstm_developers.models.machine import MEMORY_END, TEXT, MachineBlock, MachineProgram
 from rvstm_developers.texts import word
 from rvstm_tools.debugging.charges import StorageCall
 from rvstm_tools.texts.blocks import CallLine, Rules

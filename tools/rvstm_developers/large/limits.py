@@ -5,10 +5,10 @@ from collections.abc import Callable, Iterable, Mapping
 from typing import NamedTuple
 
 from rvstm_developers.large.blocks import COUNT, LONGEST_PROGRAM, MOST_GAS, count
+from rvstm_developers.machine_code import EXECUTE, READ, ElfPart, elf_of
 from rvstm_developers.models.inputs import Fault
 from rvstm_developers.models.machine import TEXT, MachineBlock
 from rvstm_developers.models.sessions import HIGHEST
-from rvstm_developers.machine_code import EXECUTE, READ, ElfPart, elf_of
 from rvstm_developers.texts import HEADS, head_of
 from rvstm_tools.sessions import answers, frames, requests
 from rvstm_tools.sessions.answers import Answer, Done

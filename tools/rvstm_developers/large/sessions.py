@@ -6,12 +6,12 @@ from collections.abc import Callable, Iterable
 from dataclasses import dataclass
 from pathlib import Path
 
+from rvstm_developers import texts
 from rvstm_developers.large import blocks as large_blocks
 from rvstm_developers.large.blocks import COUNT, LAST, LONGEST_PROGRAM, MOST_GAS, MOST_PROGRAMS, count, each
 from rvstm_developers.models import sessions
 from rvstm_developers.models.machine import MachineBlock, MachineProgram
 from rvstm_developers.models.sessions import Left, Ran
-from rvstm_developers import texts
 from rvstm_tools.debugging.charges import StorageCall
 from rvstm_tools.programs import running
 from rvstm_tools.sessions import answers, frames, requests

@@ -4,13 +4,13 @@ import functools
 import math
 from typing import NamedTuple
 
+from rvstm_developers import texts
 from rvstm_developers.large import blocks
 from rvstm_developers.large.blocks import COUNT, LONGEST_PROGRAM, count
 from rvstm_developers.large.limits import Make, Trial
-from rvstm_developers.models import machine
-from rvstm_developers.models.machine import DATA, TEXT, MachineBlock, MachineCall, Instruction
-from rvstm_developers import texts
 from rvstm_developers.machine_code import EXECUTE, READ, WRITE, ElfPart, elf_of
+from rvstm_developers.models import machine
+from rvstm_developers.models.machine import DATA, TEXT, Instruction, MachineBlock, MachineCall
 from rvstm_tools.texts.keys import numbered_key as key
 
 TEXT_WORDS, DATA_BYTES = 16_384, 61_440  # of a source at most

@@ -6,10 +6,10 @@ import re
 from collections.abc import Iterable, Mapping, Sequence
 from typing import NamedTuple, Self
 
-from rvstm_developers.models import waits
-from rvstm_developers import machine_code as code
 from rvstm_developers import texts
+from rvstm_developers import machine_code as code
 from rvstm_developers.machine_code import EXECUTE, PAGE, READ, WRITE, ElfPart, elf_of
+from rvstm_developers.models import waits
 from rvstm_developers.texts import word
 from rvstm_tools.debugging import charges
 from rvstm_tools.debugging.charges import StorageCall

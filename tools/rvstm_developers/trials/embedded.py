@@ -5,12 +5,11 @@ from collections.abc import Iterator, Sequence
 from pathlib import Path
 from random import Random
 
-from rvstm_developers import embedded_library
+from rvstm_developers import embedded_library, options, texts
 from rvstm_developers.drawing import programs, sessions
 from rvstm_developers.embedded_library import CLOSE, LETTERS, OPEN, OPEN_WITH, Called, Library, LibraryStatus
 from rvstm_developers.models.inputs import Fault
 from rvstm_developers.models.sessions import HIGHEST
-from rvstm_developers import options, texts
 from rvstm_developers.texts import TOP
 from rvstm_tools.errors import UserError
 from rvstm_tools.options import Command

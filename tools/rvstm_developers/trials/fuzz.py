@@ -12,10 +12,9 @@ from dataclasses import dataclass
 from pathlib import Path
 from random import Random
 
-from rvstm_developers import comparing
+from rvstm_developers import comparing, options, texts
 from rvstm_developers.drawing import programs
 from rvstm_developers.models import inputs
-from rvstm_developers import options, texts
 from rvstm_developers.running import Word
 from rvstm_developers.texts import TOP
 from rvstm_tools.options import Command, argument

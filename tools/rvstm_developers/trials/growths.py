@@ -6,11 +6,10 @@ from dataclasses import dataclass
 from pathlib import Path
 from typing import NamedTuple
 
-from rvstm_developers import comparing
+from rvstm_developers import comparing, options, running, texts
 from rvstm_developers.models.sessions import Known, SessionModel
-from rvstm_developers.stores.files import answers_of
-from rvstm_developers import options, running, texts
 from rvstm_developers.running import Word
+from rvstm_developers.stores.files import answers_of
 from rvstm_developers.texts import TOP
 from rvstm_tools.options import Command, argument
 from rvstm_tools.programs import finding

@@ -11,12 +11,12 @@ from pathlib import Path
 from random import Random
 from typing import IO
 
+from rvstm_developers import options, texts
 from rvstm_developers.drawing import blocks, sessions
 from rvstm_developers.models import inputs
 from rvstm_developers.models.inputs import Fault
 from rvstm_developers.stores import files
 from rvstm_developers.stores.files import QUESTIONS
-from rvstm_developers import options, texts
 from rvstm_tools import options as shared_options
 from rvstm_tools.options import Command, argument
 from rvstm_tools.programs.pipes import Ended

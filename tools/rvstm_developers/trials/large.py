@@ -9,11 +9,11 @@ from dataclasses import dataclass
 from pathlib import Path
 from typing import NamedTuple
 
+from rvstm_developers import options, texts
 from rvstm_developers.large import blocks, limits, sessions
 from rvstm_developers.large import texts as long_texts
 from rvstm_developers.large.limits import USUAL_STACK, Trial
 from rvstm_developers.models.machine import MachineBlock
-from rvstm_developers import options, texts
 from rvstm_tools.options import Command, argument
 from rvstm_tools.texts import differences
 

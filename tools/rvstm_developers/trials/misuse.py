@@ -2,9 +2,8 @@ import argparse
 import shutil
 import sys
 
-from rvstm_developers import blocks
+from rvstm_developers import blocks, options, running, texts
 from rvstm_developers.blocks import FOLDER
-from rvstm_developers import options, running, texts
 from rvstm_tools.options import Command, argument
 
 SANITIZERS = ("-fsanitize=address,undefined", "-fno-sanitize-recover=all")

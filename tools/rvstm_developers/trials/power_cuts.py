@@ -8,11 +8,11 @@ from pathlib import Path
 from random import Random
 from typing import Protocol, TypeVar
 
+from rvstm_developers import options, running, texts
 from rvstm_developers.drawing import blocks, sessions
 from rvstm_developers.stores import disks, files
 from rvstm_developers.stores.disks import FILE, OUTPUT, Disk, Step
 from rvstm_developers.stores.files import Both
-from rvstm_developers import options, running, texts
 from rvstm_tools import options as shared_options
 from rvstm_tools.errors import UserError
 from rvstm_tools.options import Command, argument

@@ -10,8 +10,8 @@ from dataclasses import dataclass, field
 from pathlib import Path
 from random import Random
 
-from rvstm_developers.drawing import words
 from rvstm_developers import options, running, texts
+from rvstm_developers.drawing import words
 from rvstm_developers.machine_code import BRANCHES, WIDTHS
 from rvstm_tools.debugging import charges
 from rvstm_tools.errors import UserError

@@ -8,8 +8,7 @@ from collections.abc import Iterable, Sequence
 from pathlib import Path
 from typing import NamedTuple
 
-from rvstm_developers import blocks
-from rvstm_developers import options, running, texts
+from rvstm_developers import blocks, options, running, texts
 from rvstm_developers.bench import tables
 from rvstm_developers.running import Word
 from rvstm_developers.texts import TOP, word

@@ -7,9 +7,9 @@ from dataclasses import dataclass
 from pathlib import Path
 from random import Random
 
+from rvstm_developers import options, running, texts
 from rvstm_developers.stores import files
 from rvstm_developers.stores.files import Both
-from rvstm_developers import options, running, texts
 from rvstm_tools import options as shared_options
 from rvstm_tools.errors import UserError
 from rvstm_tools.options import Command, argument

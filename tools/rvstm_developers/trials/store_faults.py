@@ -14,9 +14,9 @@ from random import Random
 from subprocess import Popen
 from typing import NamedTuple
 
+from rvstm_developers import options, texts
 from rvstm_developers.stores import files
 from rvstm_developers.stores.files import NAMES, PLAIN, Both, Statement
-from rvstm_developers import options, texts
 from rvstm_tools import options as shared_options
 from rvstm_tools.errors import UserError
 from rvstm_tools.options import Command

@@ -10,9 +10,8 @@ from dataclasses import dataclass
 from pathlib import Path
 from random import Random
 
-from rvstm_developers import comparing
+from rvstm_developers import comparing, options, running, texts
 from rvstm_developers.drawing import blocks, sessions
-from rvstm_developers import options, running, texts
 from rvstm_tools.options import Command, argument
 from rvstm_tools.programs.pipes import Ended
 from rvstm_tools.programs.running import temporary_file

@@ -3,12 +3,11 @@ import os
 from pathlib import Path
 
 from rvstm_tools import options
-from rvstm_tools.debugging import traces
+from rvstm_tools.debugging import charges, traces
 from rvstm_tools.debugging.replays import StorageReplay
 from rvstm_tools.debugging.sessions import CallOf
 from rvstm_tools.debugging.traces import Places
 from rvstm_tools.errors import Status, UserError
-from rvstm_tools.debugging import charges
 from rvstm_tools.options import Command, argument
 from rvstm_tools.pictures import flames
 from rvstm_tools.programs import finding, running

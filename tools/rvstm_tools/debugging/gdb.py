@@ -4,7 +4,7 @@ import enum
 from collections.abc import Callable, Sequence
 from typing import NamedTuple
 
-from rvstm_tools.debugging.moments import DebuggedCall, MemorySearch, Hits, InterruptedMove, MomentSearch, Stop, Watched, is_watchable
+from rvstm_tools.debugging.moments import DebuggedCall, Hits, InterruptedMove, MemorySearch, MomentSearch, Stop, Watched, is_watchable
 from rvstm_tools.debugging.packets import Wire
 from rvstm_tools.texts.results import End
 

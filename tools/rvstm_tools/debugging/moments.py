@@ -13,10 +13,10 @@ from typing import NamedTuple
 
 from rvstm_tools import errors
 from rvstm_tools.debugging import coverage, replays, sources
+from rvstm_tools.debugging.charges import StorageCall
 from rvstm_tools.debugging.sessions import LINES_AT_ONCE, MOST_BYTES, REFUSED, CallOf, Debugger, place_of
 from rvstm_tools.debugging.sources import Chains
 from rvstm_tools.errors import UserError
-from rvstm_tools.debugging.charges import StorageCall
 from rvstm_tools.programs.elf import ElfFile
 from rvstm_tools.programs.running import Program
 from rvstm_tools.texts import blockfiles, shown, words

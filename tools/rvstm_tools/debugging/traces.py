@@ -5,10 +5,9 @@ import sys
 from collections.abc import Iterator, Sequence
 
 from rvstm_tools import errors
-from rvstm_tools.debugging import sources
+from rvstm_tools.debugging import charges, sources
 from rvstm_tools.debugging.replays import ECALL, Frame, StorageReplay
 from rvstm_tools.debugging.sources import Inlined
-from rvstm_tools.debugging import charges
 from rvstm_tools.pictures import flames
 from rvstm_tools.pictures.flames import Bar
 from rvstm_tools.programs.elf import ElfFile

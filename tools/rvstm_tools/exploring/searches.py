@@ -20,7 +20,7 @@ from rvstm_tools.exploring import runs
 from rvstm_tools.exploring import saved as saving
 from rvstm_tools.exploring.descriptions import Description
 from rvstm_tools.exploring.reached import Sample, Sampler
-from rvstm_tools.exploring.runs import Broken, DrawnCall, Counted, SequenceRun
+from rvstm_tools.exploring.runs import Broken, Counted, DrawnCall, SequenceRun
 from rvstm_tools.exploring.saved import SavedCall
 
 LENGTH = 100  # calls of a sequence, if no other number is asked for
