@@ -1,4 +1,4 @@
-/* Commits changes to a session's file by SQLite's own library: bench/chain --store has it beside rvstm.
+/* Commits changes to a session's file by SQLite's own library: rvstm-developers chain --store has it beside rvstm.
 
    usage: commits FILE ROWS SYNCS
 

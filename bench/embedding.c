@@ -1,5 +1,5 @@
 /*
- * Blocks by the library, for bench/embedding: by its calls for blocks over the caller's own storage, with a hash table as the database,
+ * Blocks by the library, for rvstm-developers embedding: by its calls for blocks over the caller's own storage, with a hash table as the database,
  * and by rvstm_frame.
  *
  * usage: embedding PROGRAM START FRAME, with a frame that has the storage, and one that has the calls. For each line `block` or `frame`

@@ -1,4 +1,4 @@
-# Made by tools/developers/tool-pages. Completes the commands, options and files of rvstm-tools in bash: source completions/rvstm-tools.bash
+# Made by rvstm-developers tool-pages. Completes the commands, options and files of rvstm-tools in bash: source completions/rvstm-tools.bash
 _rvstm_tools() {
     local word=${COMP_WORDS[COMP_CWORD]} options=""
     if [ "$COMP_CWORD" = 1 ]; then

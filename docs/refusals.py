@@ -31,13 +31,13 @@ class Enumeration:
 
 
 @dataclass(frozen=True)
-class Refusal:
+class RefusalRow:
     message: str
     when: str
 
 
 @dataclass(frozen=True)
-class Parts:
+class RefusalParts:
     """The area, the name and the number of a refusal. The area is empty if the source does not have it beside the name."""
 
     area: str
@@ -64,17 +64,17 @@ ENUMERATIONS = (
 
 
 @functools.cache
-def printed(crate: str) -> dict[str, Parts]:
+def printed(crate: str) -> dict[str, RefusalParts]:
     """What the variants of a crate's enumerations print, by `Enumeration::Variant`. A name alone has an empty number."""
-    found: dict[str, Parts] = {}
+    found: dict[str, RefusalParts] = {}
     for path in sorted((CRATES / crate / "src").glob("*.rt")):
         text = path.read_text(encoding="utf-8")
-        found |= {match["variant"]: Parts("", match["name"], "") for match in NAME.finditer(text)}
-        found |= {match["variant"]: Parts(match["area"], match["name"], match["number"]) for match in PARTS.finditer(text)}
+        found |= {match["variant"]: RefusalParts("", match["name"], "") for match in NAME.finditer(text)}
+        found |= {match["variant"]: RefusalParts(match["area"], match["name"], match["number"]) for match in PARTS.finditer(text)}
     return found
 
 
-def message_of(before: str, parts: Parts) -> str:
+def message_of(before: str, parts: RefusalParts) -> str:
     if parts.name == WITHOUT_LINE:
         before = before.removesuffix(" N")
     elif parts.name in ANSWERS_OF_DEBUG:
@@ -82,7 +82,7 @@ def message_of(before: str, parts: Parts) -> str:
     return " ".join(word for word in (before, parts.area, parts.name, parts.number) if word)
 
 
-def refusals(enumeration: Enumeration) -> Iterator[Refusal]:
+def refusals(enumeration: Enumeration) -> Iterator[RefusalRow]:
     """The refusals of an enumeration, in its order. A variant that holds another enumeration prints what that one does, and is left out."""
     names = printed(enumeration.file.partition("/")[0])
     _, _, after = (CRATES / enumeration.file).read_text(encoding="utf-8").partition(f"pub enum {enumeration.name} {{\n")
@@ -91,7 +91,7 @@ def refusals(enumeration: Enumeration) -> Iterator[Refusal]:
         variant = VARIANT.match(line)
         if variant and not variant["held"]:
             parts = names[f"{enumeration.name}::{variant['name']}"]
-            yield Refusal(message_of(enumeration.before, Parts(parts.area, parts.name, variant["number"] or parts.number)), " ".join(comment))
+            yield RefusalRow(message_of(enumeration.before, RefusalParts(parts.area, parts.name, variant["number"] or parts.number)), " ".join(comment))
         comment = [*comment, line.strip().removeprefix("/// ")] if line.strip().startswith("///") else []
 
 

@@ -6,9 +6,9 @@ from collections.abc import Iterator, Sequence
 from dataclasses import dataclass
 
 from checks import definitions, reading, sources
-from checks.citations import Cited, Place
+from checks.citations import CitationPlace, Cited
 from checks.definitions import Type
-from checks.reading import Asked, Module, Reading, Row
+from checks.reading import AskedCall, Module, Reading, ReadingRow
 
 WIDTH = 100
 SEEN = {
@@ -21,7 +21,7 @@ LEFT_OUT = "left out, since no clause of this book cites it: "
 
 
 @dataclass(frozen=True)
-class Entry:
+class BookEntry:
     """A definition of a book, with the comment and the `infix` lines above it."""
 
     cited: Cited
@@ -57,7 +57,7 @@ class Book:
         """The names of the kit that the book has."""
         found = dict[Module, set[str]]()
         for cited in self.reading.cited:
-            if cited.kind is Place.KIT:
+            if cited.kind is CitationPlace.KIT:
                 found.setdefault(reading.module_of(cited), set()).add(cited.name)
         return [Names(module, tuple(sorted(found[module]))) for module in self.reading.modules]
 
@@ -66,11 +66,11 @@ def book_of(words: Sequence[str]) -> Book:
     return Book(reading.reading_of(words))
 
 
-def title_of(asked: Asked) -> str:
+def title_of(asked: AskedCall) -> str:
     return asked.call.full_name + (f" ({', '.join(asked.named)})" if asked.named else "")
 
 
-def contract_of(asked: Asked) -> str:
+def contract_of(asked: AskedCall) -> str:
     """The comment, the arguments and the clauses of a call that a book is about, as its source has them."""
     call = asked.call
     kept = [clause for clause in call.clauses if clause.kind == "requires" or not asked.clauses or clause.name in asked.clauses]
@@ -81,10 +81,10 @@ def contract_of(asked: Asked) -> str:
     return textwrap.dedent("\n".join(lines))
 
 
-def entries_of(row: Row) -> list[Entry]:
+def entries_of(row: ReadingRow) -> list[BookEntry]:
     """The definitions of a file that a book has, in the order of the file."""
     lines, held = sources.lines_of(row.file), definitions.places(row.file)
-    return [Entry(Cited(Place.DEFINITION, row.file, name), "\n".join(lines[at] for at in held[name])) for name in row.cited]
+    return [BookEntry(Cited(CitationPlace.DEFINITION, row.file, name), "\n".join(lines[at] for at in held[name])) for name in row.cited]
 
 
 def seen_of(held: Type) -> Iterator[tuple[str, str]]:
@@ -105,7 +105,7 @@ def filled(text: str) -> list[str]:
     return textwrap.wrap(text, WIDTH, break_long_words=False, break_on_hyphens=False)
 
 
-def file_lines(number: int, row: Row) -> Iterator[str]:
+def file_lines(number: int, row: ReadingRow) -> Iterator[str]:
     yield from heading(f"{number}  {row.file}, {row.read} of {row.lines} lines")
     yield from [f"-- {line}".rstrip() for line in definitions.head_comment(row.file)]
     for entry in entries_of(row):

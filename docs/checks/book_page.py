@@ -7,32 +7,38 @@ from dataclasses import dataclass, field
 from html import escape
 
 from checks import book, citations, definitions, reading, sources
-from checks.book import Book, Entry, Names
-from checks.citations import Cited, Place
+from checks.book import Book, BookEntry, Names
+from checks.citations import CitationPlace, Cited
 from checks.definitions import Type
-from checks.reading import Asked, Row
+from checks.reading import AskedCall, ReadingRow
 
 TOKEN = re.compile(r"[^\s(){}\[\];,λ]+")
 RUST_WORD = re.compile(r"\b([A-Z]\w*)\b")
 FIELD = re.compile(r"[{;]\s*$")
 STYLE = """
-:root { --text: #1c2024; --quiet: #60646c; --line: #dcdfe3; --code: #f6f7f9; --link: #0b5cad; --kit: #7a4a00; --type: #0f6e56; }
+:root { --text: #1c2024; --quiet: #60646c; --line: #dcdfe3; --code: #f6f7f9; --link: #0b5cad; --kit: #7a4a00;
+        --type: #0f6e56; }
 * { box-sizing: border-box; }
 html { scroll-padding-top: 1rem; }
-body { margin: 0; color: var(--text); background: #fff; font: 16px/1.55 system-ui, "Segoe UI", "DejaVu Sans", sans-serif; }
-nav { position: fixed; top: 0; bottom: 0; left: 0; width: 19rem; overflow-y: auto; padding: 1.2rem 1rem 2rem; border-right: 1px solid var(--line);
+body { margin: 0; color: var(--text); background: #fff;
+       font: 16px/1.55 system-ui, "Segoe UI", "DejaVu Sans", sans-serif; }
+nav { position: fixed; top: 0; bottom: 0; left: 0; width: 19rem; overflow-y: auto; padding: 1.2rem 1rem 2rem;
+      border-right: 1px solid var(--line);
       background: #fbfcfd; font-size: 0.84rem; line-height: 1.45; }
-nav h2 { font-size: 0.74rem; letter-spacing: 0.06em; text-transform: uppercase; color: var(--quiet); margin: 1.3rem 0 0.4rem; border: 0; padding: 0; }
+nav h2 { font-size: 0.74rem; letter-spacing: 0.06em; text-transform: uppercase; color: var(--quiet);
+         margin: 1.3rem 0 0.4rem; border: 0; padding: 0; }
 nav ol, nav ul { margin: 0; padding: 0; list-style: none; }
 nav li { display: flex; gap: 0.5rem; justify-content: space-between; overflow-wrap: anywhere; }
 nav li span { color: var(--quiet); flex: none; }
 main { margin-left: 19rem; padding: 1.6rem 2.4rem 6rem; max-width: 74rem; }
 h1 { font-size: 1.7rem; line-height: 1.25; margin: 0 0 0.4rem; overflow-wrap: anywhere; }
-h2 { font-size: 1.2rem; margin: 3rem 0 0.6rem; padding-top: 0.9rem; border-top: 1px solid var(--line); overflow-wrap: anywhere; }
+h2 { font-size: 1.2rem; margin: 3rem 0 0.6rem; padding-top: 0.9rem; border-top: 1px solid var(--line);
+     overflow-wrap: anywhere; }
 h3 { font-size: 1rem; margin: 1.8rem 0 0.3rem; }
 p { margin: 0.4rem 0; max-width: 62rem; }
 .quiet { color: var(--quiet); font-size: 0.86rem; }
-pre { margin: 0.3rem 0; padding: 0.6rem 0.8rem; background: var(--code); border-radius: 6px; white-space: pre-wrap; overflow-wrap: anywhere;
+pre { margin: 0.3rem 0; padding: 0.6rem 0.8rem; background: var(--code); border-radius: 6px; white-space: pre-wrap;
+      overflow-wrap: anywhere;
       font: 0.84rem/1.5 "DejaVu Sans Mono", "JuliaMono", ui-monospace, Menlo, Consolas, monospace; }
 code { font: 0.88em "DejaVu Sans Mono", ui-monospace, Menlo, Consolas, monospace; }
 section.entry { margin: 1.3rem 0; }
@@ -45,13 +51,15 @@ pre a.kit, .key a.kit { color: var(--kit); }
 dl { margin: 0.5rem 0; }
 dt { color: var(--quiet); font-size: 0.86rem; margin-top: 0.4rem; }
 dd { margin: 0; }
-@media (max-width: 60rem) { nav { position: static; width: auto; border: 0; border-bottom: 1px solid var(--line); max-height: 40vh; } main { margin: 0; padding: 1rem; } }
+@media (max-width: 60rem) { nav { position: static; width: auto; border: 0; max-height: 40vh;
+    border-bottom: 1px solid var(--line); }
+    main { margin: 0; padding: 1rem; } }
 @media print { nav { display: none; } main { margin: 0; } }
 """
 
 
 def anchor(cited: Cited) -> str:
-    place = reading.module_of(cited).library + "." + reading.module_of(cited).name if cited.kind is Place.KIT else f"{cited.place}.{cited.name}"
+    place = reading.module_of(cited).library + "." + reading.module_of(cited).name if cited.kind is CitationPlace.KIT else f"{cited.place}.{cited.name}"
     return f"{cited.kind.value}-{re.sub(r'[^0-9A-Za-z_.◌]+', '-', place)}" + ("" if place.isascii() else f"-{abs(sum(map(ord, place)))}")
 
 
@@ -78,8 +86,8 @@ class Page:
         """A text, as a link if the book has what it refers to."""
         if cited not in self.held.reading.cited:
             return escape(text)
-        kind = {Place.KIT: "kit", Place.TYPE: "type", Place.DEFINITION: "definition"}[cited.kind]
-        where = f"{reading.module_of(cited).library} {reading.module_of(cited).name}" if cited.kind is Place.KIT else cited.place
+        kind = {CitationPlace.KIT: "kit", CitationPlace.TYPE: "type", CitationPlace.DEFINITION: "definition"}[cited.kind]
+        where = f"{reading.module_of(cited).library} {reading.module_of(cited).name}" if cited.kind is CitationPlace.KIT else cited.place
         return f'<a class="{kind}" href="#{anchor(cited)}" title="{escape(where)}">{escape(text)}</a>'
 
     def linked_token(self, token: str, names: Mapping[str, Cited]) -> str:
@@ -125,7 +133,7 @@ class Page:
 
     # ---- parts
 
-    def contract(self, asked: Asked) -> Iterator[str]:
+    def contract(self, asked: AskedCall) -> Iterator[str]:
         call = asked.call
         text = "\n".join(line for line in book.contract_of(asked).splitlines() if not line.startswith("///"))
         names = by_word(citations.names_in(call.path, sources.without_comments(text)))
@@ -133,16 +141,17 @@ class Page:
         yield f'<section class="entry"><p class="quiet">{escape(sources.shown(call.path))}, line {call.line}</p>'
         yield f"<p>{prose(' '.join(call.comment))}</p><pre>{self.linked_code(text, types, names)}</pre></section>"
 
-    def file(self, number: int, row: Row) -> Iterator[str]:
+    def file(self, number: int, row: ReadingRow) -> Iterator[str]:
         lines = f"{row.read} of {row.lines} lines" if row.rest else f"{row.lines} lines"
         yield f'<h2 id="{file_anchor(row.file)}">{number}&ensp;{escape(row.file)}</h2>'
         yield f'<p>{prose(" ".join(definitions.head_comment(row.file)))} <span class="quiet">({lines})</span></p>'
         for entry in book.entries_of(row):
             yield from self.entry(entry)
         if row.rest:
-            yield f'<p class="quiet">{escape(book.LEFT_OUT)}{", ".join(f"<code>{escape(name)}</code>" for name in row.rest)}</p>'
+            left = ", ".join(f"<code>{escape(name)}</code>" for name in row.rest)
+            yield f'<p class="quiet">{escape(book.LEFT_OUT)}{left}</p>'
 
-    def entry(self, entry: Entry) -> Iterator[str]:
+    def entry(self, entry: BookEntry) -> Iterator[str]:
         """A definition: its comment as text, its lines, and what uses it."""
         lines = entry.text.splitlines()
         notes = [line.removeprefix("--").strip() for line in lines if line.startswith("--")]
@@ -160,7 +169,7 @@ class Page:
         return f'<p class="quiet">used by {links}</p>' if users else ""
 
     def type(self, held: Type) -> Iterator[str]:
-        cited = Cited(Place.TYPE, held.crate, held.name)
+        cited = Cited(CitationPlace.TYPE, held.crate, held.name)
         ghost = "\n".join([*held.model.values(), *re.findall(r"ghost .*", held.code)])
         names = by_word(citations.names_in(held.path, sources.without_comments(ghost)))
         types = citations.code_names(held.path, held.code)
@@ -172,7 +181,7 @@ class Page:
 
     def kit(self, names: Names) -> Iterator[str]:
         module = names.module
-        cited = next(cited for cited in self.held.reading.cited if cited.kind is Place.KIT and reading.module_of(cited) == module)
+        cited = next(cited for cited in self.held.reading.cited if cited.kind is CitationPlace.KIT and reading.module_of(cited) == module)
         file = reading.kit_file(module)
         yield f'<section class="entry" id="{anchor(cited)}"><h3>{escape(module.library)} {escape(module.name)}</h3>'
         yield f'<p class="quiet">{escape(str(file))}</p>' if file else ""
@@ -186,7 +195,8 @@ class Page:
         yield f"<li><b>together</b><span>{held.lines:,}</span></li></ol>"
         yield "<h2>Types of the code</h2><ul>" if held.types else ""
         for entry in held.types:
-            yield f'<li><a href="#{anchor(Cited(Place.TYPE, entry.crate, entry.name))}">{escape(entry.name)}</a><span>{entry.crate}</span></li>'
+            place = anchor(Cited(CitationPlace.TYPE, entry.crate, entry.name))
+            yield f'<li><a href="#{place}">{escape(entry.name)}</a><span>{entry.crate}</span></li>'
         yield "</ul>" if held.types else ""
         yield '<h2>Of the kit</h2><ul><li><a href="#kit">modules</a></li></ul></nav>' if held.modules else "</nav>"
 

@@ -29,7 +29,7 @@ class Clause:
 
 
 @dataclass
-class Call:
+class PublicCall:
     """A public call, or a public type, of a crate."""
 
     crate: str
@@ -88,10 +88,10 @@ def split_types(text: str) -> list[str]:
     return [part.strip() for part in parts if part.strip()]
 
 
-def calls_in(path: Path) -> Iterator[Call]:
+def calls_in(path: Path) -> Iterator[PublicCall]:
     """Each call and type of a file that is public in its module. A name may come more than once: then its heads belong together."""
     crate, owner, of_trait = sources.crate_of(path), "", False
-    call: Call | None = None
+    call: PublicCall | None = None
     comment: list[str] = []
     for number, line in enumerate(sources.text_of(path).splitlines(), 1):
         if line == "}":
@@ -102,7 +102,7 @@ def calls_in(path: Path) -> Iterator[Call]:
         item = ITEM.match(line)
         if item and (item["name"] or (of_trait and len(item["indent"]) == 4)):
             name = (owner + "::" if item["indent"] else "") + (item["name"] or item["method"])
-            call = Call(crate, name, path, number, item["kind"] in ("fn", None), comment)
+            call = PublicCall(crate, name, path, number, item["kind"] in ("fn", None), comment)
             yield call
         elif PRIVATE.match(line):
             call = None
@@ -132,8 +132,8 @@ def exported(crate: str) -> frozenset[str] | None:
 
 
 @functools.cache
-def calls_of(crate: str) -> Mapping[str, Call]:
-    found, names = dict[str, Call](), exported(crate)
+def calls_of(crate: str) -> Mapping[str, PublicCall]:
+    found, names = dict[str, PublicCall](), exported(crate)
     made = [call for path in sources.source_files(crate) for call in calls_in(path)]
     for call in made:
         if names is not None and call.name.split("::")[0] not in names:
@@ -146,7 +146,7 @@ def calls_of(crate: str) -> Mapping[str, Call]:
     return found
 
 
-def call_of(full_name: str) -> Call | None:
+def call_of(full_name: str) -> PublicCall | None:
     """The public call or type of this name, such as `rv_isa::decode`; None if there is none."""
     crate, _, name = full_name.partition("::")
     return calls_of(crate).get(name) if crate in sources.crate_names() else None

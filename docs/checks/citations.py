@@ -14,8 +14,8 @@ from pathlib import Path
 from typing import TypeVar
 
 from checks import sources
-from checks.calls import Call, split_types
-from checks.definitions import GHOST_FIELD, Kind, Type, types
+from checks.calls import PublicCall, split_types
+from checks.definitions import GHOST_FIELD, Type, TypeKind, types
 from checks.items import items
 
 WORD = re.compile(r"(?:^|(?<=[\s(){}\[\];,λ]))[^\s(){}\[\];,.λ]+", re.M)
@@ -24,7 +24,7 @@ MEMBER_OF = re.compile(r"(?<![\w.])(\w+)\.([^\s(){}\[\];,.]+)")
 BIND = "◌>>=◌"  # what puts the steps of `do` together
 
 
-class Place(enum.Enum):
+class CitationPlace(enum.Enum):
     """Where a name is from."""
 
     DEFINITION = "definition"
@@ -36,7 +36,7 @@ class Place(enum.Enum):
 class Cited:
     """What a name refers to: a definition of a file below crates/, a type of a crate's code, or a name of a module of the kit."""
 
-    kind: Place
+    kind: CitationPlace
     place: str  # the file, the crate, or the module
     name: str
 
@@ -53,15 +53,15 @@ def target(taken: sources.Taken) -> Cited | None:
     """What a name of a module refers to; None for what the prover makes and nobody reads."""
     parts = taken.module.split(".")
     if parts[0] != "Rattle" or not sources.is_crate(parts[1]):
-        return None if "proofs" in parts else Cited(Place.KIT, taken.module, taken.name)
+        return None if "proofs" in parts else Cited(CitationPlace.KIT, taken.module, taken.name)
     if parts[2:4] == ["specs", "declared"]:
         held = [part for part in (*parts[4:], taken.name) if part in types(parts[1])]
-        return Cited(Place.TYPE, parts[1], held[0]) if held else None
+        return Cited(CitationPlace.TYPE, parts[1], held[0]) if held else None
     file = f"{parts[1]}/specs/{parts[3]}.antt" if parts[2] == "specs" else ""
     if not (sources.CRATES / file).is_file():
         return None
     owner = items(file).owner.get(taken.name)
-    return Cited(Place.DEFINITION, file, owner) if owner else None
+    return Cited(CitationPlace.DEFINITION, file, owner) if owner else None
 
 
 def words_of(text: str) -> set[str]:
@@ -107,7 +107,7 @@ def code_names(path: Path, text: str) -> dict[str, Cited]:
     for word in sorted(set(re.findall(r"\b[A-Z]\w*", text))):
         crate = imported.get(word, own)
         if sources.is_crate(crate) and word in types(crate):
-            found[word] = Cited(Place.TYPE, crate, word)
+            found[word] = Cited(CitationPlace.TYPE, crate, word)
     return found
 
 
@@ -115,7 +115,7 @@ def cited_by_type(cited: Cited) -> set[Cited]:
     held = cited.type
     if held.model:
         return cited_by_text(held.path, held.model["Value"])
-    ghost = held.code if held.kind is Kind.TRAIT else " ".join(GHOST_FIELD.findall(held.code))
+    ghost = held.code if held.kind is TypeKind.TRAIT else " ".join(GHOST_FIELD.findall(held.code))
     fields = re.sub(r"^ *(?:pub )?ghost .*$", "", held.code, flags=re.M)
     return cited_by_text(held.path, ghost) | (set(code_names(held.path, fields).values()) - {cited})
 
@@ -123,15 +123,15 @@ def cited_by_type(cited: Cited) -> set[Cited]:
 def own_names(cited: Cited) -> dict[str, Cited]:
     held = items(cited.place)
     words = words_of(held.by_name[cited.name].code)
-    return {name: Cited(Place.DEFINITION, cited.place, owner) for name, owner in held.owner.items() if owner != cited.name and is_in(name, words)}
+    return {name: Cited(CitationPlace.DEFINITION, cited.place, owner) for name, owner in held.owner.items() if owner != cited.name and is_in(name, words)}
 
 
 @functools.cache
 def citations(cited: Cited) -> frozenset[Cited]:
-    if cited.kind is Place.DEFINITION:
+    if cited.kind is CitationPlace.DEFINITION:
         code = items(cited.place).by_name[cited.name].code
         return frozenset({*own_names(cited).values(), *cited_by_text(sources.CRATES / cited.place, code)})
-    return frozenset(cited_by_type(cited)) if cited.kind is Place.TYPE else frozenset()
+    return frozenset(cited_by_type(cited)) if cited.kind is CitationPlace.TYPE else frozenset()
 
 
 def closure(begin: Iterable[Item], used_by: Callable[[Item], Iterable[Item]]) -> set[Item]:
@@ -154,13 +154,13 @@ def arguments_of(text: str) -> Iterator[tuple[str, str]]:
         yield name, of
 
 
-def text_of_clauses(call: Call, clauses: Sequence[str]) -> str:
+def text_of_clauses(call: PublicCall, clauses: Sequence[str]) -> str:
     """The text of some clauses of a call, all of them if none is named, and of what it requires."""
     kept = (clause for clause in call.clauses if clause.kind == "requires" or not clauses or clause.name in clauses)
     return sources.without_comments(" ".join(clause.text for clause in kept))
 
 
-def code_of_clauses(call: Call, text: str) -> str:
+def code_of_clauses(call: PublicCall, text: str) -> str:
     """The types of a call's arguments and of its result that a text of its clauses is about: those whose values it names, and the
     type of a refusal if it is about one."""
     words, code = set(re.findall(r"\w+", text)), text
@@ -177,7 +177,7 @@ def code_of_clauses(call: Call, text: str) -> str:
     return code
 
 
-def cited_by_call(call: Call, clauses: Sequence[str]) -> set[Cited]:
+def cited_by_call(call: PublicCall, clauses: Sequence[str]) -> set[Cited]:
     """What some clauses of a call cite, and what the call requires; all clauses if none is named."""
     text = text_of_clauses(call, clauses)
     return cited_by_text(call.path, text) | set(code_names(call.path, code_of_clauses(call, text)).values())

@@ -14,7 +14,7 @@ GHOST = re.compile(r"^ *ghost (Value|view|invariant) = \{(.*)\};$", re.M)
 GHOST_FIELD = re.compile(r"^ *(?:pub )?ghost \w+: \{(.*?)\}(?: by \{.*\})?,$", re.M)
 
 
-class Kind(enum.Enum):
+class TypeKind(enum.Enum):
     """What keyword declares a type of the code."""
 
     STRUCT = "struct"
@@ -29,7 +29,7 @@ class Type:
 
     crate: str
     name: str
-    kind: Kind
+    kind: TypeKind
     path: Path
     line: int  # the line of its keyword, from 1
     text: str  # its declaration, with the comments in it
@@ -94,7 +94,7 @@ def types(crate: str) -> dict[str, Type]:
                 while not re.match(r"\}|.*(?:;|\{\})$", lines[last]) or (last > number and lines[last].startswith(" ")):
                     last += 1
                 text = "\n".join(lines[number : last + 1])
-                found.setdefault(match[2], Type(crate, match[2], Kind(match[1]), path, number + 1, text))
+                found.setdefault(match[2], Type(crate, match[2], TypeKind(match[1]), path, number + 1, text))
     return found
 
 

@@ -14,7 +14,7 @@ ANSWER = re.compile(r"\S+ : goal\.\S+$", re.M)
 
 
 @dataclass
-class Item:
+class SourceItem:
     """A definition or a lemma of a file below crates/."""
 
     file: str
@@ -36,13 +36,13 @@ class Item:
 
 @dataclass
 class Items:
-    by_name: dict[str, Item] = field(default_factory=dict)
+    by_name: dict[str, SourceItem] = field(default_factory=dict)
     owner: dict[str, str] = field(default_factory=dict)
     """The item of each name that an item gives, such as a constructor of its data."""
 
 
 @dataclass(frozen=True)
-class Line:
+class ModuleLine:
     """A line of a file, without the indentation of its module, and the arguments of all modules around it."""
 
     number: int
@@ -50,7 +50,7 @@ class Line:
     arguments: str
 
 
-def lines_in_modules(text: str) -> Iterator[Line]:
+def lines_in_modules(text: str) -> Iterator[ModuleLine]:
     """The lines of a file except empty ones and the heads of modules."""
     modules, head = [(0, "")], ""
     for number, line in enumerate(text.splitlines(), 1):
@@ -65,20 +65,20 @@ def lines_in_modules(text: str) -> Iterator[Line]:
         if head or (indent == modules[-1][0] and line.lstrip().startswith("module ")):
             head = f"{head} {line.strip()}".strip()
         else:
-            yield Line(number, line[modules[-1][0] :], modules[-1][1])
+            yield ModuleLine(number, line[modules[-1][0] :], modules[-1][1])
 
 
 @functools.cache
 def items(file: str) -> Items:
     """The items of a file below crates/. An equation belongs to the item of its name."""
     found = Items()
-    last: Item | None = None
+    last: SourceItem | None = None
     for line in lines_in_modules(sources.without_comments(sources.text_of(sources.CRATES / file))):
         head = None if line.text.startswith(" ") else HEAD.match(line.text)
         if head and SKIPPED.match(line.text):
             last = None
         elif head and (head["of"] or head["signs"]):
-            last = found.by_name[head["name"]] = Item(file, line.number, head["signs"], f"{line.text}\n{line.arguments}")
+            last = found.by_name[head["name"]] = SourceItem(file, line.number, head["signs"], f"{line.text}\n{line.arguments}")
         elif last:
             last = found.by_name.get(head["name"], last) if head else last
             last.code += f"\n{line.text}"

@@ -14,8 +14,8 @@ from rvstm_tools.errors import MisuseError
 DESCRIPTION = """\
 Checks that the calls, clauses, files, links, commands and numbers of lines that the pages name are there, that docs/rule_calls.txt,
 docs/crates.svg and the refusals of docs/messages.md agree with the sources, that crates.txt has each crate after those that it uses,
-that each definition is written once and has a name of its own or a reason in docs/shared_names.txt, and that all places say one
-version. Prints what is missing, the checksum of the sources of the program, and 'N names, M missing'. The status is 1 if something is
+that each definition is written once and has a name of its own or a reason in docs/shared_names.txt, as each class of Python has, and
+that all places say one version. Prints what is missing, the checksum of the sources of the program, and 'N names, M missing'. The status is 1 if something is
 missing.
 
 With an option it prints what is in the sources, and no page repeats it."""
@@ -41,7 +41,7 @@ PRINTERS = (
     Printer("--crates", "CRATE", "*", "the crates, and what each is for", crates.listed),
     Printer("--definitions", "CRATE", "*", "the files of definitions in reading order, and what each defines", definitions.listed),
     Printer("--lemmas", "CRATE", "*", "the crates whose lemmas each crate's proofs cite", crates.lemmas),
-    Printer("--names", "CRATE", "*", "the names that several definitions have", names.listed),
+    Printer("--names", "CRATE", "*", "the names that several definitions, types, lemmas or classes have", names.listed),
     Printer("--unused", "CRATE", "*", "the public names, definitions and lemmas that nothing uses", unused.listed),
     Printer("--refusals", "", "", "what rvstm refuses, and when: the rows of docs/messages.md", lambda words: refusals.table_lines()),
     Printer(

@@ -13,7 +13,7 @@ LINK = re.compile(r"\]\(([^()\s]+)\)")
 
 
 @dataclass(frozen=True)
-class Line:
+class PageLine:
     """A line of a page. `text` is without the indent of a block of code."""
 
     text: str
@@ -26,17 +26,17 @@ class Line:
         return self.is_code and (not self.is_fenced or self.text.startswith(PROMPT))
 
 
-def lines_of(text: str) -> Iterator[Line]:
+def lines_of(text: str) -> Iterator[PageLine]:
     """The lines of a page, without those that begin or end a fenced block."""
     is_fenced = False
     for line in text.splitlines():
         if line.startswith(FENCE):
             is_fenced = not is_fenced
         elif is_fenced:
-            yield Line(line, is_code=True, is_fenced=True)
+            yield PageLine(line, is_code=True, is_fenced=True)
         else:
             is_code = line.startswith(INDENT)
-            yield Line(line.removeprefix(INDENT) if is_code else line, is_code)
+            yield PageLine(line.removeprefix(INDENT) if is_code else line, is_code)
 
 
 def anchor_of(heading: str) -> str:

@@ -14,6 +14,7 @@ from pathlib import Path
 
 from checks import markdown, reading, sources
 from checks.calls import call_of
+from rvstm_developers import commandline as developers
 from rvstm_tools import commandline
 from rvstm_tools.errors import UserError
 
@@ -24,6 +25,7 @@ ENDINGS = "antt|rt|md|c|s|S|h|ld|elf|block|schedule|expect|txt|rs|edit|list|py|f
 FILE = re.compile(rf"`([\w.*-]+(?:/[\w.*-]+)*\.(?:{ENDINGS})|[\w.*-]+(?:/[\w.*-]+)+/?)`")
 COMMAND = re.compile(r"^(?:\$ )?(?:cd )?((?:[\w.-]+/)+[\w.-]+)|(?<= )([\w-]+\.(?:schedule|s|c))(?=\s)", re.M)
 TOOL = re.compile(r"(?:`|^ {4}(?:.*[ |/])?)rvstm-tools ([a-z][\w-]*)", re.M)
+DEVELOPERS = re.compile(r"(?:`|^ {4}(?:.*[ |/])?)rvstm-developers ([a-z][\w-]*)", re.M)
 CHECK = re.compile(r"^(?:\$ )?docs/check (?P<option>--[a-z]+)(?P<words>(?: +[\w:]+)*)", re.M)
 QUOTED_CHECK = re.compile(r"`docs/check\s+(?P<option>--[a-z]+)(?P<words>(?:\s+[\w:]+)*)")
 COUNTED = re.compile(r"`docs/check\s+--reading\s+([\w:\s]+?)`\s+lists\s+([\d,]+)\s+lines\s+in\s+([\d,]+)\s+files")
@@ -33,14 +35,14 @@ FOLDERS = ("", "crates", "docs", "sdk", "bench", "tests")
 
 
 @dataclass(frozen=True)
-class Named:
+class NamedCall:
     call: str
     clauses: tuple[str, ...]
 
 
-def named_calls(text: str) -> Iterator[Named]:
+def named_calls(text: str) -> Iterator[NamedCall]:
     for path, clauses in CALL.findall(text):
-        yield Named(path, tuple(re.findall(r"`(\w+)`", clauses)))
+        yield NamedCall(path, tuple(re.findall(r"`(\w+)`", clauses)))
     for proved in PROVED.findall(text):
         call, clauses = "", list[str]()
         for word in [*QUOTED.findall(proved), "::"]:
@@ -48,7 +50,7 @@ def named_calls(text: str) -> Iterator[Named]:
                 clauses.append(word)
                 continue
             if call:
-                yield Named(call, tuple(clauses))
+                yield NamedCall(call, tuple(clauses))
             call, clauses = word, []
 
 
@@ -87,10 +89,13 @@ def missing_files(page: Path, text: str) -> Iterator[str]:
 
 
 def wrong_commands(page: str, text: str, options: Iterable[str]) -> Iterator[str]:
-    """The commands of rvstm-tools, and of docs/check with these options, that a page names and that are not there."""
+    """The commands of rvstm-tools and rvstm-developers, and of docs/check with these options, that a page names and that are not there."""
     for name in TOOL.findall(text):
         if name not in commandline.NAMES:
             yield f"{page}: rvstm-tools has no command {name}"
+    for name in DEVELOPERS.findall(text):
+        if name not in developers.modules():
+            yield f"{page}: rvstm-developers has no command {name}"
     code = "\n".join(line.text for line in markdown.lines_of(text) if line.is_command)
     for option, words in CHECK.findall(code) + QUOTED_CHECK.findall(text):
         if option not in options:

@@ -11,8 +11,8 @@ from collections.abc import Iterable, Iterator, Mapping, Sequence
 from pathlib import Path
 
 from checks import calls, citations, definitions, sources
-from checks.calls import Call
-from checks.definitions import Kind
+from checks.calls import PublicCall
+from checks.definitions import TypeKind
 
 TURBOFISH = re.compile(r"::<(?:[^<>]|<(?:[^<>]|<[^<>]*>)*>)*>")
 PATH = re.compile(r"(?<![\w:.])(\w+)((?:::\w+)*)")
@@ -22,7 +22,7 @@ GIVEN = re.compile(r"^impl[^{]*? for (\w+)[^{]*\{\n(.*?)^\}", re.M | re.S)
 
 
 @functools.cache
-def public(crate: str) -> Mapping[str, Call]:
+def public(crate: str) -> Mapping[str, PublicCall]:
     """The public functions, types, constants and traits of a crate. What a trait asks of its types belongs to the trait."""
     if crate not in sources.libraries():
         return {}
@@ -83,7 +83,7 @@ def shown_by(full_name: str) -> frozenset[str]:
     held = definitions.types(crate).get(name)
     text = sources.without_comments(call.signature)
     if held:
-        fields = [line for line in held.code.splitlines() if held.kind is not Kind.STRUCT or line.startswith("    pub ")]
+        fields = [line for line in held.code.splitlines() if held.kind is not TypeKind.STRUCT or line.startswith("    pub ")]
         given = "".join(block for of, block in GIVEN.findall(sources.text_of(held.path)) if of == name)
         text = "\n".join([*fields, *held.model.values(), *re.findall(r"^ +type .*", given, re.M)])
     return frozenset(f"{crate}::{word}" for word in re.findall(r"\b[A-Z]\w*", text) if word in public(crate))
@@ -112,7 +112,7 @@ def used(with_tests: bool) -> frozenset[str]:
     return frozenset(found)
 
 
-def is_used_in_crate(call: Call) -> bool:
+def is_used_in_crate(call: PublicCall) -> bool:
     """Whether the code of its own crate says a public name elsewhere than in its declaration and at the head of an `impl`."""
     owner, _, last = call.name.rpartition("::")
     elsewhere = rf"^(?!impl|pub .*\b(?:fn|struct|enum|trait|type|const) {last}\b).*\b{last}\b"

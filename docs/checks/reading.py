@@ -11,8 +11,8 @@ from dataclasses import dataclass
 from pathlib import Path
 
 from checks import calls, sources
-from checks.calls import Call
-from checks.citations import Cited, Place, citations, cited_by_call, closure
+from checks.calls import PublicCall
+from checks.citations import CitationPlace, Cited, citations, cited_by_call, closure
 from checks.definitions import Type, places
 from rvstm_tools.errors import MisuseError
 
@@ -21,10 +21,10 @@ CORE = ("core", "std_alloc", "std_collections", "std_io")  # the folders of the 
 
 
 @dataclass
-class Asked:
+class AskedCall:
     """A call that a list is asked for, with the clauses that count; all of them if none is named."""
 
-    call: Call
+    call: PublicCall
     clauses: list[str]
 
     @property
@@ -33,7 +33,7 @@ class Asked:
 
 
 @dataclass(frozen=True)
-class Row:
+class ReadingRow:
     file: str
     read: int  # how many of its lines to read: those of definitions that are not cited are left out
     lines: int  # how many lines it has
@@ -50,17 +50,17 @@ class Module:
 # ---- what is asked for
 
 
-def asked_for(words: Sequence[str]) -> list[Asked]:
+def asked_for(words: Sequence[str]) -> list[AskedCall]:
     """The calls that words name, each with the clauses that are named after it. `crate::` names all calls of a crate that have a
     clause."""
-    found = list[Asked]()
+    found = list[AskedCall]()
     for word in words:
         crate, colons, name = word.partition("::")
         known = calls.calls_of(crate) if crate in sources.crate_names() else {}
         if colons and not name and known:
-            found += [Asked(call, []) for call in known.values() if call.clauses]
+            found += [AskedCall(call, []) for call in known.values() if call.clauses]
         elif colons and name in known:
-            found.append(Asked(known[name], []))
+            found.append(AskedCall(known[name], []))
         elif not colons and found and word in [clause.name for clause in found[-1].call.clauses]:
             found[-1].clauses.append(word)
         else:
@@ -68,32 +68,32 @@ def asked_for(words: Sequence[str]) -> list[Asked]:
     return found
 
 
-def cited_by(asked: Iterable[Asked]) -> set[Cited]:
+def cited_by(asked: Iterable[AskedCall]) -> set[Cited]:
     return closure((cited for entry in asked for cited in cited_by_call(entry.call, entry.clauses)), citations)
 
 
 @dataclass(frozen=True)
 class Reading:
-    asked: list[Asked]
+    asked: list[AskedCall]
     cited: set[Cited]  # the definitions and types, and the names of the kit, without what was read before
     before: set[Cited]
 
     @functools.cached_property
-    def rows(self) -> list[Row]:
+    def rows(self) -> list[ReadingRow]:
         """The files to read, each after those that it uses."""
         return [row_of(file, self.cited) for file in in_order(self.cited)]
 
     @functools.cached_property
     def types(self) -> list[Type]:
         """The types and traits of the code that are named, lowest crate first."""
-        found = [cited.type for cited in self.cited if cited.kind is Place.TYPE]
+        found = [cited.type for cited in self.cited if cited.kind is CitationPlace.TYPE]
         return sorted(found, key=lambda held: (sources.crate_names().index(held.crate), held.path, held.line))
 
     @functools.cached_property
     def modules(self) -> list[Module]:
         """The modules of the kit that a name comes from, without those that were read before."""
-        new = {module_of(cited) for cited in self.cited if cited.kind is Place.KIT}
-        old = {module_of(cited) for cited in self.before if cited.kind is Place.KIT}
+        new = {module_of(cited) for cited in self.cited if cited.kind is CitationPlace.KIT}
+        old = {module_of(cited) for cited in self.before if cited.kind is CitationPlace.KIT}
         return sorted(new - old, key=lambda module: (module.library != "std", module.library, module.name))
 
     @property
@@ -120,16 +120,16 @@ def files_below(cited: Cited) -> frozenset[str]:
     while left:
         for other in citations(left.pop()) - seen:
             seen.add(other)
-            if other.kind is Place.DEFINITION:
+            if other.kind is CitationPlace.DEFINITION:
                 found.add(other.place)
-            elif other.kind is Place.TYPE:
+            elif other.kind is CitationPlace.TYPE:
                 left.append(other)
     return frozenset(found)
 
 
 def in_order(found: Iterable[Cited]) -> list[str]:
     """The files of some definitions, each after those that it uses; of several the one in the lowest crate comes first."""
-    held = [cited for cited in found if cited.kind is Place.DEFINITION]
+    held = [cited for cited in found if cited.kind is CitationPlace.DEFINITION]
     files = {cited.place for cited in held}
     below = {file: set[str]() for file in files}
     for cited in held:
@@ -150,12 +150,12 @@ def lines_left_out(file: str, names: Iterable[str]) -> int:
     return len(left_out)
 
 
-def row_of(file: str, found: set[Cited]) -> Row:
+def row_of(file: str, found: set[Cited]) -> ReadingRow:
     names = list(places(file))
-    cited = tuple(name for name in names if Cited(Place.DEFINITION, file, name) in found)
+    cited = tuple(name for name in names if Cited(CitationPlace.DEFINITION, file, name) in found)
     rest = tuple(name for name in names if name not in cited)
     lines = len(sources.lines_of(file))
-    return Row(file, lines - lines_left_out(file, rest), lines, cited, rest)
+    return ReadingRow(file, lines - lines_left_out(file, rest), lines, cited, rest)
 
 
 # ---- the kit
@@ -188,7 +188,7 @@ def kit_line(modules: Sequence[Module]) -> str:
 # ---- what --reading prints
 
 
-def which(row: Row) -> str:
+def which(row: ReadingRow) -> str:
     """Which definitions of a file count, in the fewest words; empty if all do."""
     named = f"only {', '.join(f'`{name}`' for name in row.cited)}"
     spared = f"without {', '.join(f'`{name}`' for name in row.rest)}"

@@ -8,7 +8,7 @@ import re
 from collections.abc import Iterator
 
 from checks import sources
-from checks.calls import Call, call_of, split_types
+from checks.calls import PublicCall, call_of, split_types
 
 LIST = sources.TOP / "docs/rule_calls.txt"
 NAMED = re.compile(r"^\w+::[\w:]+")
@@ -20,7 +20,7 @@ def type_of(argument: str) -> str:
     return argument if re.fullmatch(r"(?:&(?:mut )?|mut )?self", argument) else argument.partition(":")[2].strip()
 
 
-def signature_of(call: Call) -> str:
+def signature_of(call: PublicCall) -> str:
     """A call's path with the types of its arguments and its result; the path alone of a type."""
     text = " ".join(line.strip() for line in call.head.splitlines() if not line.strip().startswith("//"))
     text = re.split(r" (?:where|requires|ensures)\b|\{|;", text)[0].strip()

@@ -111,18 +111,18 @@ class Imports:
 
 
 @dataclass(frozen=True)
-class Entry:
+class UsedName:
     """A name of a `use` line: its name in the file, and its name in its own module."""
 
     local: str
     name: str
 
 
-def entries_of(braces: str) -> Iterator[Entry]:
+def entries_of(braces: str) -> Iterator[UsedName]:
     for entry in braces.split(","):
         name, _, local = entry.strip().partition(" as ")
         if name:
-            yield Entry(local or name, name)
+            yield UsedName(local or name, name)
 
 
 @functools.cache

@@ -1,6 +1,6 @@
 """Tests of a whole ledger, which need etcd and the program rvstm: python3 -m unittest, in this folder.
 
-The expected answers come from tests/long/models/sessions.py, which runs each block with `rvstm seq`, and from docs/formats.md.
+The expected answers come from tools/rvstm_developers/models/sessions.py, which runs each block with `rvstm seq`, and from docs/formats.md.
 """
 
 import hashlib
@@ -147,17 +147,17 @@ class Ledger(unittest.TestCase):
     def digest(self, height: int) -> set[str]:
         return {value.split()[0] for value in self.cluster.digests(height).values()}
 
-    @unittest.skipUnless((engines.TOP / "tests/long").is_dir(), "only a checkout has the model of a session")
+    @unittest.skipUnless((engines.TOP / "tools/rvstm_developers").is_dir(), "only a checkout has the model of a session")
     def test_1_answers_are_those_of_seq(self) -> None:
         sys.path.append(str(engines.TOP / "tests"))
-        from long.models.sessions import Model
+        from rvstm_developers.models.sessions import SessionModel
 
         for strange, _ in transfers.strange(random.Random(2)).values():
             self.append(strange)
         self.transfers(3)
         self.settle()
         settings = Settings(transfers.SETTINGS["frame_limit"], transfers.SETTINGS["frame_gas"], True, True)
-        model = Model(Program(Path(engines.rvstm())), settings)
+        model = SessionModel(Program(Path(engines.rvstm())), settings)
         self.addCleanup(model.place.cleanup)
         for file in transfers.FILES:
             model.answer(Request(Word.PROGRAM, (), file))

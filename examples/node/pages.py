@@ -19,8 +19,8 @@ from rvstm_tools.texts.views import View
 SHOWN_CALLS = 12  # of a block
 SHOWN_OF_ACCOUNT = 8  # digits
 STYLE = """
-body { font: 15px/1.4 sans-serif; color: #1f2933; background: #eef1f4; margin: 0 auto; padding: 16px 24px; max-width: 1248px }
-h1 { font-size: 24px; margin: 8px 0 }
+body { font: 15px/1.4 sans-serif; color: #1f2933; background: #eef1f4; margin: 0 auto; padding: 16px 24px }
+body { max-width: 1248px } h1 { font-size: 24px; margin: 8px 0 }
 p { margin: 4px 0 } code { font-size: 13px }
 section { background: white; border: 1px solid #cdd5dd; border-radius: 6px; padding: 16px; margin: 16px 0 }
 svg { display: block; margin: 0 -16px }
@@ -70,15 +70,15 @@ def page_of(sections: Sequence[str], state: str, ledger: str, program: str, faul
     said = dict(line.split(" ") for line in state.splitlines())
     body = "\n".join(sections) or "<section>No block has run since the node started.</section>"
     return f"""<!doctype html>
-<html lang="en"><head><meta charset="utf-8"><meta http-equiv="refresh" content="2"><title>rvstm node, height {said["height"]}</title>
-<style>{STYLE}</style></head><body>
+<html lang="en"><head><meta charset="utf-8"><meta http-equiv="refresh" content="2">
+<title>rvstm node, height {said["height"]}</title><style>{STYLE}</style></head><body>
 <h1>Height {said["height"]}, {int(said["keys"]):,} keys</h1>
 <p class="other">{escape(fault)}</p>
 <p>ledger <code>{escape(ledger)}</code></p>
 <p>program <code>{escape(program)}</code></p>
 <p>digest <code>{escape(said["digest"])}</code></p>
-<p>A bar is a call, as wide as its gas. Calls one below the other can run side by side; a line leads from a call to one that waits for it.</p>
-{body}
+<p>A bar is a call, as wide as its gas. Calls one below the other can run side by side;
+a line leads from a call to one that waits for it.</p>{body}
 </body></html>
 """
 

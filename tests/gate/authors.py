@@ -8,8 +8,7 @@ from functools import partial
 from pathlib import Path
 
 from gate.calls import command, tool
-from gate.cases import TOP, Case, Lacks, Run, holds, same
-from gate.machine import CONTRACTS, Tool
+from gate.runner import CONTRACTS, TOP, Case, Lacks, Run, Tool, holds, same
 from gate.texts import written
 
 SECTION_SIZE, SYMBOL_SIZE = 40, 16  # bytes, of a header and of a row in an ELF file of 32 bits
@@ -132,7 +131,6 @@ def programs_of_strangers(run: Run) -> None:
 
 
 def cases() -> list[Case]:
-    """All of them."""
     needs = (*CONTRACTS, Tool.LLVM)
     return [
         Case("programs of strangers", programs_of_strangers),

@@ -8,10 +8,9 @@ from functools import partial
 from pathlib import Path
 
 from gate.calls import command, tool_words
-from gate.cases import TOP, Case, Run, holds, same
 from gate.library import STRICT, folder
-from gate.machine import Tool
 from gate.outside import FOLDER, last_lines
+from gate.runner import TOP, Case, Run, Tool, holds, same
 from gate.texts import field, storage
 
 EXAMPLES, COUNTER = TOP / "examples/state", TOP / "examples/counter/counter.elf"
@@ -65,7 +64,6 @@ def random_sequences(run: Run) -> None:
 
 
 def cases() -> list[Case]:
-    """All of them."""
     found = []
     databases = {
         "sqlite": ("cc", "sqlite.c", "sqlite3", Tool.LIBSQLITE), "lmdb": ("c++ -std=c++17", "lmdb.cpp", "lmdb", Tool.LIBLMDB),

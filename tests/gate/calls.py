@@ -6,15 +6,14 @@ from collections.abc import Sequence
 from dataclasses import dataclass
 from pathlib import Path
 
-from gate.cases import TOP, Differs, Run, shown
+from gate.runner import TOP, Differs, Run, shown
+from rvstm_tools import commandline
 
 Word = str | Path
 
 
 @dataclass(frozen=True)
-class Ended:
-    """How a command ended."""
-
+class EndedCommand:
     words: tuple[str, ...]
     out: str
     errors: str
@@ -33,27 +32,24 @@ class Ended:
             raise Differs(f"{' '.join(self.words)}: came {shown(came)}; wanted {shown(wanted)}")
 
 
-def command(words: Sequence[Word], folder: Word = ".", data: str | bytes = b"", more: dict[str, str] | None = None) -> Ended:
+def command(words: Sequence[Word], folder: Word = ".", data: str | bytes = b"", more: dict[str, str] | None = None) -> EndedCommand:
     """Runs a command in a folder. Bytes that are no text of UTF-8 are shown by their numbers."""
     given = data.encode() if isinstance(data, str) else data
     how = {**os.environ, **(more or {})}
     done = subprocess.run([str(word) for word in words], cwd=folder, input=given, capture_output=True, env=how)
     name = (Path(str(words[0])).name, *(str(word) for word in words[1:]))
     out, errors = (text.decode(errors="backslashreplace") for text in (done.stdout, done.stderr))
-    return Ended(name, out, errors, done.returncode)
+    return EndedCommand(name, out, errors, done.returncode)
 
 
-def rvstm(run: Run, *words: Word, folder: Word = ".", data: str | bytes = b"") -> Ended:
-    """Runs the program."""
+def rvstm(run: Run, *words: Word, folder: Word = ".", data: str | bytes = b"") -> EndedCommand:
     return command([run.program, *words], folder, data)
 
 
 def tool_words(name: str) -> list[str]:
-    """The first words of the command line of a tool: a script of developers, or a subcommand."""
-    script = TOP / "tools/developers" / name
-    return [str(script)] if script.is_file() else [str(TOP / "tools/rvstm-tools"), name]
+    """The first words of the command line of a tool: a subcommand of the tools, or a developers' command."""
+    return [str(TOP / "tools" / ("rvstm-tools" if name in commandline.NAMES else "rvstm-developers")), name]
 
 
-def tool(run: Run, name: str, *words: Word, folder: Word = ".", data: str | bytes = b"") -> Ended:
-    """Runs a tool, which runs the program."""
+def tool(run: Run, name: str, *words: Word, folder: Word = ".", data: str | bytes = b"") -> EndedCommand:
     return command([*tool_words(name), *words], folder, data, {"RVSTM": str(run.program)})

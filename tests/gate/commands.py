@@ -8,11 +8,10 @@ import xml.etree.ElementTree
 from collections.abc import Callable, Sequence
 
 from gate import pages
-from gate.built import OF_LIBRARY, PROGRAM, are_noted
 from gate.calls import command, rvstm, tool, tool_words
-from gate.cases import TOP, Case, Differs, Run, holds, same
-from gate.machine import Tool
+from gate.runner import TOP, Case, Differs, Run, Tool, holds, same
 from gate.texts import written
+from rvstm_developers.commands.built import OF_LIBRARY, PROGRAM, are_noted
 
 EXAMPLES = TOP / "examples"
 COUNTER, LOCK, TOKEN = (EXAMPLES / name for name in ("counter", "lock", "token"))
@@ -90,7 +89,6 @@ def printed(came: str, wanted: str) -> None:
 
 
 def seq(run: Run) -> None:
-    """The calls in order."""
     printed(rvstm(run, "seq", "counter.block", folder=COUNTER).done(), COUNTED)
 
 
@@ -104,7 +102,6 @@ def run_by_workers(run: Run) -> None:
 
 
 def drive(run: Run) -> None:
-    """The same along a schedule."""
     words = ("drive", "counter.block", "--workers", "2", "--schedule", "turns.schedule")
     printed(rvstm(run, *words, folder=COUNTER).done(), COUNTED)
     short = written(run.place / "short", "0\n")
@@ -112,12 +109,10 @@ def drive(run: Run) -> None:
 
 
 def conflicts(run: Run) -> None:
-    """Which calls wait for which."""
     same(rvstm(run, "conflicts", "counter.block", folder=COUNTER).done(), WAITS)
 
 
 def asm(run: Run) -> None:
-    """A source to its program."""
     made = run.place / "made.elf"
     same(rvstm(run, "asm", "counter.s", "--out", made, folder=COUNTER).done(), "")
     holds(made.read_bytes() == (COUNTER / "counter.elf").read_bytes(), "another file", "the bytes of counter.elf")
@@ -126,12 +121,10 @@ def asm(run: Run) -> None:
 
 
 def dis(run: Run) -> None:
-    """A program's instructions."""
     printed(rvstm(run, "dis", "counter.elf", folder=COUNTER).done(), f"{LISTING}..")
 
 
 def debug(run: Run) -> None:
-    """A replay, with the lines that `--more` adds."""
     words = ("debug", "token.block", "--call", "2")
     lines = "g 00010450\nb\nm 0010fff8 8\nwhat\nq\n"
     wanted = "90 00010450 ecall\n89 0001044c addi x17,x0,4\n2300000000000000\nwhat\n"
@@ -150,7 +143,6 @@ def migrate(run: Run) -> None:
 
 
 def chain(run: Run) -> None:
-    """A session without a frame."""
     asks = f"state\nget {KEY}\nlast\nq\nwhat comes after q is not read"
     wanted = f"ok {len(NEW_STATE)}\n{NEW_STATE}ok 7\nabsent\nrefused frame NoFrame 7\n"
     same(rvstm(run, "chain", data=asks).done(), wanted)
@@ -264,7 +256,6 @@ def test_over_a_result(run: Run) -> None:
 
 
 def result(run: Run) -> None:
-    """A result as a table."""
     text = rvstm(run, "seq", "counter.block", folder=COUNTER).done()
     wanted = "call  end                   gas  pc        output\n   0  returned              639  00010034  ..\n..\nstorage\n..\n"
     printed(tool(run, "result", data=text).done(), wanted)
@@ -272,7 +263,6 @@ def result(run: Run) -> None:
 
 
 def picture(run: Run) -> None:
-    """The waits of a block as a picture."""
     made = run.place / "waits.svg"
     tool(run, "conflicts", "counter.block", "--svg", made, folder=COUNTER).done()
     same(xml.etree.ElementTree.parse(made).getroot().tag, "{http://www.w3.org/2000/svg}svg")
@@ -294,7 +284,6 @@ def schedule(run: Run) -> None:
 
 
 def trace(run: Run) -> None:
-    """The storage calls and the gas of a call."""
     wanted = "call 2 of token.block: reverted, 91 steps, gas 352 of 5000, pc 00010450\n..\n"
     printed(tool(run, "trace", "token.block", "--call", "2", folder=TOKEN).done(), wanted)
     printed(tool(run, "trace", TOKEN / "token.list", "--call", "2", folder=run.place).done(), wanted.replace("block", "list"))
@@ -330,7 +319,6 @@ def gdb(run: Run) -> None:
 
 
 def verify(run: Run) -> None:
-    """A program beside the checksum of a release."""
     made = run.place / "rvstm"
     command(["llvm-objcopy", "--strip-all", "-R", ".note.gnu.build-id", run.program, made]).done()
     digest = command(["sha256sum", made]).done().split()[0]
@@ -461,7 +449,6 @@ def names_of_tools(run: Run) -> None:
 
 
 def cases() -> list[Case]:
-    """All of them."""
     found = [Case(f"rvstm {name}", call, cost=0.5) for name, call in COMMANDS.items()]
     found += [Case(f"tool {name}", call, needs, cost=2) for name, (call, needs) in TOOLS.items()]
     found += [Case("rvstm help and version", help_and_version), Case("rvstm refusals", refusals)]

@@ -7,8 +7,8 @@ import signal
 import time
 from pathlib import Path
 
-from gate.cases import Case, Run, holds, same
-from gate.clients import NO_DIGEST, Session, asks
+from gate.clients import NO_DIGEST, ClientSession, asks
+from gate.runner import Case, Run, holds, same
 
 COPIES = 12
 LONGEST_WAIT = 1.3  # at most, from a frame to a stop, in times of what a frame lasts
@@ -27,14 +27,13 @@ def frame(height: int) -> bytes:
 
 
 def is_stopped(stat: Path) -> bool:
-    """Whether a thread is stopped, or has ended."""
     try:
         return stat.read_text(encoding="utf-8").rpartition(")")[2].split()[0] == "T"
     except (FileNotFoundError, ProcessLookupError):
         return True
 
 
-def stop(session: Session) -> None:
+def stop(session: ClientSession) -> None:
     """Stops a session. Each of its threads stops by itself."""
     session.process.send_signal(signal.SIGSTOP)
     until = time.monotonic() + SECONDS_TO_STOP
@@ -50,13 +49,13 @@ def copy(path: Path, to: Path) -> None:
 
 def height_of(run: Run, path: Path) -> int:
     """The height of the session that a file has. Its storage is that of this height."""
-    with Session(run.program, "--store", path) as session:
+    with ClientSession(run.program, "--store", path) as session:
         found, dump = STATE.search(session.ask(asks("state"))), session.ask(asks("dump"))
         assert found
         height = int(found[1])
         wanted = f"rvblock 2\ngas 1\n{entries(height) if height else ''}"
         same(dump.partition(b"\n")[2].decode(), wanted, f"the dump at height {height}")
-        same(session.end(), (b"", "", 0))
+        same(session.ended(), (b"", "", 0))
     holds(bool(height) or found[2] == NO_DIGEST, found[2], "no digest at height 0")
     return height
 
@@ -65,7 +64,7 @@ def stopped(run: Run) -> None:
     """A copy of both files, made while all threads are stopped, opens at the height before or after the frame that runs."""
     choice, path, found = random.Random(run.setting.seed), run.place / "file", list[int]()
     run.note(f"seed {run.setting.seed}")
-    with Session(run.program, "--workers", "2", "--store", path) as session:
+    with ClientSession(run.program, "--workers", "2", "--store", path) as session:
         session.ask(frame(1))
         began = time.monotonic()
         session.ask(frame(2))
@@ -89,7 +88,7 @@ def alone(run: Run) -> None:
     """What nothing reports: a copy of FILE alone is an older session. A request that finds FILE moved is not kept. A backup beside
     another session's FILE-wal is refused, and opens if that is removed."""
     path, backup = run.place / "file", run.place / "backup"
-    with Session(run.program, "--store", path) as session:
+    with ClientSession(run.program, "--store", path) as session:
         session.ask(frame(1))
         session.ask(frame(2))
         shutil.copy(path, run.place / "alone")
@@ -98,24 +97,23 @@ def alone(run: Run) -> None:
         copy(path, backup)
         session.process.send_signal(signal.SIGCONT)
         path.rename(run.place / "moved")
-        same(session.end(frame(3)), (b"", "rvstm: store Unreadable 3\n", 1), "a frame after FILE was moved")
+        same(session.ended(frame(3)), (b"", "rvstm: store Unreadable 3\n", 1), "a frame after FILE was moved")
     (run.place / "moved").rename(path)
     same(height_of(run, path), 2, "the height after FILE was put back")
     same(height_of(run, backup), 2, "the height of the backup, which has no log then")
-    with Session(run.program, "--store", path) as session:
+    with ClientSession(run.program, "--store", path) as session:
         for height in (3, 4):
             session.ask(frame(height))
         session.kill()
     shutil.copy(backup, path)
-    with Session(run.program, "--store", path) as session:
-        run.note(f"beside another session's FILE-wal: {session.end(b'')[1].strip() or 'opened'}")
+    with ClientSession(run.program, "--store", path) as session:
+        run.note(f"beside another session's FILE-wal: {session.ended(b'')[1].strip() or 'opened'}")
     shutil.copy(backup, path)
     Path(f"{path}-wal").unlink(missing_ok=True)
     same(height_of(run, path), 2, "the height of the backup, without that log")
 
 
 def cases() -> list[Case]:
-    """All of them."""
     return [
         Case("copies: of a stopped session", stopped, cost=3),
         Case("copies: of FILE alone, and put back", alone, cost=2),

@@ -7,12 +7,12 @@ from functools import partial
 from pathlib import Path
 
 from gate.calls import command, rvstm, tool
-from gate.cases import TOP, Case, Run, holds, same
-from gate.machine import CONTRACTS, Tool
+from gate.runner import CONTRACTS, TOP, Case, Run, Tool, holds, same
 from gate.texts import written
 
 EXAMPLES = TOP / "examples"
-EXPLORED = EXAMPLES / "explored"
+FIXTURES = TOP / "tests/fixtures"
+EXPLORED = FIXTURES / "explored"
 MAKEFILE = TOP / "sdk/Makefile"
 EXPECTED = ("auction", "digest", "fees", "token")
 """The examples that have a text of what their block prints."""
@@ -53,12 +53,10 @@ CHARGES = re.compile(r" gas \d+ pc [0-9a-f]+")
 
 
 def folders() -> list[str]:
-    """The examples that have a block of their name."""
     return sorted(path.parent.name for path in EXAMPLES.glob("*/*.block") if path.stem == path.parent.name)
 
 
 def without_registers(text: str) -> str:
-    """A result without its registers."""
     return "".join(line for line in text.splitlines(keepends=True) if not line.startswith("regs "))
 
 
@@ -85,7 +83,6 @@ def in_rust(run: Run) -> None:
 
 
 def block_of_list(run: Run, name: str) -> None:
-    """A list makes the block that is committed."""
     same(tool(run, "block", EXAMPLES / name / f"{name}.list").done(), (EXAMPLES / name / f"{name}.block").read_text(encoding="utf-8"))
 
 
@@ -107,7 +104,7 @@ def planted(run: Run, name: str) -> None:
     """A planted bug is found, and leaves a list that passes with it and fails without it."""
     example, calls, seed = PLANTED[name]
     folder = EXAMPLES / example
-    for path in (EXAMPLES / f"explored/{name}.elf", folder / f"{example}.elf"):
+    for path in (EXPLORED / f"{name}.elf", folder / f"{example}.elf"):
         shutil.copy(path, run.place)
     found = run.place / "found.list"
     words = ("--replace", f"{example}={run.place}/{name}.elf", "--seed", str(seed), "--out", found)
@@ -170,9 +167,9 @@ def rebuilt_bug(run: Run, name: str) -> None:
     """A program with a planted bug is the example with the difference beside it, built by clang."""
     example = PLANTED[name][0]
     source = run.place / f"{name}.c"
-    command(["patch", "-s", "-o", source, EXAMPLES / example / f"{example}.c", EXAMPLES / f"explored/{name}.diff"]).done()
+    command(["patch", "-s", "-o", source, EXAMPLES / example / f"{example}.c", EXPLORED / f"{name}.diff"]).done()
     command(["make", "-s", "-f", MAKEFILE, f"{name}.elf"], run.place).done()
-    same((run.place / f"{name}.elf").read_bytes() == (EXAMPLES / f"explored/{name}.elf").read_bytes(), True)
+    same((run.place / f"{name}.elf").read_bytes() == (EXPLORED / f"{name}.elf").read_bytes(), True)
 
 
 def by_lines(run: Run) -> None:
@@ -194,7 +191,7 @@ def covered(run: Run) -> None:
     both = tool(run, "coverage", "token.list", "refusals.list", "--sdk", "--lcov", "info", folder=run.place).done()
     came = re.sub(r"^[^ ]*/sdk/", "sdk/", one + both, flags=re.M)
     # Files are ordered by their paths, so the order depends on the folder of the checkout.
-    expected = (EXAMPLES / "covered/token.covered").read_text(encoding="utf-8")
+    expected = (FIXTURES / "covered/token.covered").read_text(encoding="utf-8")
     parts = [sorted(re.split(r"\n(?=\S)", text.rstrip())) for text in (came, expected)]
     same("\n".join(parts[0]), "\n".join(parts[1]))
     for name in ("later.list", "vault.shapes"):
@@ -216,8 +213,7 @@ def on_this_machine(run: Run, name: str) -> None:
 
 
 def failing_on_this_machine(run: Run) -> None:
-    """Checks that do not hold, and what they print."""
-    folder = EXAMPLES / "outputs"
+    folder = FIXTURES / "outputs"
     shutil.copy(folder / "failing.c", run.place)
     made(run, folder / "failing-test.c", "failing-test", more=["CC=cc"])
     same(command([run.place / "failing-test"]).out, (folder / "host.out").read_text(encoding="utf-8"))
@@ -225,13 +221,12 @@ def failing_on_this_machine(run: Run) -> None:
 
 def failing(run: Run, name: str) -> None:
     """Lists that are refused or not met, and what is said of them."""
-    folder = EXAMPLES / "outputs"
+    folder = FIXTURES / "outputs"
     same(tool(run, "test", f"{name}.failing", folder=folder).out, (folder / f"{name}.out").read_text(encoding="utf-8"))
 
 
 def keys_of_tables(run: Run) -> None:
-    """Keys of tables by the words of their list."""
-    folder, outputs = EXAMPLES / "lock", EXAMPLES / "outputs"
+    folder, outputs = EXAMPLES / "lock", FIXTURES / "outputs"
     result = rvstm(run, "seq", "lock.block", folder=folder).done()
     table = tool(run, "result", "--list", "lock.list", folder=folder, data=result).done()
     keys = sorted({found for found in re.findall(r"^ *(?:wrote )*([^ ]*): .*", table, re.M)})
@@ -244,7 +239,7 @@ def keys_of_tables(run: Run) -> None:
 
 def refused_by_tools(run: Run) -> None:
     """The last line of tools whose list or block is refused: it names the line and the program."""
-    folder, file = EXAMPLES / "outputs", "../tally/tally.list"
+    folder, file = FIXTURES / "outputs", "../../../examples/tally/tally.list"
     made = run.place / "files.block"
     done = tool(run, "block", "files.failing", folder=folder)
     written(made, done.out)
@@ -271,8 +266,9 @@ def debug_folder(run: Run, contract: str, make: Sequence[str]) -> Path:
     folder.mkdir(parents=True)
     for part in ("sdk", "tools"):
         (run.place / part).symlink_to(TOP / part)
+    origin = next(place for place in (EXAMPLES, FIXTURES) if (place / f"{contract}.c").is_file())
     for ending in (".c", ".block"):
-        shutil.copy(EXAMPLES / f"{contract}{ending}", folder)
+        shutil.copy(origin / f"{contract}{ending}", folder)
     program = contract.partition("/")[2]
     command(["make", "-s", "-f", "../../sdk/Makefile", *make, f"{program}.elf", f"{program}.lines.elf"], folder).done()
     return folder
@@ -282,12 +278,12 @@ def debugged(run: Run, name: str, contract: str, make: Sequence[str]) -> None:
     """What gdb prints at the lines of a script, with each line before it."""
     folder, program = debug_folder(run, contract, make), contract.partition("/")[2]
     lines = ["set width 110", "set confirm off", "set remotetimeout 600", "set trace-commands on"]
-    lines += (EXAMPLES / f"debugged/{name}.gdb").read_text(encoding="utf-8").splitlines()
+    lines += (FIXTURES / f"debugged/{name}.gdb").read_text(encoding="utf-8").splitlines()
     words = ["gdb-multiarch", "-nx", "-q", "-batch", *(word for line in lines for word in ("-ex", line)), f"{program}.lines.elf"]
     # In a shell, since the order of what gdb says on its two outputs counts.
     done = command(["sh", "-c", 'exec "$@" 2>&1', "sh", *words], folder, more={"RVSTM": str(run.program), "DEBUGINFOD_URLS": ""})
     came = re.sub(r"^\+[a-z]* \n", "", done.out, flags=re.M)
-    same(came, (EXAMPLES / f"debugged/{name}.out").read_text(encoding="utf-8"))
+    same(came, (FIXTURES / f"debugged/{name}.out").read_text(encoding="utf-8"))
 
 
 AT_LINE = ("echo @{0}\\n", "break {0}", "monitor go 0", "maintenance flush register-cache", "continue", "delete")
@@ -317,7 +313,6 @@ def lines_stop(run: Run) -> None:
 
 
 def cases() -> list[Case]:
-    """All of them."""
     names, found = folders(), list[Case]()
     listed = [name for name in names if (EXAMPLES / name / f"{name}.list").is_file()]
     explored = [name for name in (*names, *IN_BLOCKS) if (EXAMPLES / name / f"{name}.explore").is_file()]

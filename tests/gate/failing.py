@@ -2,9 +2,8 @@
 
 from collections.abc import Iterable
 
-from gate.calls import Ended, command
-from gate.cases import Case, Run, same
-from gate.machine import Tool
+from gate.calls import EndedCommand, command
+from gate.runner import Case, Run, Tool, same
 from gate.shims import loaded
 from gate.texts import written
 
@@ -36,19 +35,16 @@ WRITES = {"fail": "rvstm: output Io 1\n", "none": "rvstm: output WroteNothing 2\
 
 
 def begun(run: Run) -> None:
-    """The files."""
     for name, text in FILES.items():
         written(run.place / name, text)
     (run.place / "echo.elf").write_bytes(ELF)
 
 
-def with_failing(run: Run, words: Iterable[str], **failing: str) -> Ended:
-    """Runs a command of which reads or writes fail."""
+def with_failing(run: Run, words: Iterable[str], **failing: str) -> EndedCommand:
     return command([run.program, *words], run.place, TYPED, {**loaded(run, "failing_streams.c"), **failing})
 
 
-def ends(done: Ended, status: int, out: str, errors: str, what: str) -> None:
-    """A command ended so."""
+def ends(done: EndedCommand, status: int, out: str, errors: str, what: str) -> None:
     same((done.status, done.out, done.errors), (status, out, errors), what)
 
 
@@ -103,6 +99,5 @@ def reports(run: Run) -> None:
 
 
 def cases() -> list[Case]:
-    """All of them."""
     found = {"reads": reads, "lines of the debugger": lines, "outputs": outputs, "reports": reports}
     return [Case(f"failing: {name}", run, (Tool.CC,), cost=3) for name, run in found.items()]

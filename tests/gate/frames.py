@@ -3,9 +3,9 @@
 from pathlib import Path
 
 from gate.calls import Word, command, rvstm
-from gate.cases import Case, Run, holds, same, shown
-from gate.clients import Session, asks, name_of
+from gate.clients import ClientSession, asks, name_of
 from gate.many import CALL, FORTY, KEY, value
+from gate.runner import Case, Run, holds, same, shown
 from gate.tables import has_pieces, table
 from gate.texts import written
 
@@ -70,7 +70,6 @@ def counts_go_on(run: Run) -> None:
 
 
 def too_many_calls(run: Run) -> None:
-    """A frame of 1,025 calls."""
     text = rvstm(run, "chain", data=session_over(table("programs").contents["COUNT"], [CALL * 1025])).done()
     holds(text.endswith("\nrefused block 1027 Limit 7\n"), text, "refused block 1027 Limit 7")
 
@@ -81,15 +80,15 @@ def too_many_calls(run: Run) -> None:
 def closed_and_killed(run: Run) -> None:
     """The next session goes on where the one before ended, whether that closed its file or was killed."""
     for path, is_killed in ((run.place / "closed", False), (run.place / "killed", True)):
-        with Session(run.program, "--store", path) as session:
+        with ClientSession(run.program, "--store", path) as session:
             session.ask(asks("frame", ONE_ENTRY.encode()))
             session.expect(asks("frame", b""), NO_HEADER)
             if is_killed:
                 session.kill()
             else:
-                same(session.end(b""), (b"", "", 0))
-        with Session(run.program, "--store", path) as session:
-            same(session.end(asks("last") + asks("list", None, ZEROS, "9")), (KEPT, "", 0))
+                same(session.ended(b""), (b"", "", 0))
+        with ClientSession(run.program, "--store", path) as session:
+            same(session.ended(asks("last") + asks("list", None, ZEROS, "9")), (KEPT, "", 0))
 
 
 def is_refused(run: Run, path: Path, content: bytes, what: str) -> None:
@@ -101,7 +100,6 @@ def is_refused(run: Run, path: Path, content: bytes, what: str) -> None:
 
 
 def texts(run: Run) -> None:
-    """Texts, once and 1,000 times, are no sessions."""
     for text in TEXTS:
         for times in (1, 1000):
             is_refused(run, run.place / "file", text.encode() * times, f"{shown(text)} {times} times")
@@ -133,7 +131,6 @@ def by_threads(run: Run) -> None:
 
 
 def not_text(run: Run) -> None:
-    """A word of the command line that is not UTF-8."""
     done = command([run.program, "seq", "\udcff.block"])
     came = (done.status, done.out, done.errors)
     holds(came[:2] == (2, "") and "error: a word of the command line is not UTF-8\n" in done.errors, came, "status 2")

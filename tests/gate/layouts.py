@@ -5,9 +5,8 @@ from collections.abc import Iterator
 from dataclasses import dataclass
 
 from gate.calls import command
-from gate.cases import TOP, Case, Run, holds, same
 from gate.library import INCLUDE, STRICT
-from gate.machine import Tool
+from gate.runner import TOP, Case, Run, Tool, holds, same
 from gate.texts import written
 
 SOURCES = TOP / "crates/rvstm_c/src"
@@ -60,7 +59,6 @@ class Sources:
 
 
 def sources() -> Sources:
-    """All of the crate."""
     text = "\n".join(path.read_text(encoding="utf-8") for path in sorted(SOURCES.rglob("*.rt")))
     structs = {name: FIELD.findall(body) for name, body in STRUCT.findall(text)}
     numbers = {name: int(number.replace("u64::MAX", str(2**64 - 1)).replace("_", "")) for name, number in NUMBER.findall(text)}
@@ -96,5 +94,4 @@ def as_in_rattle(run: Run) -> None:
 
 
 def cases() -> list[Case]:
-    """The one case."""
     return [Case("library: its header beside its sources", as_in_rattle, (Tool.CC,))]

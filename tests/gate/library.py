@@ -8,9 +8,8 @@ from functools import partial
 from pathlib import Path
 
 from gate.calls import command, tool_words
-from gate.cases import TOP, Case, Run, holds, same
-from gate.machine import Tool
 from gate.outside import last_lines
+from gate.runner import TOP, Case, Run, Tool, holds, same
 from gate.texts import written
 
 EMBED, TOKEN, INCLUDE = TOP / "examples/embed", TOP / "examples/token", TOP / "include"
@@ -43,7 +42,6 @@ def prints(run: Run, *words: str | Path) -> None:
 
 
 def in_python(run: Run) -> None:
-    """The example in Python, by ctypes."""
     prints(run, "python3", EMBED / "embed.py", folder(run) / "librvstm.so", run.program)
 
 
@@ -56,7 +54,6 @@ def header(run: Run) -> None:
 
 
 def version(run: Run) -> None:
-    """The library's version is the header's."""
     declared = re.search(r"^#define RVSTM_VERSION (\d+)$", (INCLUDE / "rvstm.h").read_text(encoding="utf-8"), re.M)
     assert declared
     same(ctypes.CDLL(str(folder(run) / "librvstm.so")).rvstm_version(), int(declared[1]))
@@ -72,7 +69,6 @@ def shown_names(run: Run) -> None:
 
 
 def two_copies(run: Run) -> None:
-    """Two copies of the library in one program."""
     declared = re.findall(r"^[a-z].* (rvstm_([a-z_]*))\(", (INCLUDE / "rvstm.h").read_text(encoding="utf-8"), re.M)
     names = written(run.place / "names", "".join(f"{name} second_{rest}\n" for name, rest in declared))
     second, made = run.place / "second.a", run.place / "two"
@@ -111,7 +107,6 @@ def crates_in_rust(run: Run) -> None:
 
 
 def cases() -> list[Case]:
-    """All of them."""
     found = []
     for compiler, source, needs in ((("cc",), "embed.c", Tool.CC), (("c++", "-std=c++11"), "embed.cpp", Tool.CPP)):
         for is_shared in (False, True):

@@ -2,13 +2,15 @@
 worked out from docs/formats.md, whose example has the program's name, the frame of three counts, its answer and its digest."""
 
 import ctypes
-import enum
 from collections.abc import Sequence
 from dataclasses import dataclass
 from functools import partial
 from pathlib import Path
 
-from gate.cases import TOP, Case, Run, same
+from embed import Handle, Parts, Settings
+
+from gate.runner import TOP, Case, Run, same
+from rvstm_developers.embedded_library import LibraryStatus
 
 COUNTER = (TOP / "examples/counter/counter.elf").read_bytes()
 """It counts up the key that is its input."""
@@ -43,38 +45,7 @@ BLOCKS = 100
 """Of one count each, in one session."""
 
 
-class Status(enum.IntEnum):
-    """What a call returns, as include/rvstm.h has it."""
-
-    DONE = 0
-    REFUSED = 1
-    CLOSED = 2
-    ALREADY_OPEN = 3
-    FAILED = 4
-    NO_MEMORY = 5
-    SHORT_BUFFER = 6
-    BAD_SETTINGS = 7
-
-
-DONE, REFUSED, CLOSED, ALREADY_OPEN, BAD_SETTINGS = Status.DONE, Status.REFUSED, Status.CLOSED, Status.ALREADY_OPEN, Status.BAD_SETTINGS
-
-
-class Handle(ctypes.Structure):
-    """An rvstm_session; ctypes makes all its bytes zero."""
-
-    _fields_ = [("at", ctypes.c_void_p), ("full", ctypes.c_bool)]
-
-
-class Settings(ctypes.Structure):
-    """An rvstm_settings."""
-
-    _fields_ = [("frame_limit", ctypes.c_uint64), ("frame_gas", ctypes.c_uint64), ("digest", ctypes.c_bool), ("brief", ctypes.c_bool)]
-
-
-class Parts(ctypes.Structure):
-    """An rvstm_refusal_parts."""
-
-    _fields_ = [("line", ctypes.c_size_t), ("number", ctypes.c_uint32), ("area", ctypes.c_char * 8), ("name", ctypes.c_char * 24)]
+DONE, REFUSED, CLOSED, ALREADY_OPEN, BAD_SETTINGS = LibraryStatus.DONE, LibraryStatus.REFUSED, LibraryStatus.CLOSED, LibraryStatus.ALREADY_OPEN, LibraryStatus.BAD_SETTINGS
 
 
 END_OF_PARTS = 44
@@ -82,9 +53,7 @@ END_OF_PARTS = 44
 
 
 @dataclass(frozen=True)
-class Refused:
-    """The parts of a refusal."""
-
+class RefusedCall:
     area: bytes
     number: int
     name: bytes
@@ -92,18 +61,17 @@ class Refused:
 
 
 Given = bytes | int | Settings
-Row = tuple[str, Sequence[Given], Status, bytes | Refused | None]
+Row = tuple[str, Sequence[Given], LibraryStatus, bytes | RefusedCall | None]
 """The end of a call's name, what it is given, its status, and the answer that the session then has; None if there is no session."""
 
-NO_LINE = Refused(b"request", 1, b"BadLine")
-NO_PROGRAM, NO_FRAME = Refused(b"frame", 3, b"NoProgram"), Refused(b"frame", 7, b"NoFrame")
-TOO_LONG, OTHER_DIGEST = Refused(b"frame", 4, b"TooLong"), Refused(b"frame", 8, b"OtherDigest")
+NO_LINE = RefusedCall(b"request", 1, b"BadLine")
+NO_PROGRAM, NO_FRAME = RefusedCall(b"frame", 3, b"NoProgram"), RefusedCall(b"frame", 7, b"NoFrame")
+TOO_LONG, OTHER_DIGEST = RefusedCall(b"frame", 4, b"TooLong"), RefusedCall(b"frame", 8, b"OtherDigest")
 
 
 def state(
     rules: int = 1, height: int = 0, keys: int = 0, programs: int = 0, limit: int = 67_108_864, gas: str = "none", more: str = "brief 0\n",
 ) -> bytes:
-    """What a session says of itself."""
     text = f"rules {rules}\nheight {height}\nkeys {keys}\nprograms {programs}\nframe-limit {limit}\nframe-gas {gas}\n"
     return (text + more).encode()
 
@@ -113,8 +81,7 @@ def narrow(digest: str, **counts: int) -> bytes:
     return state(**counts, limit=316, gas="3000", more=f"brief 1\ndigest {digest}\n")
 
 
-def each(status: Status, answer: Refused | None, *calls: tuple[str, Sequence[Given]]) -> Sequence[Row]:
-    """Rows of calls that all have one answer."""
+def each(status: LibraryStatus, answer: RefusedCall | None, *calls: tuple[str, Sequence[Given]]) -> Sequence[Row]:
     return [(name, given, status, answer) for name, given in calls]
 
 
@@ -145,7 +112,7 @@ WITH_SETTINGS: Sequence[Row] = [
     ("state", [], DONE, narrow("ea7c6e243784c0cf368b58dfeb9d1cabb32b1a54bdc9e3bb69b83f644af4eb06", height=1, keys=1, programs=1)),
     ("try", [MORE_BYTES], REFUSED, TOO_LONG),
     ("frame", [MORE_BYTES], REFUSED, TOO_LONG),
-    ("frame", [MORE_GAS], REFUSED, Refused(b"frame", 5, b"TooMuchGas")),
+    ("frame", [MORE_GAS], REFUSED, RefusedCall(b"frame", 5, b"TooMuchGas")),
     ("begin", [0, b"-", EMPTY], REFUSED, OTHER_DIGEST),
     # worked out with hashlib
     ("state", [], DONE, narrow("4837c98e5d46a9511241d08034f462c48a7f05ac73dccbd45a909190cd48987b", height=3, keys=1, programs=1)),
@@ -156,7 +123,7 @@ WITH_SETTINGS: Sequence[Row] = [
 PROGRAMS: Sequence[Row] = [
     ("open", [], DONE, b""),
     ("programs", [], DONE, b""),
-    ("program", [b""], REFUSED, Refused(b"elf", 1, b"Truncated")),
+    ("program", [b""], REFUSED, RefusedCall(b"elf", 1, b"Truncated")),
     ("program", [COUNTER], DONE, NAMED),
     ("program", [COUNTER], DONE, NAMED),
     ("programs", [], DONE, NAMED),
@@ -170,7 +137,7 @@ PROGRAMS: Sequence[Row] = [
 FRAMES: Sequence[Row] = [
     ("open", [], DONE, b""),
     ("last", [], REFUSED, NO_FRAME),
-    ("frame", [b""], REFUSED, Refused(b"block", 1, b"BadHeader", 1)),
+    ("frame", [b""], REFUSED, RefusedCall(b"block", 1, b"BadHeader", 1)),
     ("frame", [COUNT], REFUSED, NO_PROGRAM),
     ("last", [], REFUSED, NO_PROGRAM),
     ("program", [COUNTER], DONE, NAMED),
@@ -178,7 +145,7 @@ FRAMES: Sequence[Row] = [
     ("get", [KEY], DONE, b"absent\n"),
     ("last", [], REFUSED, NO_PROGRAM),
     ("frame", [COUNT], DONE, COUNTED),
-    ("try", [b"rvblock 1\nfoo\n"], REFUSED, Refused(b"block", 2, b"BadLine", 2)),
+    ("try", [b"rvblock 1\nfoo\n"], REFUSED, RefusedCall(b"block", 2, b"BadLine", 2)),
     ("last", [], DONE, COUNTED),
     ("get", [KEY], DONE, b"value 01000000\n"),
     ("state", [], DONE, state(height=3, keys=1, programs=1)),
@@ -193,12 +160,12 @@ STORAGES: Sequence[Row] = [
     ("get", [LAST_KEY], DONE, b"value -\n"),
     ("list", [NEXT_KEY, 1], DONE, b"store " + NEXT_KEY + b" bb00\n"),
     ("list", [ZEROS, 1024], DONE, LISTED),
-    ("frame", [EMPTY], REFUSED, Refused(b"frame", 2, b"OlderRules")),
+    ("frame", [EMPTY], REFUSED, RefusedCall(b"frame", 2, b"OlderRules")),
     ("begin", [5, ZEROS, EMPTY], REFUSED, OTHER_DIGEST),
-    ("begin", [5, b"-", EMPTY + b"program 0 x\n"], REFUSED, Refused(b"frame", 6, b"NotADump")),
+    ("begin", [5, b"-", EMPTY + b"program 0 x\n"], REFUSED, RefusedCall(b"frame", 6, b"NotADump")),
     ("begin", [GREATEST, b"-", EMPTY], DONE, b""),
     ("list", [ZEROS, 1024], DONE, b""),
-    ("frame", [EMPTY], REFUSED, Refused(b"frame", 9, b"TooHigh")),
+    ("frame", [EMPTY], REFUSED, RefusedCall(b"frame", 9, b"TooHigh")),
     ("last", [], REFUSED, NO_FRAME),
     ("begin", [5, b"-", ENTRIES], DONE, b""),
     ("state", [], DONE, state(rules=2, height=5, keys=3)),
@@ -229,18 +196,15 @@ A_HUNDRED_BLOCKS: Sequence[Row] = [
 ]
 
 
-class Session:
-    """A session of the library."""
-
+class LibrarySession:
     def __init__(self, library: Path) -> None:
         self.library, self.handle = ctypes.CDLL(str(library)), Handle()
         self.library.rvstm_answer_length.restype = ctypes.c_size_t
 
-    def call(self, name: str, *words: object) -> Status:
-        """The status of a call by the end of its name."""
-        return Status(self.library["rvstm_" + name](ctypes.byref(self.handle), *words))
+    def call(self, name: str, *words: object) -> LibraryStatus:
+        return LibraryStatus(self.library["rvstm_" + name](ctypes.byref(self.handle), *words))
 
-    def ask(self, name: str, given: Sequence[Given]) -> Status:
+    def ask(self, name: str, given: Sequence[Given]) -> LibraryStatus:
         """The same, of a call that is given settings, numbers, and bytes with their length."""
         words: list[object] = []
         for value in given:
@@ -250,28 +214,28 @@ class Session:
                 words.append(ctypes.c_uint64(value) if isinstance(value, int) else ctypes.byref(value))
         return self.call(name, *words)
 
-    def copied(self, length: int) -> tuple[Status, bytes]:
+    def copied(self, length: int) -> tuple[LibraryStatus, bytes]:
         """What copying the answer into so many bytes returns, and what they and the byte after them then hold."""
         buffer = ctypes.create_string_buffer(b"\xee" * (length + 1), length + 1)
         return self.call("answer", buffer, ctypes.c_size_t(length)), buffer.raw
 
-    def check(self, wanted: bytes | Refused | None, what: str) -> None:
+    def check(self, wanted: bytes | RefusedCall | None, what: str) -> None:
         """The session has this answer, copies it whole or not at all, and says why the last request was refused."""
         text = wanted if isinstance(wanted, bytes) else b""
         same(self.library.rvstm_answer_length(ctypes.byref(self.handle)), len(text), what)
         same(self.copied(len(text)), (CLOSED if wanted is None else DONE, text + b"\xee"), what)
         if text:
-            same(self.copied(len(text) - 1), (Status.SHORT_BUFFER, b"\xee" * len(text)), what)
-        parts, refused = Parts(9, 9, b"9" * 8, b"9" * 24), wanted if isinstance(wanted, Refused) else Refused(b"", 0, b"")
+            same(self.copied(len(text) - 1), (LibraryStatus.SHORT_BUFFER, b"\xee" * len(text)), what)
+        parts, refused = Parts(9, 9, b"9" * 8, b"9" * 24), wanted if isinstance(wanted, RefusedCall) else RefusedCall(b"", 0, b"")
         status = self.call("refusal", ctypes.byref(parts))
-        same(status, CLOSED if wanted is None else REFUSED if isinstance(wanted, Refused) else DONE, what)
+        same(status, CLOSED if wanted is None else REFUSED if isinstance(wanted, RefusedCall) else DONE, what)
         same(bytes(parts)[:END_OF_PARTS], bytes(Parts(refused.line, refused.number, refused.area, refused.name))[:END_OF_PARTS], what)
 
 
 def answers(run: Run, rows: Sequence[Row]) -> None:
     """Each call of a session is answered as its row says."""
     assert run.setting.library
-    session = Session(run.setting.library / "librvstm.so")
+    session = LibrarySession(run.setting.library / "librvstm.so")
     for number, (name, given, status, answer) in enumerate(rows):
         what = f"call {number}, {name}"
         same(session.ask(name, given), status, what)
@@ -279,7 +243,6 @@ def answers(run: Run, rows: Sequence[Row]) -> None:
 
 
 def cases() -> list[Case]:
-    """One for each session."""
     sessions = {
         "calls without a session": UNOPENED, "sessions are opened and closed": OPENED, "settings": WITH_SETTINGS, "programs": PROGRAMS,
         "frames": FRAMES, "storages": STORAGES, "what no line says": WITHOUT_A_LINE, "a hundred blocks": A_HUNDRED_BLOCKS,

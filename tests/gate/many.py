@@ -5,8 +5,8 @@ from collections.abc import Sequence
 from pathlib import Path
 
 from gate.calls import rvstm
-from gate.cases import Case, Run, holds, same
-from gate.tables import Block, has_pieces, table
+from gate.runner import Case, Run, holds, same
+from gate.tables import TableBlock, has_pieces, table
 from gate.texts import mixed, written
 
 KEY = f"{1:064x}"
@@ -64,7 +64,7 @@ def put(run: Run, head: str, names: Sequence[str], lines: str) -> Path:
     contents = table("programs").contents
     for number, name in enumerate(names):
         (run.place / str(number)).write_bytes(contents[name])
-    written(run.place / "block", Block("", names, head, lines).text())
+    written(run.place / "block", TableBlock("", names, head, lines).text())
     return run.place
 
 
@@ -117,7 +117,7 @@ def touches(run: Run) -> None:
     """Calls of one program share its pages, and none sees what another one wrote to its own."""
     written(run.place / "touch.s", TOUCH)
     rvstm(run, "asm", "touch.s", "--out", "0", folder=run.place).done()
-    written(run.place / "block", Block("", ["TOUCH"], lines="call 0 1000 -\n" * 8).text())
+    written(run.place / "block", TableBlock("", ["TOUCH"], lines="call 0 1000 -\n" * 8).text())
     text = rvstm(run, "run", "block", "--workers", "4", folder=run.place).done()
     holds(has_pieces(text, [" returned gas 24 pc 00010020 out 08000000\n"] * 8), text, "eight calls that return 8")
 

@@ -13,10 +13,9 @@ from functools import partial
 from pathlib import Path
 
 from gate.calls import command
-from gate.cases import TOP, Case, Lacks, Run, holds, same
-from gate.machine import CONTRACTS
 from gate.outside import last_lines
-from long.models.sessions import NO_DIGEST, Model
+from gate.runner import CONTRACTS, TOP, Case, Lacks, Run, holds, same
+from rvstm_developers.models.sessions import NO_DIGEST, SessionModel
 from rvstm_tools.programs.running import Program
 from rvstm_tools.sessions import answers, requests
 from rvstm_tools.sessions import frames as texts
@@ -49,11 +48,9 @@ class Blocks:
     storage: Storage = field(default_factory=dict)
 
     def begin(self) -> Request:
-        """The request that begins the session."""
         return requests.begin(0, NO_DIGEST, texts.dump_of(Rules.THREE, self.storage))
 
     def at(self, number: int) -> Request:
-        """The frame of a height."""
         is_strange = number % BLOCKS == STRANGER_AT
         return Request(Word.FRAME, (), STRANGE if is_strange else self.listed[(number - 1) % len(self.listed)])
 
@@ -74,9 +71,9 @@ def read_blocks() -> Blocks:
 
 
 @contextmanager
-def model_of(run: Run, blocks: Blocks) -> Iterator[Model]:
+def model_of(run: Run, blocks: Blocks) -> Iterator[SessionModel]:
     """A session in Python, which runs frames by `rvstm seq`, and has begun."""
-    model = Model(Program(run.program), SETTINGS)
+    model = SessionModel(Program(run.program), SETTINGS)
     with model.place:
         for request in (*blocks.programs, blocks.begin()):
             model.answer(request)
@@ -84,12 +81,10 @@ def model_of(run: Run, blocks: Blocks) -> Iterator[Model]:
 
 
 def next_digest(digest: bytes, answer: Answer) -> bytes:
-    """The digest after one more answer."""
     return hashlib.sha256(digest + answer.text()).digest()
 
 
 def needed(session: Session, request: Request) -> Answer:
-    """The answer to a request, which is there."""
     answer = session.ask(request)
     assert answer is not None
     return answer
@@ -157,7 +152,6 @@ def from_a_file(run: Run) -> None:
 
 
 def signed_calls(run: Run, tests: str) -> None:
-    """Some tests of the example."""
     if command([PYTHON, "-c", "import cryptography"]).status:
         raise Lacks("python3-cryptography")
     more = {"RVSTM": str(run.program), "PYTHONDONTWRITEBYTECODE": "1"}
@@ -180,7 +174,6 @@ def few_lines(run: Run) -> None:
 
 
 def cases() -> list[Case]:
-    """All of them."""
     return [
         Case("node: from a dump", from_a_dump, cost=2),
         Case("node: from a file", from_a_file, cost=8),

@@ -1,8 +1,7 @@
 """The order in which commands open files, and what is read to its end: a file that is refused is the last."""
 
 from gate.calls import command
-from gate.cases import Case, Run, same
-from gate.machine import Tool
+from gate.runner import Case, Run, Tool, same
 from gate.shims import loaded
 from gate.texts import written
 
@@ -54,5 +53,4 @@ def opened(run: Run) -> None:
 
 
 def cases() -> list[Case]:
-    """The only one."""
     return [Case("opened: files in their order", opened, (Tool.CC,))]

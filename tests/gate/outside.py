@@ -9,8 +9,8 @@ from typing import Any
 
 from gate import waits
 from gate.calls import command, rvstm, tool_words
-from gate.cases import TOP, Case, Run, holds, same
-from gate.texts import Call, block, ends, field, mixed, receipts, storage, written
+from gate.runner import TOP, Case, Run, holds, same
+from gate.texts import GivenCall, block, ends, field, mixed, receipts, storage, written
 
 FOLDER = TOP / "tests/cases"
 WORKERS = (1, 2, 4, 8, 32)
@@ -34,7 +34,6 @@ def rows(path: Path, separator: str, count: int) -> list[list[str]]:
 
 
 def by_seq(run: Run, text: str, folder: Path = FOLDER) -> str:
-    """The result of a block by `seq`."""
     return rvstm(run, "seq", written(run.place / "case.block", text), folder=folder).done()
 
 
@@ -46,7 +45,7 @@ def contract(run: Run, name: str) -> None:
     data = json_of(FOLDER / f"contracts/{name}.json")
     groups = [{"name": one["name"], "start": {}, "calls": [one]} for one in data.get("cases", [])] + data.get("sequences", [])
     for group in groups:
-        calls = [Call(0, one["gas"], one["input"]) for one in group["calls"]]
+        calls = [GivenCall(0, one["gas"], one["input"]) for one in group["calls"]]
         result = by_seq(run, block([f"contracts/{data['program']}.elf"], calls, group["start"]))
         same(ends(result), [(one["end"], field(one["output"])) for one in group["calls"]], group["name"])
         if "final" in group:
@@ -108,7 +107,7 @@ def torture(run: Run, names: Sequence[str]) -> None:
     """The bytes that programs return, the programs that their sources are assembled to, and their replays."""
     expected: dict[str, str] = json_of(FOLDER / "torture/expected.json")
     for name in names:
-        text = block([f"torture/{name}.elf"], [Call()])
+        text = block([f"torture/{name}.elf"], [GivenCall()])
         result = by_seq(run, text)
         same(ends(result), [("returned", expected[name])], name)
         made = run.place / "made.elf"
@@ -135,7 +134,7 @@ def replay(run: Run, name: str, output: str, registers: str) -> None:
 def images(run: Run) -> None:
     """ELF files as real tools write them: the fault of each, or a result."""
     for name, fault, number in rows(FOLDER / "images/TABLE", " ", 3):
-        path = written(run.place / "case.block", block([f"images/{name}"], [Call(gas=1)]))
+        path = written(run.place / "case.block", block([f"images/{name}"], [GivenCall(gas=1)]))
         done = rvstm(run, "seq", path, folder=FOLDER)
         if fault == "ok":
             same(done.done().splitlines()[-1], "end", name)
@@ -147,7 +146,6 @@ def images(run: Run) -> None:
 
 
 def program_of(words: Sequence[int]) -> bytes:
-    """An ELF file whose text has these words."""
     size = 4 * len(words)
     ident = b"\x7fELF\1\1\1" + bytes(9)
     header = struct.pack("<HHIIIIIHHHHHH", 2, 243, 1, 0x10000, 52, 0, 0, 52, 32, 1, 0, 0, 0)
@@ -174,7 +172,7 @@ def legal_words(run: Run) -> None:
         part = table[at : at + PROGRAMS_A_BLOCK]
         for number, (word, _) in enumerate(part):
             (run.place / f"{number}.elf").write_bytes(program_of([word]))
-        calls = [Call(number, 1000) for number in range(len(part))]
+        calls = [GivenCall(number, 1000) for number in range(len(part))]
         came = receipts(by_seq(run, block([f"{number}.elf" for number in range(len(part))], calls), run.place))
         for (word, text), receipt in zip(part, came, strict=True):
             is_legal = word & 0x707F == 0x000F or not text.startswith(".word")
@@ -186,7 +184,6 @@ def legal_words(run: Run) -> None:
 
 
 def fuzzed(run: Run) -> None:
-    """Damaged files of each kind."""
     run.note(f"seed {run.setting.seed}")
     done = command([*tool_words("fuzz"), run.program, str(RANDOM_SECONDS), str(run.setting.seed)])
     holds(done.status == 0, last_lines(done.out + done.errors), "status 0")
@@ -213,12 +210,10 @@ def last_lines(text: str, count: int = 3) -> str:
 
 
 def chunks(names: Sequence[str], size: int) -> Iterator[Sequence[str]]:
-    """Parts of a list."""
     return (names[at : at + size] for at in range(0, len(names), size))
 
 
 def cases() -> list[Case]:
-    """All of them."""
     of = "from outside:"
     found = [
         Case(f"{of} images", images, cost=2),

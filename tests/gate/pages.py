@@ -14,8 +14,7 @@ from collections.abc import Iterator, Sequence
 from dataclasses import dataclass
 from pathlib import Path
 
-from gate.cases import TOP, Case, Differs, Lacks, Run, shown
-from gate.machine import Tool
+from gate.runner import TOP, Case, Differs, Lacks, Run, Tool, shown
 
 PROMPT = "$ "
 MARKER = re.compile(r"<!-- (not run|needs): (.+) -->")
@@ -30,7 +29,7 @@ CUT = ".."
 
 
 @dataclass(frozen=True)
-class Step:
+class PageStep:
     """A command, which may have several lines, and the lines that it prints."""
 
     command: str
@@ -38,12 +37,12 @@ class Step:
 
 
 @dataclass(frozen=True)
-class Block:
+class PageBlock:
     """A block of a page that has a command and its output."""
 
     page: str
     line: int
-    steps: tuple[Step, ...]
+    steps: tuple[PageStep, ...]
     reason: str = ""
     """Why it is not run; empty if it is."""
     needs: tuple[Tool, ...] = ()
@@ -52,12 +51,10 @@ class Block:
 
     @property
     def name(self) -> str:
-        """Where it is."""
         return f"{self.page}:{self.line}"
 
 
 def page_files() -> list[Path]:
-    """The pages, README first."""
     others = ("bench/README.md", "examples/cluster/README.md")
     return [TOP / "README.md", TOP / "CONTRIBUTING.md", *sorted((TOP / "docs").glob("*.md")), *(TOP / name for name in others)]
 
@@ -84,7 +81,7 @@ def code_blocks(lines: Sequence[str]) -> Iterator[tuple[int, list[str]]]:
             number += 1
 
 
-def steps_of(lines: Sequence[str]) -> tuple[Step, ...]:
+def steps_of(lines: Sequence[str]) -> tuple[PageStep, ...]:
     """The commands of a block with what they print. A line that ends with `\\`, or a text after `<<'END'`, belongs to its command."""
     steps: list[tuple[list[str], list[str]]] = []
     ending, goes_on = "", False
@@ -99,7 +96,7 @@ def steps_of(lines: Sequence[str]) -> tuple[Step, ...]:
             ending, goes_on = here[1] if here else "", line.endswith("\\")
         elif steps:
             steps[-1][1].append(line)
-    return tuple(Step("\n".join(command), tuple(printed)) for command, printed in steps)
+    return tuple(PageStep("\n".join(command), tuple(printed)) for command, printed in steps)
 
 
 def marker_before(lines: Sequence[str], number: int) -> tuple[str, str]:
@@ -111,7 +108,7 @@ def marker_before(lines: Sequence[str], number: int) -> tuple[str, str]:
     return (found[1], found[2]) if found else ("", "")
 
 
-def blocks_of(page: str, text: str) -> list[Block]:
+def blocks_of(page: str, text: str) -> list[PageBlock]:
     """The blocks of a page that have a command and its output, and those with a command alone that such blocks continue."""
     lines, found = text.splitlines(), []
     for number, block in code_blocks(lines):
@@ -119,7 +116,7 @@ def blocks_of(page: str, text: str) -> list[Block]:
             kind, value = marker_before(lines, number)
             words = value.split(", ") if kind == "needs" else []
             tools = tuple(tool for tool in Tool if tool.name.lower() in words)
-            found.append(Block(page, number, steps_of(block), value if kind == "not run" else "", tools, BUILT in words))
+            found.append(PageBlock(page, number, steps_of(block), value if kind == "not run" else "", tools, BUILT in words))
     return found
 
 
@@ -127,7 +124,6 @@ def blocks_of(page: str, text: str) -> list[Block]:
 
 
 def line_pattern(line: str) -> str:
-    """A line of a page as a regular expression."""
     return ".*".join(re.escape(part) for part in line.split(CUT))
 
 
@@ -194,7 +190,7 @@ class Shell:
             lines.append(line.rstrip("\n"))
         raise Differs(f"came the end of the shell, after {shown(lines[-1] if lines else '')}; wanted the end of {shown(command)}")
 
-    def block(self, block: Block) -> None:
+    def block(self, block: PageBlock) -> None:
         """Runs a block, and compares what each of its commands prints."""
         if block.steps and block.steps[0].command.startswith("cd "):
             self.printed(f"cd {self.tree}")
@@ -220,13 +216,13 @@ def tree_of(run: Run) -> Path:
     return tree
 
 
-def missing(run: Run, block: Block) -> list[str]:
+def missing(run: Run, block: PageBlock) -> list[str]:
     """What a block needs that is not there."""
     found = [tool.label for tool in block.needs if not tool.is_there()]
     return [*found, BUILT] if block.needs_speed and run.setting.is_preview else found
 
 
-def run_page(run: Run, blocks: Sequence[Block]) -> None:
+def run_page(run: Run, blocks: Sequence[PageBlock]) -> None:
     """Runs the blocks of a page in their order. Of one that is left out only the change of the folder is made."""
     shell, lacks = Shell(run, tree_of(run)), dict[str, None]()
     for block in blocks:
@@ -239,7 +235,7 @@ def run_page(run: Run, blocks: Sequence[Block]) -> None:
         raise Lacks(f"{', '.join(lacks)} (the other blocks passed)")
 
 
-def counted(run: Run, pages: dict[str, list[Block]]) -> None:
+def counted(run: Run, pages: dict[str, list[PageBlock]]) -> None:
     """How many blocks are run, and how many are marked: at most a fifth."""
     blocks = [block for found in pages.values() for block in found]
     for block in blocks:
@@ -256,14 +252,14 @@ def counted(run: Run, pages: dict[str, list[Block]]) -> None:
 
 def cases() -> list[Case]:
     """A case for each page that has blocks, and one that counts them all."""
-    pages: dict[str, list[Block]] = {}
+    pages: dict[str, list[PageBlock]] = {}
     for file in page_files():
         name = str(file.relative_to(TOP))
         found = blocks_of(name, file.read_text(encoding="utf-8"))
         if found:
             pages[name] = found
 
-    def of(blocks: list[Block]) -> Case:
+    def of(blocks: list[PageBlock]) -> Case:
         most = 1 + sum(not block.reason for block in blocks)
         return Case(f"pages: {blocks[0].page}", lambda run: run_page(run, blocks), seconds=SECONDS_A_BLOCK * most, cost=3.0 * most)
 

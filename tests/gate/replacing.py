@@ -7,9 +7,8 @@ import stat
 from collections.abc import Callable
 from pathlib import Path
 
-from gate.calls import Ended, Word, command, rvstm
-from gate.cases import Case, Run, holds, same
-from gate.machine import Tool
+from gate.calls import EndedCommand, Word, command, rvstm
+from gate.runner import Case, Run, Tool, holds, same
 from gate.shims import loaded
 from gate.texts import written
 
@@ -21,8 +20,7 @@ NEW_NAMES = [f".rvstm.new{number}" for number in range(100)]
 """The names of a new file while it is written, of which the first free one is taken."""
 
 
-def migrated(run: Run, path: str | Path) -> Ended:
-    """Puts the new bytes at a path."""
+def migrated(run: Run, path: str | Path) -> EndedCommand:
     written(run.place / "block", GIVEN)
     return rvstm(run, "migrate", "block", "--out", path, folder=run.place)
 
@@ -35,22 +33,18 @@ def puts(run: Run, path: str, *names: str) -> None:
 
 
 def refuses(run: Run, path: str | Path) -> None:
-    """The new bytes may not be put at a path."""
     migrated(run, path).refused(UNWRITABLE)
 
 
 def names_in(folder: Path) -> list[str]:
-    """The names in a folder."""
     return sorted(os.listdir(folder))
 
 
 def old(run: Run, path: str) -> Path:
-    """A file with the old bytes."""
     return written(run.place / path, OLD)
 
 
 def has_old(path: Path) -> None:
-    """A file has the old bytes."""
     same(path.read_text(encoding="utf-8"), OLD, path.name)
 
 
@@ -159,7 +153,7 @@ def one_file(run: Run) -> None:
         (one / name).symlink_to(to)
     old(run, "one/other")
 
-    def rewritten(file: str, path: str) -> Ended:
+    def rewritten(file: str, path: str) -> EndedCommand:
         return rvstm(run, "migrate", file, "--out", path, folder=run.place)
 
     for file, path in (
@@ -174,7 +168,7 @@ def one_file(run: Run) -> None:
     same(names_in(one), ["file", "hard", "loop", "none", "other", "soft"])
 
 
-def with_failing(run: Run, kind: str, number: int, error: int, name: str = "migrate", file: str = "block") -> Ended:
+def with_failing(run: Run, kind: str, number: int, error: int, name: str = "migrate", file: str = "block") -> EndedCommand:
     """A command puts its file at `failing/out`, and one call on a file fails."""
     written(run.place / "block", GIVEN)
     written(run.place / "source", SOURCE)
@@ -219,7 +213,6 @@ def stolen(run: Run) -> None:
 
 
 def cases() -> list[Case]:
-    """All of them."""
     plain: dict[str, Callable[[Run], None]] = {
         "a file is made and replaced": made_and_replaced, "a left-over file is removed": left_over, "other names stay": other_names,
         "all names are taken": all_names, "links are followed": links, "devices and pipes are written": devices_and_pipes,

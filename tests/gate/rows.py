@@ -8,10 +8,9 @@ from functools import partial
 from typing import TypeVar
 
 from gate.calls import command, rvstm
-from gate.cases import TOP, Case, Run, holds, same
-from gate.machine import CONTRACTS, Tool
+from gate.runner import CONTRACTS, TOP, Case, Run, Tool, holds, same
 from gate.stumbles import COMPILERS, FLAGS
-from gate.texts import Call, block, receipts, written
+from gate.texts import GivenCall, block, receipts, written
 
 MAKEFILE = TOP / "sdk/Makefile"
 FULL = 28
@@ -24,7 +23,7 @@ TABLE(acct);
 TABLE(B);
 FULL_TABLE(pay);
 
-/* A count of bytes that are left out, and a row: its key with a constant length, and that with a length known only now. */
+/* A count of bytes that are left out, and a row: its key with a constant length, and with one known only now. */
 static void keys_of_bytes(const u8 *row, u32 length) {{
     struct key keys[2];
     switch (length) {{
@@ -50,7 +49,8 @@ static void keys_of_parts(const u8 *input) {{
     return_output(keys, sizeof keys);
 }}
 
-static const struct key constants[] = {{TEXT_KEY(acct, "pot"), TEXT_KEY(B, "abcdefghijklmnopqrstuvwxyz0"), NUMBER_KEY(acct, 0x123456789abcdef0)}};
+static const struct key constants[] = {{
+    TEXT_KEY(acct, "pot"), TEXT_KEY(B, "abcdefghijklmnopqrstuvwxyz0"), NUMBER_KEY(acct, 0x123456789abcdef0)}};
 
 void contract(const u8 *input, u32 length) {{
     if (length == 0) {{
@@ -86,9 +86,9 @@ def keys_by_model(run: Run, compiler: str) -> None:
     written(run.place / "keys.c", KEYS)
     command(["make", "-s", "-f", MAKEFILE, f"TOOLS={compiler}", "keys.elf"], run.place).done()
     rows = some_rows(run.setting.seed)
-    calls = [Call(data=(bytes([left]) + bytes(left) + row).hex()) for row in rows for left in range(4)]
+    calls = [GivenCall(data=(bytes([left]) + bytes(left) + row).hex()) for row in rows for left in range(4)]
     parts = bytes(random.Random(run.setting.seed).randbytes(28))
-    calls += [Call(data=(b"\4\0\0\0" + parts).hex()), Call()]
+    calls += [GivenCall(data=(b"\4\0\0\0" + parts).hex()), GivenCall()]
     outputs = [bytes.fromhex(one.output) for part in batches(calls) for one in receipts(rvstm(run, "seq", part_of(run, part), folder=run.place).done())]
     seen = dict[bytes, tuple[str, bytes]]()
     for row, at in ((row, 4 * number + left) for number, row in enumerate(rows) for left in range(4)):
@@ -108,8 +108,7 @@ def batches(calls: Sequence[Batched]) -> list[Sequence[Batched]]:
     return [calls[at : at + 1000] for at in range(0, len(calls), 1000)]
 
 
-def part_of(run: Run, calls: Sequence[Call]) -> str:
-    """The file of a block of these calls."""
+def part_of(run: Run, calls: Sequence[GivenCall]) -> str:
     written(run.place / "keys.block", block(["keys.elf"], calls))
     return "keys.block"
 
@@ -149,7 +148,7 @@ def keys_on_this_machine(run: Run) -> None:
 # ---- costs
 
 @dataclass(frozen=True)
-class Cost:
+class KeyCost:
     """A key that a call makes and removes, the length of its input, and the most gas that the key may cost."""
 
     statement: str
@@ -159,16 +158,16 @@ class Cost:
 
 PLACE = "*(const struct account *)input"
 COSTS = (
-    Cost(f"ROW_KEY(&key, acct, {PLACE});", 20, 40),
-    Cost(f"ROW_KEY(&key, pay, {PLACE}, *(const u64 *)(const void *)(input + 20));", 28, 40),
-    Cost("ROW_KEY(&key, acct, *(const u64 *)(const void *)input);", 8, 40),
-    Cost("ROW_KEY(&key, acct, *(const u32 *)(const void *)input);", 4, 40),
-    Cost("ROW_KEY(&key, acct, *(const odd *)(const void *)input);", 27, 40),
-    Cost("ROW_KEY(&key, pay, BYTES(input + 1, 28));", 29, 90),
-    Cost("ROW_KEY(&key, acct, BYTES(input + 2, 27));", 29, 90),
-    Cost("ROW_KEY(&key, acct, BYTES(input + 3, 20));", 23, 90),
-    Cost("ROW_KEY(&key, acct, BYTES(input + 1, 7));", 8, 90),
-    *(Cost("ROW_KEY_OF(&key, acct, input, length);", length, 30 + 8 * length) for length in (1, 13, 20, 27)),
+    KeyCost(f"ROW_KEY(&key, acct, {PLACE});", 20, 40),
+    KeyCost(f"ROW_KEY(&key, pay, {PLACE}, *(const u64 *)(const void *)(input + 20));", 28, 40),
+    KeyCost("ROW_KEY(&key, acct, *(const u64 *)(const void *)input);", 8, 40),
+    KeyCost("ROW_KEY(&key, acct, *(const u32 *)(const void *)input);", 4, 40),
+    KeyCost("ROW_KEY(&key, acct, *(const odd *)(const void *)input);", 27, 40),
+    KeyCost("ROW_KEY(&key, pay, BYTES(input + 1, 28));", 29, 90),
+    KeyCost("ROW_KEY(&key, acct, BYTES(input + 2, 27));", 29, 90),
+    KeyCost("ROW_KEY(&key, acct, BYTES(input + 3, 20));", 23, 90),
+    KeyCost("ROW_KEY(&key, acct, BYTES(input + 1, 7));", 8, 90),
+    *(KeyCost("ROW_KEY_OF(&key, acct, input, length);", length, 30 + 8 * length) for length in (1, 13, 20, 27)),
 )
 COST = """#include "rows.h"
 TABLE(acct);
@@ -191,7 +190,7 @@ def costs(run: Run, compiler: str) -> None:
     names = ", ".join(f"run{number}" for number in range(len(bodies)))
     written(run.place / "costs.c", COST.replace("RUNS", runs).replace("NAMES", names))
     command(["make", "-s", "-f", MAKEFILE, f"TOOLS={compiler}", "costs.elf"], run.place).done()
-    calls = [Call(data=(bytes([number, 0, 0, 0]) + bytes(length)).hex()) for number, length in enumerate([0, *(cost.length for cost in COSTS)])]
+    calls = [GivenCall(data=(bytes([number, 0, 0, 0]) + bytes(length)).hex()) for number, length in enumerate([0, *(cost.length for cost in COSTS)])]
     written(run.place / "costs.block", block(["costs.elf"], calls))
     constant, *others = receipts(rvstm(run, "seq", "costs.block", folder=run.place).done())
     for cost, one in zip(COSTS, others):
@@ -260,7 +259,6 @@ def refused(run: Run, compiler: str) -> None:
 
 
 def cases() -> list[Case]:
-    """All of them."""
     found = [Case("rows on this machine", keys_on_this_machine, (Tool.CC, Tool.MAKE))]
     for compiler, needs in NEEDS.items():
         found += [

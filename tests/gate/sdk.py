@@ -4,9 +4,8 @@ import re
 from dataclasses import dataclass
 
 from gate.calls import command, rvstm
-from gate.cases import TOP, Case, Run, same
-from gate.machine import Tool
-from gate.texts import Call, block, receipts, written
+from gate.runner import TOP, Case, Run, Tool, same
+from gate.texts import GivenCall, block, receipts, written
 
 MAKEFILE, HEADER = TOP / "sdk/Makefile", TOP / "sdk/contract.h"
 
@@ -131,11 +130,11 @@ class Storage:
     number: int
     unit: str = "length"
 
-    def call(self, length: int, *, program: int = 0, gas: int = 1_000_000, at: int = KEY) -> Call:
+    def call(self, length: int, *, program: int = 0, gas: int = 1_000_000, at: int = KEY) -> GivenCall:
         """The call with this length, and with a key or an output at this address."""
         second, third = (length, 0) if self.number in (3, 4) else (BUFFER, length)
         words = b"".join(word.to_bytes(4, "little") for word in (self.number, second, third, at))
-        return Call(program, gas, (words + bytes(1024)).hex())
+        return GivenCall(program, gas, (words + bytes(1024)).hex())
 
 
 CALLS = (
@@ -144,7 +143,7 @@ CALLS = (
 )
 
 
-def came(run: Run, rules: int, calls: list[Call]) -> list[tuple[str, int]]:
+def came(run: Run, rules: int, calls: list[GivenCall]) -> list[tuple[str, int]]:
     """The ends and the gas of calls over a key whose value has 8 bytes."""
     written(run.place / "one.block", block(["one.elf", "many.elf"], calls, {"00" * 32: "07" * 8}, f"rvblock 2\ngas {rules}\n"))
     return [(one.end, one.gas) for one in receipts(rvstm(run, "seq", "one.block", folder=run.place).done())]
@@ -184,5 +183,4 @@ def header(run: Run) -> None:
 
 
 def cases() -> list[Case]:
-    """All of them."""
     return [Case("sdk: the edges of host.c", edges, (Tool.CC, Tool.MAKE), cost=2), Case("sdk: gas and ends in contract.h", header)]

@@ -14,10 +14,9 @@ from functools import partial
 from pathlib import Path
 
 from gate.calls import command, rvstm
-from gate.cases import TOP, Case, Lacks, Run, holds, same
-from gate.machine import Tool
 from gate.rows import MAKEFILE, NEEDS, batches
-from gate.texts import Call, block, receipts, written
+from gate.runner import TOP, Case, Lacks, Run, Tool, holds, same
+from gate.texts import GivenCall, block, receipts, written
 
 FUNCTIONS = TOP / "tests/gate/sdk_functions.c"
 NUMBERS = (0, 1, 2, 9, 10, 2**16 - 1, 2**31, 2**32 - 1, 2**32, 2**63, 2**64 - 2, 2**64 - 1)
@@ -41,7 +40,7 @@ PIECES = 3  # how a digest is asked for of pieces, which Rust has not
 
 
 @dataclass(frozen=True)
-class Asked:
+class FunctionCall:
     """A call of sdk_functions.c: its input, and what has to come under each set of rules."""
 
     data: bytes
@@ -57,27 +56,27 @@ def words(*numbers: int) -> bytes:
     return returned(*numbers)[1]
 
 
-def of_numbers(chance: random.Random) -> Iterator[Asked]:
+def of_numbers(chance: random.Random) -> Iterator[FunctionCall]:
     for at in range(4):
         data = chance.randbytes(12)
         row = data[at : at + 8]
-        yield Asked(bytes([Of.NUMBER, at, 0, 0]) + data, returned(b"\7" + row + b"\7\7" + row[:4] + b"\7"))
+        yield FunctionCall(bytes([Of.NUMBER, at, 0, 0]) + data, returned(b"\7" + row + b"\7\7" + row[:4] + b"\7"))
     for number in (*NUMBERS, *(10**digits + more for digits in range(2, 20) for more in (-1, 0))):
-        yield Asked(bytes([Of.DECIMAL, 0, 0, 0]) + words(number), returned(str(number).encode()))
+        yield FunctionCall(bytes([Of.DECIMAL, 0, 0, 0]) + words(number), returned(str(number).encode()))
     for kind, length in enumerate((1, 4, 8, 32, 20, 7)):
         data = chance.randbytes(40)
         for there, is_end, wanted in (
             (length, 0, returned(data[:length], bytes(4))), (length + 3, 0, returned(data[:length] + b"\3\0\0\0")), (length - 1, 0, TOO_SHORT),
             (length, 1, returned(data[:length], bytes(4))), (length + 1, 1, TOO_LONG),
         ):
-            yield Asked(bytes([Of.CURSOR, kind, length, is_end]) + data[:there], wanted)
+            yield FunctionCall(bytes([Of.CURSOR, kind, length, is_end]) + data[:there], wanted)
 
 
 def signed(number: int) -> int:
     return number - 2**64 if number >> 63 else number
 
 
-def of_quotients(chance: random.Random) -> Iterator[Asked]:
+def of_quotients(chance: random.Random) -> Iterator[FunctionCall]:
     """Quotients, rounded to zero, with the sign of C; and those of products, with one below and one above 2^64."""
     pairs = [(one, other) for one in NUMBERS for other in NUMBERS if other]
     pairs += [(chance.getrandbits(64), chance.getrandbits(chance.randint(1, 64)) | 1) for _ in range(20)]
@@ -85,7 +84,7 @@ def of_quotients(chance: random.Random) -> Iterator[Asked]:
         left, right = signed(one), signed(other)
         quotient = abs(left) // abs(right) * (1 if (left < 0) == (right < 0) else -1)
         if (left, right) != (-(2**63), -1):  # which has no quotient in C
-            yield Asked(bytes([Of.QUOTIENTS, 0, 0, 0]) + words(one, other), returned(one // other, one % other, quotient % 2**64, (left - quotient * right) % 2**64))
+            yield FunctionCall(bytes([Of.QUOTIENTS, 0, 0, 0]) + words(one, other), returned(one // other, one % other, quotient % 2**64, (left - quotient * right) % 2**64))
     edges = [(one, other, by) for one in NUMBERS[::2] for other in NUMBERS[1::2] for by in (1, 2**32 + 1, 2**64 - 1)]
     edges += [(2**64 - 1, 2**64 - 1, by) for by in (2**64 - 1, 2**64 - 2)] + [(2**32, 2**32, 1), (2**63, 2, 1), (2**64 - 1, 1, 1), (3, 2**63, 3 * 2**62), (5, 7, 0)]
     for _ in range(40):  # a quotient near the greatest one, so that guesses of digits are too large
@@ -95,11 +94,11 @@ def of_quotients(chance: random.Random) -> Iterator[Asked]:
     yield from (product(*edge, up) for edge in edges for up in (0, 1))
 
 
-def product(one: int, other: int, by: int, up: int) -> Asked:
+def product(one: int, other: int, by: int, up: int) -> FunctionCall:
     """A product of 128 bits that is divided, rounded down or up."""
     quotient = (one * other + (by - 1) * up) // by if by else 0
     wanted = returned(quotient) if by and quotient < 2**64 else ("reverted", b"the quotient is too large" if by else b"division by zero")
-    return Asked(bytes([Of.PRODUCT, up, 0, 0]) + words(one, other, by), wanted)
+    return FunctionCall(bytes([Of.PRODUCT, up, 0, 0]) + words(one, other, by), wanted)
 
 
 def any_number(chance: random.Random) -> int:
@@ -107,24 +106,24 @@ def any_number(chance: random.Random) -> int:
     return chance.choice((*NUMBERS, 0xFFFF << 48, 1 << 48)) if chance.random() < 0.2 else chance.getrandbits(chance.randint(0, 64))
 
 
-def of_digests(chance: random.Random) -> Iterator[Asked]:
+def of_digests(chance: random.Random) -> Iterator[FunctionCall]:
     def digest(*parts: bytes) -> Came:
         return returned(hashlib.sha256(b"".join(parts)).digest())
 
     for length in LENGTHS:
         data = chance.randbytes(length)
-        yield Asked(bytes([Of.DIGEST, 0, 0, 0]) + data, digest(data))
+        yield FunctionCall(bytes([Of.DIGEST, 0, 0, 0]) + data, digest(data))
         for piece in (1,) if length == 57 else (63, 64, 65) if length > 64 else ():
-            yield Asked(bytes([Of.DIGEST, PIECES, piece, 0]) + data, digest(data))
+            yield FunctionCall(bytes([Of.DIGEST, PIECES, piece, 0]) + data, digest(data))
     for number, tag in enumerate(TAGS):
         for at in (0, 1, 27, 28, 32):
             data = chance.randbytes(32)
-            yield Asked(bytes([Of.DIGEST, 1, 0, number]) + data, digest(tag, data))
+            yield FunctionCall(bytes([Of.DIGEST, 1, 0, number]) + data, digest(tag, data))
             lengths = (at.to_bytes(4, "little"), (32 - at).to_bytes(4, "little"))
-            yield Asked(bytes([Of.DIGEST, 2, at, number]) + data, digest(b"\0", tag, b"\0", lengths[0], data[:at], lengths[1], data[at:]))
+            yield FunctionCall(bytes([Of.DIGEST, 2, at, number]) + data, digest(b"\0", tag, b"\0", lengths[0], data[:at], lengths[1], data[at:]))
 
 
-def of_bytes() -> Iterator[Asked]:
+def of_bytes() -> Iterator[FunctionCall]:
     """Copies, fills and comparisons of 0 to 8 bytes at all alignments, over one another and beside one another."""
     data = bytes([1, 255, 1, 127, 128, 1, 255, 1, 128, 127, 1, 255, 1, 127, 128, 1, 2, 3, 4, 5, 6, 7, 8, 9, *range(60, 76)])
     for kind, places in enumerate((range(4), range(0, 9), range(4), (0, 1, 3, 5, 10))):
@@ -139,10 +138,10 @@ def of_bytes() -> Iterator[Asked]:
                     else:
                         buffer[to : to + count] = (data[24 + other : 24 + other + count], two, bytes([other]) * count)[kind]
                     out += buffer
-                yield Asked(bytes([Of.BYTES, kind, to, other]) + data, returned(bytes(out)))
+                yield FunctionCall(bytes([Of.BYTES, kind, to, other]) + data, returned(bytes(out)))
 
 
-def of_rows(chance: random.Random) -> Iterator[Asked]:
+def of_rows(chance: random.Random) -> Iterator[FunctionCall]:
     def key(row: bytes) -> bytes:
         return b"T\0\0\0" + row.ljust(27, b"\0") + bytes([len(row)])
 
@@ -151,20 +150,20 @@ def of_rows(chance: random.Random) -> Iterator[Asked]:
             data = chance.randbytes(36)
             row = data[at : at + length]
             wanted = returned(key(b"a"), key(words(0xFEDCBA9876543210)), key(row)) if 1 <= length <= 27 else ("reverted", b"a row has 1 to 27 bytes")
-            yield Asked(bytes([Of.ROW, length, at, 0]) + data, wanted)
+            yield FunctionCall(bytes([Of.ROW, length, at, 0]) + data, wanted)
     who = chance.randbytes(20)
     for at in range(-1, 20):
         other = bytes(byte ^ (0x80 if place == at else 0) for place, byte in enumerate(who))
-        yield Asked(bytes([Of.ACCOUNTS, 0, 0, 0]) + who + other, returned(b"\0" if other != who else b"\1"))
+        yield FunctionCall(bytes([Of.ACCOUNTS, 0, 0, 0]) + who + other, returned(b"\0" if other != who else b"\1"))
 
 
-def of_storage(chance: random.Random) -> Iterator[Asked]:
+def of_storage(chance: random.Random) -> Iterator[FunctionCall]:
     """Lengths at and above the limits under each set of rules, sums, and 256 and 257 keys."""
     value, absent, longer = bytes(at % 256 for at in range(1, 258)), b"\xff" * 4, b"\xfe" + b"\xff" * 3
     for rules, limit in ((1, 64), (2, 256), (3, 256)):
-        def at(kind: int, first: int, second: int, wanted: Came, rules: int = rules) -> Asked:
+        def at(kind: int, first: int, second: int, wanted: Came, rules: int = rules) -> FunctionCall:
             code = [length // 64 * 2 + length % 64 for length in (first, second)]
-            return Asked(bytes([Of.STORAGE, kind, *code]) + key, wanted, rules)
+            return FunctionCall(bytes([Of.STORAGE, kind, *code]) + key, wanted, rules)
 
         for first, second in ((0, 0), (0, 1), (1, 0), (1, 1), (1, 64), (64, 64), (64, 1), (65, 128), (128, 65), (64, 65), (256, 256), (256, 257), (257, 256)):
             key = chance.randbytes(32)
@@ -182,19 +181,18 @@ def of_storage(chance: random.Random) -> Iterator[Asked]:
             yield at(5, 65, kind, ("unknown-call", b"") if kind == 2 and rules < 3 else ("too-many-writes", b""))
 
 
-def all_asked(seed: int) -> list[Asked]:
+def all_asked(seed: int) -> list[FunctionCall]:
     chance = random.Random(seed)
     made = (of_numbers(chance), of_quotients(chance), of_digests(chance), of_bytes(), of_rows(chance), of_storage(chance))
-    return [*(asked for part in made for asked in part), Asked(bytes([Of.NOTHING]), ("returned", b""))]
+    return [*(asked for part in made for asked in part), FunctionCall(bytes([Of.NOTHING]), ("returned", b""))]
 
 
-def differences(asked: Sequence[Asked], came: Sequence[Came]) -> None:
+def differences(asked: Sequence[FunctionCall], came: Sequence[Came]) -> None:
     for one, other in zip(asked, came, strict=True):
         same(other, one.wanted, f"{one.data.hex()} under rules {one.rules}")
 
 
 def as_contracts(run: Run, compiler: str) -> None:
-    """Each function, as a contract."""
     make_contract(run, compiler)
     gas = differences_as_contracts(run, all_asked(run.setting.seed))
     dear = [used for data, used in gas.items() if data[0] == Of.PRODUCT and used > MUL_DIV]
@@ -210,19 +208,18 @@ def make_contract(run: Run, compiler: str) -> None:
 
 
 def many_products(run: Run, compiler: str) -> None:
-    """Products of random numbers, as a contract."""
     make_contract(run, compiler)
     chance = random.Random(run.setting.seed)
     asked = [product(any_number(chance), any_number(chance), any_number(chance), number % 2) for number in range(PRODUCTS)]
     differences_as_contracts(run, asked)
 
 
-def differences_as_contracts(run: Run, asked: Sequence[Asked]) -> dict[bytes, int]:
+def differences_as_contracts(run: Run, asked: Sequence[FunctionCall]) -> dict[bytes, int]:
     """Ends the case if a call of functions.elf ends otherwise. The gas of each input."""
     gas = dict[bytes, int]()
     for part in (part for rules in (1, 2, 3) for part in batches([one for one in asked if one.rules == rules])):
         rules = part[0].rules
-        written(run.place / "all.block", block(["functions.elf"], [Call(data=one.data.hex()) for one in part], head=f"rvblock 2\ngas {rules}\n"))
+        written(run.place / "all.block", block(["functions.elf"], [GivenCall(data=one.data.hex()) for one in part], head=f"rvblock 2\ngas {rules}\n"))
         found = receipts(rvstm(run, "seq", "all.block", folder=run.place).done())
         differences(part, [(one.end, bytes.fromhex(one.output.replace("-", ""))) for one in found])
         gas |= {one.data: receipt.gas for one, receipt in zip(part, found)}
@@ -271,7 +268,7 @@ panic = "abort"
 LINKED = '["-C", "link-arg=-Tcontract.ld", "-C", "link-arg=-zmax-page-size=16"]'
 
 
-def in_rust(run: Run) -> list[Asked]:
+def in_rust(run: Run) -> list[FunctionCall]:
     """Makes a folder with the source, and copies the SDK. What is asked of C but for adding pieces to a digest."""
     (run.place / "functions").mkdir()
     written(run.place / "functions/Cargo.toml", CARGO)
@@ -307,7 +304,6 @@ def rust_as_a_contract(run: Run) -> None:
 
 
 def cases() -> list[Case]:
-    """All of them."""
     found = [Case("sdk: each function on this machine", on_this_machine, (Tool.CC, Tool.MAKE), cost=2)]
     for compiler, needs in NEEDS.items():
         found.append(Case(f"sdk: each function as a contract by {compiler}", partial(as_contracts, compiler=compiler), needs, cost=2))

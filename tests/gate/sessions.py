@@ -10,10 +10,9 @@ from collections.abc import Iterator
 from pathlib import Path
 
 from gate.calls import Word, command, tool_words
-from gate.cases import TOP, Case, Lacks, Run, holds, same, shown
-from gate.clients import NO_DIGEST, Session, asks, done, frame_of, name_of, refused
-from gate.machine import Tool
+from gate.clients import NO_DIGEST, ClientSession, asks, done, frame_of, name_of, refused
 from gate.outside import FOLDER, last_lines
+from gate.runner import TOP, Case, Lacks, Run, Tool, holds, same, shown
 
 COUNTER = TOP / "examples/counter"
 KEY, ZEROS, LAST_KEY = f"{1:064x}", "0" * 64, "f" * 64
@@ -59,7 +58,6 @@ def state(rules: int, height: int, keys: int, programs: int, digest: bytes | Non
 
 
 def next_digest(digest: bytes, answer: bytes) -> bytes:
-    """The digest after one more answer."""
     return hashlib.sha256(bytes.fromhex(digest.decode()) + answer).hexdigest().encode()
 
 
@@ -123,24 +121,23 @@ def requests() -> Iterator[tuple[bytes, bytes]]:
 
 
 def over_pipes(run: Run) -> None:
-    """Each request, one after the other."""
-    with Session(run.program, *SETTINGS) as session:
+    with ClientSession(run.program, *SETTINGS) as session:
         for request, answer in requests():
             session.expect(request, answer)
-        same(session.end(), (b"", "", 0))
+        same(session.ended(), (b"", "", 0))
 
 
 def ahead(run: Run) -> None:
     """All requests written ahead, and none read before the answers."""
     text, answers = (b"".join(parts) for parts in zip(*requests()))
-    with Session(run.program, *SETTINGS) as session:
-        same(session.end(text), (answers, "", 0))
+    with ClientSession(run.program, *SETTINGS) as session:
+        same(session.ended(text), (answers, "", 0))
 
 
 def settings(run: Run) -> None:
     """The bounds of frames, receipts with registers, and a session without a digest."""
     program, frame = counter()
-    with Session(run.program, "--frame-limit", str(len(frame)), "--frame-gas", "2999") as session:
+    with ClientSession(run.program, "--frame-limit", str(len(frame)), "--frame-gas", "2999") as session:
         session.expect(asks("program", program), done(name_of(program) + b"\n"))
         session.expect(asks("frame", frame + b"\n"), refused("frame TooLong 4"))
         session.expect(asks("frame", frame), refused("frame TooMuchGas 5"))
@@ -148,7 +145,7 @@ def settings(run: Run) -> None:
         holds(b"frame-limit %d\nframe-gas 2999\nbrief 0\n" % len(frame) in text, text, "the settings")
         session.expect(asks("begin", DUMP, "0", ZEROS), refused("frame OtherDigest 8"))
         session.expect(asks("begin", DUMP, "0", "-"), done())
-    with Session(run.program) as session:
+    with ClientSession(run.program) as session:
         session.ask(asks("program", program))
         answer = session.ask(asks("frame", frame))
         holds(answer.count(b"\nregs ") == 3, answer, "three lines of registers")
@@ -156,7 +153,6 @@ def settings(run: Run) -> None:
 
 
 def ends(run: Run) -> None:
-    """What ends a session, and how."""
     fault, cut = refused("request BadLine 1"), refused("request Cut 2")
     for data, wanted in (
         (b"", (b"", "", 0)),
@@ -172,8 +168,8 @@ def ends(run: Run) -> None:
         (b"frame 10\nrvblock 1", (cut, "rvstm: request Cut 2\n", 1)),
         (b"program 9999999999\n", (cut, "rvstm: request Cut 2\n", 1)),
     ):
-        with Session(run.program) as session:
-            came = session.end(data)
+        with ClientSession(run.program) as session:
+            came = session.ended(data)
             holds(came == wanted, f"{shown(data)}: {came}", shown(repr(wanted)))
 
 
@@ -182,7 +178,7 @@ def strangers(run: Run) -> None:
     choice = random.Random(run.setting.seed)
     run.note(f"seed {run.setting.seed}")
     bodies = [*HOSTILE, *(choice.randbytes(choice.randrange(1, 300)) for _ in range(60))]
-    with Session(run.program, *SETTINGS) as session:
+    with ClientSession(run.program, *SETTINGS) as session:
         digest = NO_DIGEST
         for height, body in enumerate(bodies, 1):
             answer = session.ask(asks("frame", body))
@@ -191,7 +187,7 @@ def strangers(run: Run) -> None:
             digest = next_digest(digest, answer)
             session.expect(asks("try", body), answer)
             session.expect(asks("state"), state(1, height, 0, 0, digest))
-        same(session.end(), (b"", "", 0))
+        same(session.ended(), (b"", "", 0))
 
 
 # ---- over a file
@@ -201,21 +197,21 @@ def over_a_file(run: Run) -> None:
     """Each request in a process of its own, over a file: the answers equal those of one session."""
     path = run.place / "file"
     for number, (request, answer) in enumerate(requests()):
-        with Session(run.program, "--brief", "--store", path) as session:
+        with ClientSession(run.program, "--brief", "--store", path) as session:
             session.expect(request, answer)
             if number % 3 == 2:
                 session.kill()
             else:
-                same(session.end(), (b"", "", 0))
+                same(session.ended(), (b"", "", 0))
 
 
 def tables(run: Run) -> None:
     """Stock SQLite reads what a session left, in the tables of docs/formats.md."""
     path, (program, frame) = run.place / "file", counter()
-    with Session(run.program, "--brief", "--store", path) as session:
+    with ClientSession(run.program, "--brief", "--store", path) as session:
         session.ask(asks("program", program))
         session.ask(asks("frame", frame))
-        same(session.end()[2], 0)
+        same(session.ended()[2], 0)
     asked = (
         "SELECT hex(key), hex(value) FROM storage; SELECT hex(name), hex(file) FROM program; PRAGMA integrity_check; "
         "SELECT version, frame_limit, frame_gas, brief, rules, height, hex(digest) FROM session; "
@@ -237,12 +233,12 @@ def tables(run: Run) -> None:
 def refused_files(run: Run) -> None:
     """What is no file of a session, or was changed between two: each is refused by its name, and left as it was."""
     path, (program, frame) = run.place / "file", counter()
-    with Session(run.program, "--brief", "--store", path) as session:
+    with ClientSession(run.program, "--brief", "--store", path) as session:
         session.ask(asks("program", program))
         session.ask(asks("frame", frame))
-        with Session(run.program, "--brief", "--store", path) as other:
-            same(other.end(b"")[1:], ("rvstm: store Busy 1\n", 1), "a second session")
-        same(session.end()[2], 0)
+        with ClientSession(run.program, "--brief", "--store", path) as other:
+            same(other.ended(b"")[1:], ("rvstm: store Busy 1\n", 1), "a second session")
+        same(session.ended()[2], 0)
     sound = path.read_bytes()
     for name, statement in (
         ("OtherVersion 5", "UPDATE session SET version = 2"),
@@ -269,12 +265,11 @@ def refused_files(run: Run) -> None:
     (run.place / "file-journal").rmdir()
     refuses(run, run.place, "Unreadable 3", "a folder")
     refuses(run, run.place / "missing/file", "Unreadable 3", "no folder")
-    with Session(run.program, "--brief", "--store", path) as session:
+    with ClientSession(run.program, "--brief", "--store", path) as session:
         session.expect(asks("state"), state(1, 1, 1, 1, DIGEST))
 
 
 def put(path: Path, data: bytes) -> None:
-    """A file with no log."""
     path.write_bytes(data)
     Path(f"{path}-wal").unlink(missing_ok=True)
 
@@ -282,8 +277,8 @@ def put(path: Path, data: bytes) -> None:
 def refuses(run: Run, path: Path, name: str, what: str) -> None:
     """The case ends if a session over a file is not refused by this name, or changes the file."""
     before = path.read_bytes() if path.is_file() else None
-    with Session(run.program, "--brief", "--store", path) as session:
-        same(session.end(b""), (b"", f"rvstm: store {name}\n", 1), what)
+    with ClientSession(run.program, "--brief", "--store", path) as session:
+        same(session.ended(b""), (b"", f"rvstm: store {name}\n", 1), what)
     same(path.read_bytes() == before if before is not None else True, True, f"{what}: the file is as it was")
 
 
@@ -292,18 +287,18 @@ def damaged(run: Run) -> None:
     choice, path = random.Random(run.setting.seed), run.place / "file"
     run.note(f"seed {run.setting.seed}")
     program, frame = counter()
-    with Session(run.program, "--brief", "--store", path) as session:
+    with ClientSession(run.program, "--brief", "--store", path) as session:
         session.ask(asks("program", program))
         session.ask(asks("frame", frame))
-        session.end()
+        session.ended()
     sound, came = path.read_bytes(), {"refused": 0, "read": 0}
     for _ in range(DAMAGES):
         data = bytearray(sound)
         place = choice.randrange(len(data) if choice.randrange(2) else 200)
         data[place : place + choice.choice((1, 1, 16, 512))] = choice.randbytes(choice.choice((1, 1, 16, 512)))
         put(path, bytes(data))
-        with Session(run.program, "--brief", "--store", path) as session:
-            out, errors, status = session.end(b"state\nq\n")
+        with ClientSession(run.program, "--brief", "--store", path) as session:
+            out, errors, status = session.ended(b"state\nq\n")
         if status == 0:
             came["read"] += 1
             holds(out.startswith(b"ok ") and not errors, f"{out[:80]!r} {errors}", "an answer")
@@ -322,7 +317,7 @@ def long_program(number: int) -> bytes:
     return (header + segment + struct.pack("<II", 0x0010_0073, number)).ljust(MOST_BYTES, b"\0")
 
 
-def most_memory(session: Session) -> int:
+def most_memory(session: ClientSession) -> int:
     """The most bytes of addresses that a session had."""
     found = re.search(r"^VmPeak:\s+(\d+) kB$", Path(f"/proc/{session.process.pid}/status").read_text(encoding="utf-8"), re.M)
     assert found
@@ -332,13 +327,13 @@ def most_memory(session: Session) -> int:
 def restarted(run: Run) -> None:
     """A session of long files starts again in the memory that it ran in: an open loads one program after another."""
     path, peaks = run.place / "file", list[int]()
-    with Session(run.program, "--brief", "--store", path) as session:
+    with ClientSession(run.program, "--brief", "--store", path) as session:
         for number in range(LONG_PROGRAMS):
             program = long_program(number)
             session.expect(asks("program", program), done(name_of(program) + b"\n"))
         peaks.append(most_memory(session))
-        same(session.end(), (b"", "", 0))
-    with Session(run.program, "--brief", "--store", path) as session:
+        same(session.ended(), (b"", "", 0))
+    with ClientSession(run.program, "--brief", "--store", path) as session:
         session.expect(asks("state"), state(1, 0, 0, LONG_PROGRAMS))
         peaks.append(most_memory(session))
     run.note(f"{peaks[0]} bytes, and {peaks[1]} after a start")
@@ -369,10 +364,10 @@ def synced(run: Run) -> None:
     changes = [asks("program", program), asks("frame", frame), asks("frame", b""), asks("begin", DUMP, "0", ZEROS), asks("frame", frame)]
     changes.append(asks("forget", None, name_of(program).decode()))
     watched: list[Word] = ["strace", "-f", "-s", "64", "-e", "trace=fdatasync,fsync,write", "-o", log]
-    with Session(run.program, "--brief", "--store", path, before=watched) as session:
+    with ClientSession(run.program, "--brief", "--store", path, before=watched) as session:
         for request in [asks("state"), *changes]:
             session.ask(request)
-        session.end()
+        session.ended()
     counts, syncs = [], 0
     for line in log.read_bytes().splitlines():
         syncs += bool(SYNC.search(line))
@@ -393,8 +388,8 @@ def nodes(run: Run) -> None:
     frames += [frame_of(path / "block") for rules in ("rules2", "rules3") for path in sorted((FOLDER / rules).iterdir())[::2]]
     digest, path = NO_DIGEST, run.place / "file"
     on_file: list[Word] = ["--brief", "--workers", "2", "--store", path]
-    first, second = Session(run.program, *SETTINGS), Session(run.program, *SETTINGS, "--workers", "4")
-    third = Session(run.program, *on_file)
+    first, second = ClientSession(run.program, *SETTINGS), ClientSession(run.program, *SETTINGS, "--workers", "4")
+    third = ClientSession(run.program, *on_file)
     for height, (programs, frame) in enumerate(frames, 1):
         for program in programs:
             for session in (first, second, third):
@@ -405,7 +400,7 @@ def nodes(run: Run) -> None:
         third.expect(asks("frame", frame), answer)
         if height % 7 == 0:
             third.kill()
-            third = Session(run.program, *on_file)
+            third = ClientSession(run.program, *on_file)
         for session in (first, second, third):
             came = session.ask(asks("state")).splitlines()[-1]
             same(came, b"digest " + digest, f"height {height}")
@@ -413,14 +408,13 @@ def nodes(run: Run) -> None:
     same(len(dumps), 1, "dumps")
     run.note(f"{len(frames)} frames, digest {digest[:16].decode()}..")
     for session in (first, second, third):
-        same(session.end()[2], 0)
+        same(session.ended()[2], 0)
 
 
 # ---- the cluster
 
 
 def cluster_tests(run: Run, module: str) -> None:
-    """The tests of the ledger of several nodes."""
     done = command(["python3", "-m", "unittest", module], TOP / "examples/cluster", more=over(run))
     holds(done.status == 0, last_lines(done.errors), "OK")
     skipped = re.search(r"^skipped, for want of (.*)$", done.errors, re.M)
@@ -443,7 +437,6 @@ def over(run: Run) -> dict[str, str]:
 
 
 def cases() -> list[Case]:
-    """All of them."""
     return [
         Case("session over pipes: each request", over_pipes),
         Case("session over pipes: written ahead", ahead),

@@ -4,7 +4,7 @@ what it reads from the environment."""
 from pathlib import Path
 
 from gate.calls import Word, command
-from gate.cases import Run, same
+from gate.runner import Run, same
 
 
 def loaded(run: Run, source: str) -> dict[str, str]:

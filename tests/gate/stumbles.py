@@ -9,9 +9,8 @@ from dataclasses import dataclass
 from functools import partial
 
 from gate.calls import command, rvstm
-from gate.cases import TOP, Case, Run, same, shown
-from gate.machine import CONTRACTS, Tool
-from gate.texts import Call, block, written
+from gate.runner import CONTRACTS, TOP, Case, Run, Tool, same, shown
+from gate.texts import GivenCall, block, written
 
 FOLDER, SDK = TOP / "examples/stumbles", TOP / "sdk"
 COMPILERS = {"clang": ["clang", "--target=riscv32-unknown-elf", "-mno-relax", "-fuse-ld=lld"], "gnu": ["riscv64-unknown-elf-gcc"]}
@@ -32,7 +31,7 @@ CLANG, GNU, BOTH = ("clang",), ("gnu",), ("clang", "gnu")
 
 
 @dataclass(frozen=True)
-class Row:
+class StumbleRow:
     """A source, how it is built, the input of its call, and what is printed."""
 
     source: str
@@ -46,68 +45,68 @@ class Row:
 
 
 ROWS = [
-    Row("data.c", BOTH, "sdk", "", "-", "returned 08000000"),
-    Row("data.c", BOTH, "default", "", "-", "elf BadType 10"),
-    Row("text.c", BOTH, "sdk", "", "0102", "returned 0102"),
-    Row("text.c", CLANG, "sdk", "-flto", "0102", "not linked: unable to pass LLVM bit-code files"),
-    Row("text.c", GNU, "sdk", "-flto", "0102", "returned 0102"),
-    Row("text.c", GNU, "empty.ld", "", "0102", "elf SegmentRange 11"),
-    Row("text.c", CLANG, "empty.ld", "", "0102", "returned 0102"),
-    Row("data.c", BOTH, "empty.ld", "", "-", "returned 08000000"),
-    Row("data.c", BOTH, "shared.ld", "", "-", "elf PageShared 13"),
-    Row("data.c", BOTH, "single.ld", "", "-", "elf WriteExecute 14"),
-    Row("data.c", BOTH, "sdk", "-march=rv32imc", "-", "elf BadFlags 7"),
-    Row("data.c", BOTH, "sdk", "-march=rv32imf -mabi=ilp32f", "-", "elf BadFlags 7"),
-    Row("large.c", BOTH, "sdk", "", "-", "not linked: the contract is too large"),
-    Row("atomics.c", BOTH, "sdk", "-march=rv32ima", "-", "illegal -"),
-    Row("atomics.c", BOTH, "sdk", "", "-", "returned 01000000"),
-    Row("floats.c", BOTH, "sdk", "-march=rv32imf", "0102", "illegal -"),
-    Row("floats.c", CLANG, "sdk", "", "0102", "not linked: __mulsf3"),
-    Row("floats.c", CLANG, "sdk", "LIBGCC", "0102", "returned 08000000"),
-    Row("floats.c", GNU, "sdk", "", "0102", "returned 08000000"),
-    Row("cycles.c", CLANG, "sdk", "", "-", "illegal -"),
-    Row("cycles.c", GNU, "sdk", "-march=rv32im_zicsr", "-", "illegal -"),
-    Row("fence.c", CLANG, "sdk", "", "-", "illegal -"),
-    Row("fence.c", GNU, "sdk", "-march=rv32im_zifencei", "-", "illegal -"),
-    Row("fence.c", CLANG, "sdk", "", "01", "returned 01"),
-    Row("fence.c", GNU, "sdk", "-march=rv32im_zifencei", "01", "returned 01"),
-    Row("trap.c", CLANG, "sdk", "", "-", "illegal -"),
-    Row("trap.c", GNU, "sdk", "", "-", "breakpoint -"),
-    Row("trap.c", BOTH, "sdk", "", "01", "reverted 01"),
-    Row("constant.c", BOTH, "sdk", "", "-", "memory-fault -"),
-    Row("constant.c", BOTH, "sdk", "", "01", "returned 08000000"),
-    Row("constructor.c", BOTH, "sdk", "", "-", "returned 07000000"),
-    Row("constructor.c", BOTH, "sdk", "", "01", "returned 08000000"),
-    Row("stack.c", BOTH, "sdk", "", "01020304" * 1024, "returned eeeeeeee"),
-    Row("deep.c", BOTH, "sdk", "", "0e", "returned 0e000000"),
-    Row("deep.c", BOTH, "sdk", "", "40", "memory-fault -"),
-    Row("deep.c", BOTH, "sdk", "", "-", "memory-fault -"),
-    Row("start.c", CLANG, "alone", "", "-", "returned 08000000"),
-    Row("start.c", GNU, "alone", "", "-", "memory-fault -"),
-    Row("start.c", BOTH, "alone", "", "01", "fetch-fault -"),
-    Row("thread.c", CLANG, "sdk", "", "01", "not linked: STT_TLS"),
-    Row("thread.c", GNU, "sdk", "", "01", "memory-fault -"),
-    Row("limits.c", BOTH, "sdk", "", "00", "bad-length -"),
-    Row("limits.c", BOTH, "sdk", "", "01", "bad-length -"),
-    Row("limits.c", BOTH, "sdk", "", "02", "bad-length -"),
-    Row("limits.c", BOTH, "sdk", "", "03", "too-many-writes -"),
-    Row("sums.c", BOTH, "sdk", "", "-", "unknown-call -"),
-    Row("misaligned.c", BOTH, "sdk", "", "0102030405", "misaligned -"),
-    Row("debug.c", BOTH, "debug", "", "-", "file TooLong 3"),
-    Row("debug.c", BOTH, "sdk", "-g", "-", "returned 07"),
-    Row("copies.c", BOTH, "start", "", "-", "not linked: memcpy"),
-    Row("copies.c", BOTH, "sdk", "", "-", "returned 01"),
-    Row("division.c", BOTH, "start", "", "0102", "not linked: __udivdi3"),
-    Row("division.c", BOTH, "sdk", "", "0102", "returned 0088526a74000000"),
-    Row("decimals.c", BOTH, "sdk", "", "0000000000000000", "returned " + b"0".hex()),
-    Row("decimals.c", BOTH, "sdk", "", "ffffffffffffffff", "returned " + b"18446744073709551615".hex()),
-    Row("decimals.c", BOTH, "sdk", "", "00000000000000", "reverted " + b"the input is too short".hex()),
-    Row("decimals.c", BOTH, "sdk", "", "000000000000000000", "reverted " + b"the input is too long".hex()),
-    Row("plus.cpp", BOTH, "sdk", "", "0102", "returned 01"),
+    StumbleRow("data.c", BOTH, "sdk", "", "-", "returned 08000000"),
+    StumbleRow("data.c", BOTH, "default", "", "-", "elf BadType 10"),
+    StumbleRow("text.c", BOTH, "sdk", "", "0102", "returned 0102"),
+    StumbleRow("text.c", CLANG, "sdk", "-flto", "0102", "not linked: unable to pass LLVM bit-code files"),
+    StumbleRow("text.c", GNU, "sdk", "-flto", "0102", "returned 0102"),
+    StumbleRow("text.c", GNU, "empty.ld", "", "0102", "elf SegmentRange 11"),
+    StumbleRow("text.c", CLANG, "empty.ld", "", "0102", "returned 0102"),
+    StumbleRow("data.c", BOTH, "empty.ld", "", "-", "returned 08000000"),
+    StumbleRow("data.c", BOTH, "shared.ld", "", "-", "elf PageShared 13"),
+    StumbleRow("data.c", BOTH, "single.ld", "", "-", "elf WriteExecute 14"),
+    StumbleRow("data.c", BOTH, "sdk", "-march=rv32imc", "-", "elf BadFlags 7"),
+    StumbleRow("data.c", BOTH, "sdk", "-march=rv32imf -mabi=ilp32f", "-", "elf BadFlags 7"),
+    StumbleRow("large.c", BOTH, "sdk", "", "-", "not linked: the contract is too large"),
+    StumbleRow("atomics.c", BOTH, "sdk", "-march=rv32ima", "-", "illegal -"),
+    StumbleRow("atomics.c", BOTH, "sdk", "", "-", "returned 01000000"),
+    StumbleRow("floats.c", BOTH, "sdk", "-march=rv32imf", "0102", "illegal -"),
+    StumbleRow("floats.c", CLANG, "sdk", "", "0102", "not linked: __mulsf3"),
+    StumbleRow("floats.c", CLANG, "sdk", "LIBGCC", "0102", "returned 08000000"),
+    StumbleRow("floats.c", GNU, "sdk", "", "0102", "returned 08000000"),
+    StumbleRow("cycles.c", CLANG, "sdk", "", "-", "illegal -"),
+    StumbleRow("cycles.c", GNU, "sdk", "-march=rv32im_zicsr", "-", "illegal -"),
+    StumbleRow("fence.c", CLANG, "sdk", "", "-", "illegal -"),
+    StumbleRow("fence.c", GNU, "sdk", "-march=rv32im_zifencei", "-", "illegal -"),
+    StumbleRow("fence.c", CLANG, "sdk", "", "01", "returned 01"),
+    StumbleRow("fence.c", GNU, "sdk", "-march=rv32im_zifencei", "01", "returned 01"),
+    StumbleRow("trap.c", CLANG, "sdk", "", "-", "illegal -"),
+    StumbleRow("trap.c", GNU, "sdk", "", "-", "breakpoint -"),
+    StumbleRow("trap.c", BOTH, "sdk", "", "01", "reverted 01"),
+    StumbleRow("constant.c", BOTH, "sdk", "", "-", "memory-fault -"),
+    StumbleRow("constant.c", BOTH, "sdk", "", "01", "returned 08000000"),
+    StumbleRow("constructor.c", BOTH, "sdk", "", "-", "returned 07000000"),
+    StumbleRow("constructor.c", BOTH, "sdk", "", "01", "returned 08000000"),
+    StumbleRow("stack.c", BOTH, "sdk", "", "01020304" * 1024, "returned eeeeeeee"),
+    StumbleRow("deep.c", BOTH, "sdk", "", "0e", "returned 0e000000"),
+    StumbleRow("deep.c", BOTH, "sdk", "", "40", "memory-fault -"),
+    StumbleRow("deep.c", BOTH, "sdk", "", "-", "memory-fault -"),
+    StumbleRow("start.c", CLANG, "alone", "", "-", "returned 08000000"),
+    StumbleRow("start.c", GNU, "alone", "", "-", "memory-fault -"),
+    StumbleRow("start.c", BOTH, "alone", "", "01", "fetch-fault -"),
+    StumbleRow("thread.c", CLANG, "sdk", "", "01", "not linked: STT_TLS"),
+    StumbleRow("thread.c", GNU, "sdk", "", "01", "memory-fault -"),
+    StumbleRow("limits.c", BOTH, "sdk", "", "00", "bad-length -"),
+    StumbleRow("limits.c", BOTH, "sdk", "", "01", "bad-length -"),
+    StumbleRow("limits.c", BOTH, "sdk", "", "02", "bad-length -"),
+    StumbleRow("limits.c", BOTH, "sdk", "", "03", "too-many-writes -"),
+    StumbleRow("sums.c", BOTH, "sdk", "", "-", "unknown-call -"),
+    StumbleRow("misaligned.c", BOTH, "sdk", "", "0102030405", "misaligned -"),
+    StumbleRow("debug.c", BOTH, "debug", "", "-", "file TooLong 3"),
+    StumbleRow("debug.c", BOTH, "sdk", "-g", "-", "returned 07"),
+    StumbleRow("copies.c", BOTH, "start", "", "-", "not linked: memcpy"),
+    StumbleRow("copies.c", BOTH, "sdk", "", "-", "returned 01"),
+    StumbleRow("division.c", BOTH, "start", "", "0102", "not linked: __udivdi3"),
+    StumbleRow("division.c", BOTH, "sdk", "", "0102", "returned 0088526a74000000"),
+    StumbleRow("decimals.c", BOTH, "sdk", "", "0000000000000000", "returned " + b"0".hex()),
+    StumbleRow("decimals.c", BOTH, "sdk", "", "ffffffffffffffff", "returned " + b"18446744073709551615".hex()),
+    StumbleRow("decimals.c", BOTH, "sdk", "", "00000000000000", "reverted " + b"the input is too short".hex()),
+    StumbleRow("decimals.c", BOTH, "sdk", "", "000000000000000000", "reverted " + b"the input is too long".hex()),
+    StumbleRow("plus.cpp", BOTH, "sdk", "", "0102", "returned 01"),
 ]
 
 
-def why_not_built(run: Run, row: Row, compiler: str) -> str | None:
+def why_not_built(run: Run, row: StumbleRow, compiler: str) -> str | None:
     """What the build writes to standard error; None if it made the program."""
     program = row.source.rpartition(".")[0] + ".elf"
     more = row.more.replace("LIBGCC", library_of_gcc() if "LIBGCC" in row.more else "")
@@ -121,25 +120,24 @@ def why_not_built(run: Run, row: Row, compiler: str) -> str | None:
 
 
 def library_of_gcc() -> str:
-    """GCC's library for contracts."""
     return command([*COMPILERS["gnu"], "-march=rv32im", "-mabi=ilp32", "-print-libgcc-file-name"]).done().strip()
 
 
-def what_came(run: Run, row: Row, compiler: str) -> str:
+def what_came(run: Run, row: StumbleRow, compiler: str) -> str:
     """The refusal without its first word, or the end and the output of the call, or why there is no program."""
     fault = why_not_built(run, row, compiler)
     if fault is not None:
         name = row.wanted.removeprefix(NOT_LINKED)
         return f"{NOT_LINKED}{name if name in fault else shown(fault)}"
     program = row.source.rpartition(".")[0] + ".elf"
-    written(run.place / "one.block", block([program], [Call(data="" if row.data == "-" else row.data)]))
+    written(run.place / "one.block", block([program], [GivenCall(data="" if row.data == "-" else row.data)]))
     done = rvstm(run, "seq", "one.block", folder=run.place)
     words = done.out.split("\n")[0].split(" ")
     (run.place / program).unlink()
     return f"{words[2]} {words[8]}" if done.status == 0 and len(words) == 9 else done.errors.strip().removeprefix("rvstm: ")
 
 
-def stumbles(run: Run, rows: Sequence[Row], compiler: str) -> None:
+def stumbles(run: Run, rows: Sequence[StumbleRow], compiler: str) -> None:
     """The rows of a source with one compiler."""
     for row in rows:
         what = " ".join(word for word in (row.source, compiler, row.link, row.more, row.data[:8]) if word)
@@ -147,7 +145,6 @@ def stumbles(run: Run, rows: Sequence[Row], compiler: str) -> None:
 
 
 def cases() -> list[Case]:
-    """A case for each source and compiler."""
     found = []
     for source in dict.fromkeys(row.source for row in ROWS):
         for compiler in BOTH:

@@ -8,16 +8,16 @@ from functools import partial
 from pathlib import Path
 from typing import Any
 
-from gate.calls import Ended, rvstm
-from gate.cases import TOP, Case, Run, holds, same, shown
-from gate.clients import Session, asks
+from gate.calls import EndedCommand, rvstm
+from gate.clients import ClientSession, asks
 from gate.outside import program_of
+from gate.runner import TOP, Case, Run, holds, same, shown
 
 FOLDER = TOP / "tests/tables"
 
 
 @dataclass(frozen=True)
-class Row:
+class CommandRow:
     """Command lines, each over each of some inputs, which all have one answer."""
 
     lines: Sequence[str]
@@ -42,7 +42,7 @@ class Row:
 
 
 @dataclass(frozen=True)
-class Image:
+class ChangedImage:
     """A program file with other bytes at some places, or cut to some lengths, and how it is refused, if it is."""
 
     of: str
@@ -60,7 +60,7 @@ class Image:
 
 
 @dataclass(frozen=True)
-class Turn:
+class SessionTurn:
     """A request of a session, or a program that is handed in, and the answer."""
 
     answer: str
@@ -69,7 +69,7 @@ class Turn:
 
 
 @dataclass(frozen=True)
-class Block:
+class TableBlock:
     """A block of some programs, with pieces of what it prints, and what `conflicts` prints of it."""
 
     name: str
@@ -115,13 +115,13 @@ class Table:
     contents: dict[str, bytes] = field(default_factory=dict)
     """The files and programs, by their names."""
     links: dict[str, str] = field(default_factory=dict)
-    rows: list[Row] = field(default_factory=list)
+    rows: list[CommandRow] = field(default_factory=list)
     options: str = ""
-    turns: list[Turn] = field(default_factory=list)
-    images: list[Image] = field(default_factory=list)
-    blocks: list[Block] = field(default_factory=list)
+    turns: list[SessionTurn] = field(default_factory=list)
+    images: list[ChangedImage] = field(default_factory=list)
+    blocks: list[TableBlock] = field(default_factory=list)
     schedules: list[Schedule] = field(default_factory=list)
-    used_blocks: list[Block] = field(default_factory=list)
+    used_blocks: list[TableBlock] = field(default_factory=list)
     """Those of the tables that it uses, which have cases of their own."""
 
     def use(self, other: "Table") -> None:
@@ -141,17 +141,16 @@ class Table:
         for name, size in data.pop("sizes", {}).items():
             self.contents[name] = self.contents[name].ljust(size, b"\0")
         self.links |= data.pop("links", {})
-        self.rows += [Row(**one) for one in data.pop("row", [])]
+        self.rows += [CommandRow(**one) for one in data.pop("row", [])]
         self.options = data.pop("options", self.options)
-        self.turns += [Turn(**one) for one in data.pop("turn", [])]
-        self.images += [Image(**one) for one in data.pop("image", [])]
-        self.blocks += [Block(**one) for one in data.pop("block", [])]
+        self.turns += [SessionTurn(**one) for one in data.pop("turn", [])]
+        self.images += [ChangedImage(**one) for one in data.pop("image", [])]
+        self.blocks += [TableBlock(**one) for one in data.pop("block", [])]
         self.schedules += [Schedule(**one) for one in data.pop("schedule", [])]
         if data:
             raise ValueError(f"a table has no {', '.join(data)}")
 
     def put(self, folder: Path) -> None:
-        """Writes the files and links into a folder."""
         for name, to in self.links.items():
             (folder / name).symlink_to(to)
         for name, content in self.contents.items():
@@ -164,14 +163,12 @@ def program(words: str) -> bytes:
 
 
 def table(name: str) -> Table:
-    """A table."""
     read = Table()
     read.add(tomllib.loads((FOLDER / f"{name}.toml").read_text(encoding="utf-8")))
     return read
 
 
 def has_pieces(text: str, pieces: Sequence[str]) -> bool:
-    """Whether a text has pieces in their order."""
     for piece in pieces:
         _, found, text = text.partition(piece)
         if not found:
@@ -182,7 +179,7 @@ def has_pieces(text: str, pieces: Sequence[str]) -> bool:
 # ---- command lines
 
 
-def check_row(run: Run, one: Row, contents: dict[str, bytes]) -> None:
+def check_row(run: Run, one: CommandRow, contents: dict[str, bytes]) -> None:
     """Each command line over each text and input: what it prints, what is on standard error, its status, and what files have then."""
     for line, text, data in itertools.product(one.lines, one.texts or ("",), one.inputs):
         files = {**one.files, "given": text} if one.texts else one.files
@@ -196,7 +193,7 @@ def check_row(run: Run, one: Row, contents: dict[str, bytes]) -> None:
             same((run.place / name).read_bytes(), wanted_bytes, f"{line}: {name}")
 
 
-def check_answer(one: Row, contents: dict[str, bytes], came: Ended, what: str) -> None:
+def check_answer(one: CommandRow, contents: dict[str, bytes], came: EndedCommand, what: str) -> None:
     """The case ends if an answer is not that of the row."""
     same(came.status, one.status, f"{what}: status")
     if one.pieces:
@@ -212,7 +209,7 @@ def check_answer(one: Row, contents: dict[str, bytes], came: Ended, what: str) -
 # ---- program files
 
 
-def check_image(run: Run, one: Image, contents: dict[str, bytes]) -> None:
+def check_image(run: Run, one: ChangedImage, contents: dict[str, bytes]) -> None:
     """A program file as `dis` reads it, and as a block has it."""
     (run.place / "block").write_text("rvblock 1\nprogram 0 given\n", encoding="utf-8")
     for content in one.files(contents[one.of]):
@@ -228,10 +225,10 @@ def check_image(run: Run, one: Image, contents: dict[str, bytes]) -> None:
 
 def check_turns(run: Run, given: Table) -> None:
     """One request after the other, each after the answer to the one before."""
-    with Session(run.program, *given.options.split()) as session:
+    with ClientSession(run.program, *given.options.split()) as session:
         for turn in given.turns:
             session.expect(asks("program", given.contents[turn.program]) if turn.program else turn.request.encode(), turn.answer.encode())
-        same(session.end(), (b"", "", 0))
+        same(session.ended(), (b"", "", 0))
 
 
 # ---- blocks
@@ -252,7 +249,7 @@ def check_blocks(run: Run, given: Table) -> None:
         check_schedule(run, schedule, folders[schedule.block])
 
 
-def check_block(run: Run, block: Block, folder: Path) -> None:
+def check_block(run: Run, block: TableBlock, folder: Path) -> None:
     """A block by each engine: all print the same, which has the pieces."""
     wanted = rvstm(run, "seq", "block", folder=folder).done()
     holds(has_pieces(wanted, block.pieces), f"{block.name}: {wanted}", shown(repr(block.pieces)))
@@ -290,7 +287,6 @@ def check_schedule(run: Run, schedule: Schedule, folder: Path) -> None:
 
 
 def check(run: Run, name: str) -> None:
-    """All that a table has."""
     given = table(name)
     if given.rows:
         given.put(run.place)
@@ -312,5 +308,4 @@ def named() -> Iterator[str]:
 
 
 def cases() -> list[Case]:
-    """A case for each table."""
     return [Case(f"table {name}", partial(check, name=name)) for name in named()]

@@ -14,7 +14,7 @@ def field(data: str) -> str:
 
 
 @dataclass(frozen=True)
-class Call:
+class GivenCall:
     """A call of a block: the number of its program, its gas and its input in hex."""
 
     program: int = 0
@@ -22,8 +22,7 @@ class Call:
     data: str = ""
 
 
-def block(programs: Sequence[str], calls: Iterable[Call], store: Mapping[str, str] | None = None, head: str = FORMAT_1) -> str:
-    """The text of a block file."""
+def block(programs: Sequence[str], calls: Iterable[GivenCall], store: Mapping[str, str] | None = None, head: str = FORMAT_1) -> str:
     lines = [f"program {number} {path}\n" for number, path in enumerate(programs)]
     lines += [f"store {key} {field(value)}\n" for key, value in sorted((store or {}).items())]
     lines += [f"call {call.program} {call.gas} {field(call.data)}\n" for call in calls]
@@ -31,18 +30,15 @@ def block(programs: Sequence[str], calls: Iterable[Call], store: Mapping[str, st
 
 
 @dataclass(frozen=True)
-class Receipt:
-    """The `call` line of a result."""
-
+class CallReceipt:
     end: str
     gas: int
     output: str
 
 
-def receipts(result: str) -> list[Receipt]:
-    """The calls of a result."""
+def receipts(result: str) -> list[CallReceipt]:
     words = [line.split(" ") for line in result.splitlines() if line.startswith("call ")]
-    return [Receipt(word[2], int(word[4]), word[8]) for word in words]
+    return [CallReceipt(word[2], int(word[4]), word[8]) for word in words]
 
 
 def ends(result: str) -> list[tuple[str, str]]:
@@ -51,13 +47,11 @@ def ends(result: str) -> list[tuple[str, str]]:
 
 
 def storage(result: str) -> dict[str, str]:
-    """The storage at the end of a result."""
     words = [line.split(" ") for line in result.splitlines() if line.startswith("store ")]
     return {word[1]: word[2] for word in words}
 
 
 def written(path: Path, text: str) -> Path:
-    """A file with a text."""
     path.write_text(text, encoding="utf-8")
     return path
 

@@ -7,11 +7,11 @@ do not answer. A read waits for the nearest earlier call that wrote or removed t
 from collections.abc import Iterator, Sequence
 from pathlib import Path
 
-from gate.cases import same
-from long.models import waits
-from rvstm_tools.debugging.replays import Replay, StorageStep
-from rvstm_tools.debugging.sessions import CallOf
+from gate.runner import same
+from rvstm_developers.models import waits
 from rvstm_tools.debugging.charges import StorageCall
+from rvstm_tools.debugging.replays import StorageReplay, StorageStep
+from rvstm_tools.debugging.sessions import CallOf
 from rvstm_tools.programs.running import Program
 from rvstm_tools.texts import results
 from rvstm_tools.texts.keys import Key
@@ -28,7 +28,7 @@ def is_asked(call: StorageStep, is_last: bool, receipt: Receipt, limit: int) -> 
     return receipt.end is End.OUT_OF_GAS and limit - call.gas >= READ_BASE
 
 
-def keys_read(replay: Replay, receipt: Receipt, limit: int) -> set[Key]:
+def keys_read(replay: StorageReplay, receipt: Receipt, limit: int) -> set[Key]:
     """The keys that a call reads if its own writes do not answer."""
     keys: set[Key] = set()
     known: set[Key] = set()
@@ -52,7 +52,7 @@ def keys_read_of(program: Path, path: Path, receipts: Sequence[Receipt]) -> Iter
     rules = next((int(row[1]) for row in rows if row[:1] == ["gas"]), 1)
     limits = [int(row[2]) for row in rows if row[:1] == ["call"]]
     for receipt, limit in zip(receipts, limits, strict=True):
-        yield keys_read(Replay(CallOf(program, path.name, receipt.number, path.parent), rules), receipt, limit)
+        yield keys_read(StorageReplay(CallOf(program, path.name, receipt.number, path.parent), rules), receipt, limit)
 
 
 def check(program: Path, path: Path) -> None:

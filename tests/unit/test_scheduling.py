@@ -3,6 +3,7 @@
 import contextlib
 import io
 import os
+import runpy
 import tempfile
 import time
 import unittest
@@ -10,15 +11,13 @@ from collections.abc import Callable
 from pathlib import Path
 from unittest import mock
 
-from gate import main, scheduling
-from gate.cases import Case, Lacks, Run, Setting, same
-from gate.machine import Tool
+from gate import runner
+from gate.runner import Case, Lacks, Run, Setting, Tool, same
 
 SETTING = Setting(Path("/bin/true"), None, False, 1)
 
 
 def fails(run: Run) -> None:
-    """A case that differs."""
     same("a\nb\n", "a\nc\n", "the text")
 
 
@@ -28,12 +27,10 @@ def lacks(run: Run) -> None:
 
 
 def breaks(run: Run) -> None:
-    """A case with a mistake of its own."""
     raise KeyError("mistake")
 
 
 def dies(run: Run) -> None:
-    """A case whose process is ended."""
     os.kill(os.getpid(), 9)
 
 
@@ -49,16 +46,14 @@ def sleeps(run: Run) -> None:
     time.sleep(60)
 
 
-def outcomes(*calls: Callable[[Run], None], seconds: float = 20, jobs: int = 2) -> dict[str, scheduling.Outcome]:
+def outcomes(*calls: Callable[[Run], None], seconds: float = 20, jobs: int = 2) -> dict[str, runner.Outcome]:
     """The outcomes of cases, by the names of their functions."""
     cases = [Case(call.__name__, call) for call in calls]
     with contextlib.redirect_stderr(io.StringIO()):
-        return {one.case.name: one for one in scheduling.outcomes(cases, SETTING, jobs, lambda case: seconds)}
+        return {one.case.name: one for one in runner.outcomes_of(cases, SETTING, jobs, lambda case: seconds)}
 
 
 class OutcomesTest(unittest.TestCase):
-    """How cases end."""
-
     def test_each_way(self) -> None:
         """What came and what was wanted is one line; a mistake, and a death, fail a case."""
         found = outcomes(fails, lacks, breaks, dies, notes)
@@ -81,22 +76,18 @@ class OutcomesTest(unittest.TestCase):
     def test_needs(self) -> None:
         """A case is left out for want of a tool, of the library, or of the built program."""
         with mock.patch.object(Tool, "is_there", lambda tool: tool is not Tool.STRACE):
-            self.assertEqual(scheduling.lacks(Case("a", fails, (Tool.CLANG, Tool.STRACE)), SETTING), "strace")
-        self.assertEqual(scheduling.lacks(Case("a", fails, needs_library=True), SETTING), "the library for C")
-        self.assertEqual(scheduling.lacks(Case("a", fails, needs_speed=True), SETTING), "")
+            self.assertEqual(runner.lacks(Case("a", fails, (Tool.CLANG, Tool.STRACE)), SETTING), "strace")
+        self.assertEqual(runner.lacks(Case("a", fails, needs_library=True), SETTING), "the library for C")
+        self.assertEqual(runner.lacks(Case("a", fails, needs_speed=True), SETTING), "")
         preview = Setting(Path("/bin/true"), None, True, 1)
-        self.assertEqual(scheduling.lacks(Case("a", fails, needs_speed=True), preview), "the built program")
+        self.assertEqual(runner.lacks(Case("a", fails, needs_speed=True), preview), "the built program")
 
 
 class PrintedTest(unittest.TestCase):
-    """What a run prints, and its status."""
-
     def printed(self, *calls: Callable[[Run], None], words: tuple[str, ...] = ("/bin/true",)) -> tuple[list[str], int]:
-        """The lines of a run over some cases."""
         cases, out = [Case(call.__name__, call) for call in calls], io.StringIO()
-        with mock.patch.object(main, "all_cases", lambda: cases), contextlib.redirect_stdout(out):
-            with contextlib.redirect_stderr(io.StringIO()):
-                status = main.main(words)
+        with contextlib.redirect_stdout(out), contextlib.redirect_stderr(io.StringIO()):
+            status = runner.main([cases], words)
         return out.getvalue().splitlines(), status
 
     def test_sums(self) -> None:
@@ -108,7 +99,6 @@ class PrintedTest(unittest.TestCase):
         self.assertIn("notes: True", lines)
 
     def test_all_pass(self) -> None:
-        """Nothing failed."""
         lines, status = self.printed(notes, lacks)
         self.assertEqual((lines[-1], status), ("1 passed, 0 failed, 1 skipped", 0))
 
@@ -123,15 +113,12 @@ class PrintedTest(unittest.TestCase):
         def interrupted(*_: object) -> None:
             raise KeyboardInterrupt
 
-        with mock.patch.object(scheduling, "outcomes", interrupted):
+        with mock.patch.object(runner, "outcomes_of", interrupted):
             lines, status = self.printed(notes)
         self.assertEqual((lines[-1], status), ("0 passed, 1 failed, 0 skipped", 1))
 
     def test_names(self) -> None:
         """No two cases have one name."""
-        names = [case.name for case in main.all_cases()]
+        groups = runpy.run_path(str(Path(__file__).parents[1] / "run"))["GROUPS"]
+        names = [case.name for group in groups for case in group.cases()]
         self.assertEqual(len(names), len(set(names)))
-
-
-if __name__ == "__main__":
-    unittest.main()

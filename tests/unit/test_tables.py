@@ -2,7 +2,7 @@
 
 import unittest
 
-from gate.tables import Block, Image, Schedule, Table, has_pieces
+from gate.tables import ChangedImage, Schedule, Table, TableBlock, has_pieces
 
 
 class TablesTest(unittest.TestCase):
@@ -22,18 +22,14 @@ class TablesTest(unittest.TestCase):
         self.assertEqual(Schedule("", "", 2, digits="01\n1\n").entries(), ["0\n", "1\n", "1\n"])
 
     def test_text_of_a_block(self) -> None:
-        block = Block("", ["ECHO", "PUT"], head="rvblock 2\ngas 2\n", lines="call 1 1 -\n")
+        block = TableBlock("", ["ECHO", "PUT"], head="rvblock 2\ngas 2\n", lines="call 1 1 -\n")
         self.assertEqual(block.text(), "rvblock 2\ngas 2\nprogram 0 0\nprogram 1 1\ncall 1 1 -\n")
 
     def test_files_of_an_image(self) -> None:
-        self.assertEqual(list(Image("", changes=[(1, 9)]).files(b"abc")), [b"a\tc"])
-        self.assertEqual(list(Image("", lengths=[0, 2]).files(b"abc")), [b"", b"ab"])
+        self.assertEqual(list(ChangedImage("", changes=[(1, 9)]).files(b"abc")), [b"a\tc"])
+        self.assertEqual(list(ChangedImage("", lengths=[0, 2]).files(b"abc")), [b"", b"ab"])
 
     def test_pieces_have_an_order(self) -> None:
         for pieces, wanted in (("ab", True), ("ba", False), ("aa", False), ("", True)):
             with self.subTest(pieces=pieces):
                 self.assertEqual(has_pieces("a b", list(pieces)), wanted)
-
-
-if __name__ == "__main__":
-    unittest.main()

@@ -6,32 +6,50 @@ import sys
 from collections.abc import Sequence
 from pathlib import Path
 
-from rvstm_developers.texts import TOP
 from rvstm_tools import errors
 from rvstm_tools.options import Command
 
-PACKAGES = {
-    "tools/rvstm_developers/commands": "tools/developers", "tools/rvstm_developers/bench": "bench",
-    "tests/long/commands": "tools/developers",
+PROGRAM = "rvstm-developers"
+GROUPS = {
+    "trials": "try the program for as long as they are given: damaged, random and large inputs, kills, cuts and faults, beside models",
+    "bench": "measure the program: bench/README.md has what they print",
+    "commands": "check the sources, and make parts of them",
 }
-"""The folders that have a module for each command, and the one that has a script for it."""
-sys.path.append(str(TOP / "tests"))
+"""The packages that have a module for each command, and what the commands of each do."""
+
+
+def modules() -> dict[str, str]:
+    """The module of each command, by the command's name."""
+    found = {}
+    for group in GROUPS:
+        for path in sorted((Path(__file__).parent / group).glob("*.py")):
+            if "\nCOMMAND = Command(" in path.read_text(encoding="utf-8"):
+                found[path.stem.replace("_", "-")] = f"rvstm_developers.{group}.{path.stem}"
+    return found
 
 
 def command_of(name: str) -> Command:
-    for folder in PACKAGES:
-        path = TOP / folder / f"{name.replace('-', '_')}.py"
-        if path.is_file():
-            command: Command = importlib.import_module(".".join((*Path(folder).parts[1:], path.stem))).COMMAND
-            return command
-    raise errors.MisuseError(f"no command is named {name!r}; tools/developers and bench have a script for each")
+    module = modules().get(name)
+    if module is None:
+        raise errors.MisuseError(f"no command is named {name!r}; `{PROGRAM} --help` lists them")
+    command: Command = importlib.import_module(module).COMMAND
+    return command
+
+
+def listing() -> str:
+    """All commands, each with what it does."""
+    lines = [f"usage: {PROGRAM} NAME [WORD..]", "", f"`{PROGRAM} NAME --help` has all of a command."]
+    for group, what in GROUPS.items():
+        lines += ["", f"These {what}:", ""]
+        names = [name for name, module in modules().items() if f".{group}." in module]
+        lines += [f"  {name:17} {command_of(name).summary}" for name in names]
+    return "\n".join(lines)
 
 
 def parser_of(command: Command) -> argparse.ArgumentParser:
-    folder = "bench" if command.run.__module__.startswith("rvstm_developers.bench.") else "tools/developers"
     parser = argparse.ArgumentParser(
-        prog=f"{folder}/{command.name}", description=f"{command.summary}\n\n{command.details.strip()}",
-        epilog=f"example:\n  {folder}/{command.name} {command.example}", formatter_class=argparse.RawDescriptionHelpFormatter,
+        prog=f"{PROGRAM} {command.name}", description=f"{command.summary}\n\n{command.details.strip()}",
+        epilog=f"example:\n  {PROGRAM} {command.name} {command.example}", formatter_class=argparse.RawDescriptionHelpFormatter,
     )
     for add in command.arguments:
         add(parser)
@@ -46,4 +64,7 @@ def run(name: str, words: Sequence[str]) -> int:
 def main() -> int:
     errors.print_all_letters()
     name, *words = sys.argv[1:] or [""]
-    return errors.ended(name or "rvstm-developers", lambda: run(name, words))
+    if name in ("-h", "--help"):
+        print(listing())
+        return errors.Status.DONE
+    return errors.ended(name or PROGRAM, lambda: run(name, words))

@@ -118,7 +118,7 @@ def text_of(words: Sequence[int]) -> bytes:
 
 
 @dataclass(frozen=True)
-class Segment:
+class FileSegment:
     """Bytes of a file, from a place of its content on, and where they are in memory; behind them are zeros up to a size."""
 
     address: int
@@ -128,7 +128,7 @@ class Segment:
     size: int = 0  # if it is more than the length
 
 
-def program_file(entry: int, content: bytes, segments: Sequence[Segment]) -> bytes:
+def program_file(entry: int, content: bytes, segments: Sequence[FileSegment]) -> bytes:
     """A program file of the content; its segments may overlap there."""
     start = HEADER + SEGMENT_HEADER * len(segments)
     head = b"\x7fELF\x01\x01\x01".ljust(16, b"\0")
@@ -141,16 +141,16 @@ def program_file(entry: int, content: bytes, segments: Sequence[Segment]) -> byt
     return head + content
 
 
-class Part(NamedTuple):
+class ElfPart(NamedTuple):
     address: int
     data: bytes
     rights: int
 
 
-def elf_of(*parts: Part) -> bytes:
+def elf_of(*parts: ElfPart) -> bytes:
     """A program file of some parts; the entry is the address of the first one."""
     content, segments = b"", []
     for address, data, rights in parts:
-        segments.append(Segment(address, len(content), len(data), rights))
+        segments.append(FileSegment(address, len(content), len(data), rights))
         content += data
     return program_file(parts[0].address, content, segments)

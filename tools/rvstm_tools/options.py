@@ -16,6 +16,7 @@ Parsed = TypeVar("Parsed")
 
 
 def count(word: str) -> int:
+    """A number of at least 1, as argparse wants the type of an option."""
     number = numbers.at_most(word, MOST_ASKED_FOR) if numbers.is_decimal(word) else None
     if not number:
         raise argparse.ArgumentTypeError(f"{word}: it is a number of at least 1")
@@ -23,6 +24,7 @@ def count(word: str) -> int:
 
 
 def positive(word: str) -> float:
+    """A number above 0, as argparse wants the type of an option."""
     try:
         number = float(word)
     except ValueError:
@@ -113,4 +115,5 @@ JOBS = argument(
 
 
 def view(given: argparse.Namespace) -> View | None:
+    """The view of the list that --list names; None without it."""
     return None if given.list is None else lists.read_list(given.list).view

@@ -22,7 +22,7 @@ RULES = {"bump": 3}  # of programs that want later rules than one
 SPEED_PROGRAMS = ("sha256", "sieve", "crc32")  # the programs of speed.block, by their numbers
 
 
-class Input(NamedTuple):
+class TimedCall(NamedTuple):
     gas: int
     data: bytes
 
@@ -33,7 +33,7 @@ class TimedBlock:
 
     name: str
     source: str
-    calls: Sequence[Input]
+    calls: Sequence[TimedCall]
     store: Storage = field(default_factory=dict)
 
     def text(self, program: str | Path | None = None, rules: int | None = None) -> str:
@@ -50,33 +50,33 @@ class TimedBlock:
         return replace(self, calls=[call._replace(gas=1) for call in self.calls])
 
 
-def mixing(length: int, count: int) -> list[Input]:
+def mixing(length: int, count: int) -> list[TimedCall]:
     """Calls of bench/programs/work.s of so many instructions, each on a key of its own."""
     mixes = word((length - OTHER_INSTRUCTIONS) // INSTRUCTIONS_A_ROUND)
-    return [Input(LONGEST_GAS, key(number) + mixes) for number in range(count)]
+    return [TimedCall(LONGEST_GAS, key(number) + mixes) for number in range(count)]
 
 
 def compute() -> TimedBlock:
-    return TimedBlock("compute on keys of its own", "work", [Input(1_000_000, key(n) + word(ROUNDS)) for n in range(64)])
+    return TimedBlock("compute on keys of its own", "work", [TimedCall(1_000_000, key(n) + word(ROUNDS)) for n in range(64)])
 
 
 def transfers() -> TimedBlock:
     choice = random.Random(1)
-    calls = [Input(2_000, b"".join(key(n) for n in choice.sample(range(ACCOUNTS), 2))) for _ in range(CALLS)]
+    calls = [TimedCall(2_000, b"".join(key(n) for n in choice.sample(range(ACCOUNTS), 2))) for _ in range(CALLS)]
     return TimedBlock("transfers on 1,900 accounts", "transfer", calls, {key(n): word(1000) for n in range(ACCOUNTS)})
 
 
 def hot_key() -> TimedBlock:
-    return TimedBlock("one hot key", "counter", [Input(1_000, key(0))] * CALLS)
+    return TimedBlock("one hot key", "counter", [TimedCall(1_000, key(0))] * CALLS)
 
 
 def hot_sum() -> TimedBlock:
-    return TimedBlock("one hot key, added to", "bump", [Input(1_000, key(0))] * CALLS)
+    return TimedBlock("one hot key, added to", "bump", [TimedCall(1_000, key(0))] * CALLS)
 
 
 def chain() -> TimedBlock:
     """Calls of which each reads what the one before wrote."""
-    return TimedBlock("a chain through the whole block", "pass", [Input(1_000, key(n) + key(n + 1)) for n in range(CALLS)])
+    return TimedBlock("a chain through the whole block", "pass", [TimedCall(1_000, key(n) + key(n + 1)) for n in range(CALLS)])
 
 
 def assemble(rvstm: Path, place: Path, source: str) -> Path:
@@ -85,9 +85,9 @@ def assemble(rvstm: Path, place: Path, source: str) -> Path:
     return place / f"{source}.elf"
 
 
-def speed_calls(number: int) -> list[Input]:
+def speed_calls(number: int) -> list[TimedCall]:
     rows = [line.split(" ") for line in (FOLDER / "speed.block").read_text(encoding="utf-8").splitlines()]
-    return [Input(int(row[2]), bytes.fromhex(row[3].replace("-", ""))) for row in rows if row[:2] == ["call", str(number)]]
+    return [TimedCall(int(row[2]), bytes.fromhex(row[3].replace("-", ""))) for row in rows if row[:2] == ["call", str(number)]]
 
 
 def calls_again(example: str, count: int) -> str:

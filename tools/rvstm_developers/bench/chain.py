@@ -11,8 +11,8 @@ from typing import Protocol
 
 from rvstm_developers import options, texts
 from rvstm_developers.bench import blocks, commits, processes, tables
-from rvstm_developers.bench.blocks import Input, TimedBlock
-from rvstm_developers.bench.pictures import COLOURS, Picture, Point
+from rvstm_developers.bench.blocks import TimedBlock, TimedCall
+from rvstm_developers.bench.pictures import COLOURS, LinePicture, Point
 from rvstm_developers.texts import TOP, word
 from rvstm_tools.errors import UserError
 from rvstm_tools.options import Command, argument
@@ -48,9 +48,9 @@ def seq_time(rvstm: Path, block: str, place: Path) -> float:
     return 1000 * processes.sound(processes.timed([rvstm, "seq", block], place, result="result")).processor
 
 
-def transfers(choice: Random, keys: int) -> list[Input]:
+def transfers(choice: Random, keys: int) -> list[TimedCall]:
     pairs = [choice.sample(range(keys), 2) for _ in range(TRANSFERS)]
-    return [Input(GAS, key(one) + key(other)) for one, other in pairs]
+    return [TimedCall(GAS, key(one) + key(other)) for one, other in pairs]
 
 
 def accounts(keys: int) -> Storage:
@@ -207,9 +207,9 @@ class InLibrary:
         return f"the library over {measured.keys:,} keys: {middle:.0f} microseconds a block, {ratio:.2f} times `chain`"
 
 
-def picture(measured: Sequence[Measured]) -> Picture:
+def picture(measured: Sequence[Measured]) -> LinePicture:
     """The time of a block by the keys of the storage, both by powers of ten: a line for `chain` and one for `seq`."""
-    made = Picture(680, 380, 84, 580, 320)
+    made = LinePicture(680, 380, 84, 580, 320)
     lines = {
         "chain": [statistics.median(one.chain_times) for one in measured],
         "seq": [statistics.median(one.seq_times) for one in measured],

@@ -1,4 +1,4 @@
-"""Times commits of `rvstm chain --store` beside SQLite's own library: `bench/chain --store`."""
+"""Times commits of `rvstm chain --store` beside SQLite's own library: `rvstm-developers chain --store`."""
 
 import contextlib
 import random
@@ -36,12 +36,12 @@ START_COLUMNS = ("keys", "first answer, s", "C reads all rows, s", "bytes of FIL
 WRITE = re.compile(r"(pwrite64|fdatasync)\(\d+<([^>]*)>.*= (\d+)$", re.M)
 
 
-class Way(NamedTuple):
+class StoreWay(NamedTuple):
     rows: str
     syncs: str
 
 
-WAYS = (Way("1", "1"), Way("1", "2"), Way("0", "1"))
+WAYS = (StoreWay("1", "1"), StoreWay("1", "2"), StoreWay("0", "1"))
 
 
 class SystemCall(NamedTuple):
@@ -75,8 +75,8 @@ def changes_of(source: Random, keys: int, count: int) -> Storage:
     return {key: source.randbytes(8) for key in map(numbered_key, source.sample(range(keys), count))}
 
 
-class Beside(Pipes):
-    def __init__(self, program: Path, file: Path, way: Way) -> None:
+class PlainStore(Pipes):
+    def __init__(self, program: Path, file: Path, way: StoreWay) -> None:
         super().__init__([program, file, *way])
 
     def asked(self, request: bytes) -> float:
@@ -88,7 +88,7 @@ class Beside(Pipes):
         return self.asked(b"c" + struct.pack("=II", len(changes), len(answer)) + body + answer)
 
 
-class Stored:
+class StoredSessions:
     """Sessions over so many keys, one with a file and one without, and C over copies of the file."""
 
     def __init__(self, rvstm: Path, program: Path, place: Path, keys: int) -> None:
@@ -106,7 +106,7 @@ class Stored:
         self.start(rvstm, kept, program)
         self.session, self.plain = Session(rvstm, kept), Session(rvstm, digest)
         processes.answered(self.plain, first)
-        self.beside = [Beside(program, copy, way) for copy, way in zip(self.copies, WAYS)]
+        self.beside = [PlainStore(program, copy, way) for copy, way in zip(self.copies, WAYS)]
 
     def start(self, rvstm: Path, kept: Settings, program: Path) -> None:
         """The seconds until a session over the file answers, and until C has read all rows."""
@@ -118,7 +118,7 @@ class Stored:
                 self.memory = 1024 * processes.peak_of(session.process.pid)
                 session.end()
             began = time.perf_counter()
-            with Beside(program, self.copies[0], WAYS[0]) as reader:
+            with PlainStore(program, self.copies[0], WAYS[0]) as reader:
                 reader.asked(b"l")
                 self.reads.append(time.perf_counter() - began)
                 reader.end()
@@ -206,7 +206,7 @@ def print_tables(rvstm: Path, most: int) -> None:
     with texts.new_folder("commits-") as place:
         program, empty = compiled(place), memory_of_none(rvstm, place)
         for keys in (keys for keys in SIZES if keys <= most):
-            with contextlib.closing(Stored(rvstm, program, place, keys)) as stored:
+            with contextlib.closing(StoredSessions(rvstm, program, place, keys)) as stored:
                 rows += [stored.row(count) for count in CHANGED]
                 calls += [stored.row_of_calls(count, place) for count in CHANGED] if shutil.which("strace") else []
                 starts.append(stored.start_row(empty))

@@ -6,7 +6,7 @@ from pathlib import Path
 
 from rvstm_developers import options, running, texts
 from rvstm_developers.bench import blocks, tables
-from rvstm_developers.bench.blocks import FOLDER, RULES, SPEED_PROGRAMS, Input, TimedBlock
+from rvstm_developers.bench.blocks import FOLDER, RULES, SPEED_PROGRAMS, TimedBlock, TimedCall
 from rvstm_developers.running import Word
 from rvstm_tools.errors import UserError
 from rvstm_tools.options import Command
@@ -19,7 +19,7 @@ WAYS = (("seq",), ("run", "--workers", "1"))
 
 
 @dataclass(frozen=True)
-class Program:
+class CountedProgram:
     name: str
     path: str
     data: bytes = b""
@@ -39,13 +39,13 @@ def last_moment(rvstm: Path, block: Path) -> int:
     return int(text.split(b" ", 1)[0])
 
 
-def programs_of(rvstm: Path, place: Path) -> Iterator[Program]:
+def programs_of(rvstm: Path, place: Path) -> Iterator[CountedProgram]:
     """The programs; the last one has two pages, each of which jumps to the other at once."""
     for number, name in enumerate(SPEED_PROGRAMS):
-        yield Program(name, f"programs/{name}.elf", blocks.speed_calls(number)[0].data)
+        yield CountedProgram(name, f"programs/{name}.elf", blocks.speed_calls(number)[0].data)
     page = [".word 0"] * (WORDS_A_PAGE - 1)
     source = "\n".join(["here: j there", *page, "there: j here", ""])
-    yield Program("two pages", str(running.assembled(rvstm, source, place / "jumping.elf")))
+    yield CountedProgram("two pages", str(running.assembled(rvstm, source, place / "jumping.elf")))
 
 
 def print_loops(rvstm: Path, place: Path) -> None:
@@ -59,7 +59,7 @@ def print_loops(rvstm: Path, place: Path) -> None:
     for program in programs:
         paths = [place / f"{gas}.block" for gas in GAS]
         for gas, path in zip(GAS, paths):
-            path.write_text(TimedBlock(program.name, "", [Input(gas, program.data)]).text(program.path), encoding="utf-8")
+            path.write_text(TimedBlock(program.name, "", [TimedCall(gas, program.data)]).text(program.path), encoding="utf-8")
         few, many = (last_moment(rvstm, path) for path in paths)
         for name, start in machines.items():
             low, high = (counted([*start, path], FOLDER, place) for path in paths)

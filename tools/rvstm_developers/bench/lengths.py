@@ -11,7 +11,7 @@ from pathlib import Path
 from rvstm_developers import options, texts
 from rvstm_developers.bench import blocks, processes, tables
 from rvstm_developers.bench.blocks import TimedBlock
-from rvstm_developers.bench.pictures import COLOURS, DARK_GREY, GREY, Picture, Point
+from rvstm_developers.bench.pictures import COLOURS, DARK_GREY, GREY, LinePicture, Point
 from rvstm_developers.running import Word
 from rvstm_tools.errors import UserError
 from rvstm_tools.options import Command
@@ -85,9 +85,9 @@ def rounds_of(rvstm: Path, place: Path, length: int) -> Rounds:
     return found
 
 
-def picture(found: Sequence[Rounds]) -> Picture:
+def picture(found: Sequence[Rounds]) -> LinePicture:
     """Speed against `seq` by the length of a call, a line for each number of workers."""
-    made = Picture(720, 380, 60, 620, 320)
+    made = LinePicture(720, 380, 60, 620, 320)
     scale = (made.bottom - made.top) / 4.2
     low, high = math.log10(LENGTHS[0]), math.log10(LENGTHS[-1])
 

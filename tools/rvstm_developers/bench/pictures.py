@@ -13,7 +13,7 @@ class Point(NamedTuple):
     y: float
 
 
-class Picture:
+class LinePicture:
     """A picture while it is made: its field is between `left` and `right`, and between `top` and `bottom`."""
 
     def __init__(self, width: int, height: int, left: float, right: float, bottom: float, top: float = 30) -> None:

@@ -1,4 +1,4 @@
-"""The blocks of bench/slowest: each is made for one way to take much time or much memory. All of them are legal."""
+"""The blocks of rvstm-developers slowest: each is made for one way to take much time or much memory. All of them are legal."""
 
 import random
 from collections.abc import Callable, Sequence
@@ -6,10 +6,10 @@ from dataclasses import dataclass, field
 from enum import Enum
 from pathlib import Path
 
-from rvstm_developers import machine_code as code
 from rvstm_developers import texts
+from rvstm_developers import machine_code as code
 from rvstm_developers.bench import slow_programs
-from rvstm_developers.machine_code import PAGE, WORD, Segment
+from rvstm_developers.machine_code import PAGE, WORD, FileSegment
 from rvstm_developers.texts import word
 from rvstm_tools.sessions import frames, requests
 from rvstm_tools.texts.blocks import CallLine
@@ -59,7 +59,7 @@ def write_block(place: Path, name: str, content: Content) -> None:
 
 
 @dataclass(frozen=True)
-class Block:
+class SlowBlock:
     """A row, or as many as there are ways to run it."""
 
     name: str
@@ -83,7 +83,7 @@ def halves(count: int) -> Content:
 
 
 def drawn(name: str) -> Callable[[int], Content]:
-    return lambda count: used_up([slow_programs.program_of(slow_programs.shape_of(name), name)], endless(count))
+    return lambda count: used_up([slow_programs.program_of(name)], endless(count))
 
 
 # ---- time for a call
@@ -108,11 +108,11 @@ def paged(words: Sequence[int], filled: int = 0, seed: int = 0) -> bytes:
     six places."""
     text, content = code.text_of(words), random.Random(seed).randbytes(filled * PAGE)
     rights = code.READ | code.WRITE
-    segments = [Segment(code.FIRST_ADDRESS, 0, len(text), code.READ | code.EXECUTE)]
+    segments = [FileSegment(code.FIRST_ADDRESS, 0, len(text), code.READ | code.EXECUTE)]
     for place in range(6 if filled else 0):
-        segments.append(Segment(DATA + place * len(content), len(text), len(content), rights))
+        segments.append(FileSegment(DATA + place * len(content), len(text), len(content), rights))
     rest = DATA + (len(segments) - 1) * len(content)
-    segments.append(Segment(rest, 0, 0, rights, code.INPUT_ADDRESS - rest))
+    segments.append(FileSegment(rest, 0, 0, rights, code.INPUT_ADDRESS - rest))
     return code.program_file(code.FIRST_ADDRESS, text + content, segments)
 
 
@@ -135,7 +135,7 @@ def writer(length: int) -> bytes:
     words += [code.stored("sw", 18, 8, 0), *code.storage_call(1, 8), code.immediate("addi", 18, 18, -1)]
     words += [code.branch("bne", 18, 0, (loop - len(words)) * WORD), code.immediate("addi", 11, 0, 256), *code.storage_call(3, 8)]
     text = code.text_of(words)
-    return code.program_file(code.FIRST_ADDRESS, text, [Segment(code.FIRST_ADDRESS, 0, len(text), code.READ | code.EXECUTE)])
+    return code.program_file(code.FIRST_ADDRESS, text, [FileSegment(code.FIRST_ADDRESS, 0, len(text), code.READ | code.EXECUTE)])
 
 
 def writes(_: int) -> Content:
@@ -176,26 +176,28 @@ def sums_of_a_frame(_: int) -> Content:
 
 RUNS = (SEQ, RUN_1, RUN)
 BLOCKS = (
-    Block("work", "mix a word in a loop", Share.GAS, ALL_WAYS, lambda count: used_up(["work"], endless(count))),
-    Block("reads", "read one key of their own again and again", Share.GAS, ALL_WAYS, lambda count: used_up(["reads"], endless(count))),
-    Block("long-reads", "the same, of a value that is longer than the buffer", Share.GAS, ALL_WAYS,
+    SlowBlock("work", "mix a word in a loop", Share.GAS, ALL_WAYS, lambda count: used_up(["work"], endless(count))),
+    SlowBlock("reads", "read one key of their own again and again", Share.GAS, ALL_WAYS, lambda count: used_up(["reads"], endless(count))),
+    SlowBlock("long-reads", "the same, of a value that is longer than the buffer", Share.GAS, ALL_WAYS,
           lambda count: used_up(["reads"], endless(count), {key(number): bytes(LONGEST_VALUE) for number in range(count)})),
-    Block("both", "the first half `work`, the second `reads`", Share.GAS, ALL_WAYS, halves),
-    Block("fence", "FENCE alone", Share.GAS, (SEQ,), drawn("fence")),
-    Block("two", "jump from each of two pages to the other", Share.GAS, (SEQ,), drawn("two")),
-    Block("jumps", "jump to another of 217 pages each time", Share.GAS, (SEQ,), drawn("jumps0")),
-    Block("random", "random operations over 217 pages, of which each sixteenth is a jump", Share.GAS, (SEQ,), drawn("random0")),
-    Block("writes", "write 256 bytes to each of 256 keys of their own", Share.GAS, (SEQ, RUN), writes),
-    Block("traps", "trap at once", Share.CALL, (SEQ, RUN), short(paged(TRAP), 1)),
-    Block("inputs", "the same with inputs of 4,096 bytes", Share.CALL, (SEQ, RUN), short(paged(TRAP), 1, bytes(MOST_INPUT))),
-    Block("loads", "64 calls that trap at once, each of a program of its own", Share.CALL, (SEQ, RUN), many(TRAP, MOST_PROGRAMS)),
-    Block("pages", "store to 255 pages, and trap", Share.CALL, (SEQ, RUN), short(paged(touching()), 10_000)),
-    Block("programs", "the same of 64 programs, with 186 pages from the file each", Share.CALL, (SEQ, RUN), many(touching(), MOST_CALLS)),
-    Block("short", "the same with inputs of 4,096 bytes", Share.CALL, (SEQ, RUN), many(touching(), MOST_CALLS, bytes(MOST_INPUT))),
-    Block("one-sum", "1,008 add to a key, 2 read it again and again", Share.GAS, RUNS,
+    SlowBlock("both", "the first half `work`, the second `reads`", Share.GAS, ALL_WAYS, halves),
+    SlowBlock("fence", "FENCE alone", Share.GAS, (SEQ,), drawn("fence")),
+    SlowBlock("two", "jump from each of two pages to the other", Share.GAS, (SEQ,), drawn("two")),
+    SlowBlock("jumps", "jump to another of 217 pages each time", Share.GAS, (SEQ,), drawn("jumps")),
+    SlowBlock("swaps", "the same in seven copies of the code at the same time", Share.GAS, (SEQ,), drawn("swaps")),
+    SlowBlock("straight", "random operations over 203 pages, in their order", Share.GAS, (SEQ,), drawn("straight")),
+    SlowBlock("random", "random operations over 217 pages, of which each sixteenth is a jump", Share.GAS, (SEQ,), drawn("random")),
+    SlowBlock("writes", "write 256 bytes to each of 256 keys of their own", Share.GAS, (SEQ, RUN), writes),
+    SlowBlock("traps", "trap at once", Share.CALL, (SEQ, RUN), short(paged(TRAP), 1)),
+    SlowBlock("inputs", "the same with inputs of 4,096 bytes", Share.CALL, (SEQ, RUN), short(paged(TRAP), 1, bytes(MOST_INPUT))),
+    SlowBlock("loads", "64 calls that trap at once, each of a program of its own", Share.CALL, (SEQ, RUN), many(TRAP, MOST_PROGRAMS)),
+    SlowBlock("pages", "store to 255 pages, and trap", Share.CALL, (SEQ, RUN), short(paged(touching()), 10_000)),
+    SlowBlock("programs", "the same of 64 programs, with 186 pages from the file each", Share.CALL, (SEQ, RUN), many(touching(), MOST_CALLS)),
+    SlowBlock("short", "the same with inputs of 4,096 bytes", Share.CALL, (SEQ, RUN), many(touching(), MOST_CALLS, bytes(MOST_INPUT))),
+    SlowBlock("one-sum", "1,008 add to a key, 2 read it again and again", Share.GAS, RUNS,
           lambda _: Content(["bump", "reads"], [CallLine(0, 1_000, key(1))] * 1_008 + [CallLine(1, GAS, key(1))] * 2)),
-    Block("two-sums", "1,008 add to two keys, 2 read both in turn", Share.GAS, RUNS, two_sums),
-    Block("sums", "500 add to the same 256 keys, 500 read each once", Share.GAS, RUNS, table_of_sums),
-    Block("many-sums", "50,000 keys: 5 add to each, 2 read it", Share.GAS, RUNS, many_sums),
-    Block("frame-sums", "22 compute, 900 add to a key, 100 read it 40 times", Share.GAS, (CHAIN, CHAIN_4), sums_of_a_frame),
+    SlowBlock("two-sums", "1,008 add to two keys, 2 read both in turn", Share.GAS, RUNS, two_sums),
+    SlowBlock("sums", "500 add to the same 256 keys, 500 read each once", Share.GAS, RUNS, table_of_sums),
+    SlowBlock("many-sums", "50,000 keys: 5 add to each, 2 read it", Share.GAS, RUNS, many_sums),
+    SlowBlock("frame-sums", "22 compute, 900 add to a key, 100 read it 40 times", Share.GAS, (CHAIN, CHAIN_4), sums_of_a_frame),
 )

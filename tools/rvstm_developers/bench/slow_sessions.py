@@ -27,7 +27,7 @@ FRAME_LIMIT = 1 << 27
 
 
 @dataclass(frozen=True)
-class Row:
+class SessionRow:
     what: str
     seconds: float
     unit: str  # for what it takes that
@@ -52,15 +52,15 @@ def begun(rvstm: Path, keys: list[Key], store: str | None = None) -> Session:
     return session
 
 
-def compared(names: Sequence[str], unit: str, rounds: int, act: Callable[[int], float]) -> list[Row]:
+def compared(names: Sequence[str], unit: str, rounds: int, act: Callable[[int], float]) -> list[SessionRow]:
     """Rows of acts that are made in turn: the median of what each took, and of its ratio to the first one within a round."""
     made = [[act(one) for one in range(len(names))] for _ in range(rounds)]
     ratios = [statistics.median(times[one] / times[0] for times in made) for one in range(len(names))]
     middle = [statistics.median(times[one] for times in made) for one in range(len(names))]
-    return [Row(*row) for row in zip(names, middle, [unit] * len(names), ratios)]
+    return [SessionRow(*row) for row in zip(names, middle, [unit] * len(names), ratios)]
 
 
-def reads_of_one_hash(rvstm: Path, place: Path, rounds: int) -> list[Row]:
+def reads_of_one_hash(rvstm: Path, place: Path, rounds: int) -> list[SessionRow]:
     """Reads of keys drawn at random among a million, of other hashes and of one."""
     masks, program = (0, ONES), (place / "draw.elf").read_bytes()
     open_sessions = [begun(rvstm, [pair_key(number, mask) for number in range(KEYS)]) for mask in masks]
@@ -103,7 +103,7 @@ def gas_in(body: bytes) -> int:
     return sum(int(line.split(b" ", 5)[4]) for line in body.splitlines() if line.startswith(b"call "))
 
 
-def keys_that_come(rvstm: Path, place: Path, rounds: int, store: str | None = None) -> list[Row]:
+def keys_that_come(rvstm: Path, place: Path, rounds: int, store: str | None = None) -> list[SessionRow]:
     """Frames that add keys to a million, and remove them again: 262,144 in one, and 400 in each of twenty."""
     scatter, work = ((place / f"{name}.elf").read_bytes() for name in ("scatter", "work"))
     asked = [[frame_of(work, [CallLine(0, GAS, bytes(KEY_LENGTH) + word(ONES))] * CALLS)]]
@@ -123,7 +123,7 @@ def keys_that_come(rvstm: Path, place: Path, rounds: int, store: str | None = No
         return compared([f"{name}{where}" for name in names], "a unit of gas", rounds, act)
 
 
-def pages_of_a_list(rvstm: Path, rounds: int) -> list[Row]:
+def pages_of_a_list(rvstm: Path, rounds: int) -> list[SessionRow]:
     keys = random_keys()
     places = (0, KEYS - PAGE - PAGES)
     with begun(rvstm, keys) as session:

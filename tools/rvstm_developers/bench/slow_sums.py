@@ -1,4 +1,4 @@
-"""The frames of bench/sums: in each of them reads pass many sums, those of earlier calls that added to the key. All are legal."""
+"""The frames of rvstm-developers sums: in each of them reads pass many sums, those of earlier calls that added to the key. All are legal."""
 
 from collections.abc import Sequence
 from dataclasses import dataclass
@@ -16,7 +16,7 @@ ADD, READ = StorageCall.ADD, StorageCall.READ
 
 
 @dataclass(frozen=True)
-class Frame:
+class SumsFrame:
     name: str
     what: str  # what its calls do
     calls: Sequence[CallLine]
@@ -49,27 +49,27 @@ def at_keys(call: StorageCall, count: int) -> list[tuple[StorageCall, int]]:
 
 
 FRAMES = (
-    Frame("small", "8 compute, 250 add to a key, 100 read it 60 times", compute(8) + add(250) + read(100, 60)),
-    Frame("many", "22 compute, 900 add to a key, 100 read it 40 times",
+    SumsFrame("small", "8 compute, 250 add to a key, 100 read it 60 times", compute(8) + add(250) + read(100, 60)),
+    SumsFrame("many", "22 compute, 900 add to a key, 100 read it 40 times",
           compute(6, 250_000) + compute(16, first=2 * OWN) + add(900) + read(100, 40)),
-    Frame("adders", "4 compute, 1,000 add, 20 read 60 times", compute(4, 250_000) + add(1_000) + read(20, 60)),
-    Frame("readers", "22 compute, 400 add, 600 read 10 times", compute(22, 50_000) + add(400) + read(600, 10)),
-    Frame("two-keys", "8 compute, 300 add to two keys, 100 read both in turn 30 times",
+    SumsFrame("adders", "4 compute, 1,000 add, 20 read 60 times", compute(4, 250_000) + add(1_000) + read(20, 60)),
+    SumsFrame("readers", "22 compute, 400 add, 600 read 10 times", compute(22, 50_000) + add(400) + read(600, 10)),
+    SumsFrame("two-keys", "8 compute, 300 add to two keys, 100 read both in turn 30 times",
           compute(8) + listed(300, at_keys(ADD, 2)) + listed(100, at_keys(READ, 2), 30)),
-    Frame("first-batch", "60 add, 300 read 60 times, and none computes alone before them",
+    SumsFrame("first-batch", "60 add, 300 read 60 times, and none computes alone before them",
           add(60, rounds=5_000) + read(300, 60, rounds=5_000)),
-    Frame("in-turn", "8 compute, 20 add, then 400 that add and 400 that read 20 times, in turn",
+    SumsFrame("in-turn", "8 compute, 20 add, then 400 that add and 400 that read 20 times, in turn",
           compute(8) + add(20) + (add(1, rounds=MORE_ROUNDS) + read(1, 20, rounds=MORE_ROUNDS)) * 400),
-    Frame("at-end", "400 add, 300 compute, and at the end 200 read 30 times",
+    SumsFrame("at-end", "400 add, 300 compute, and at the end 200 read 30 times",
           add(400, rounds=MORE_ROUNDS) + compute(300, MORE_ROUNDS) + read(200, 30)),
-    Frame("much-gas", "8 compute, 300 add, 200 read 30 times and use 40,000 gas besides",
+    SumsFrame("much-gas", "8 compute, 300 add, 200 read 30 times and use 40,000 gas besides",
           compute(8) + add(300) + read(200, 30, rounds=20_000)),
-    Frame("also-read", "8 compute, 40 add to another key, 500 read that and add, 100 read 40 times",
+    SumsFrame("also-read", "8 compute, 40 add to another key, 500 read that and add, 100 read 40 times",
           compute(8) + add(40, OTHER) + listed(500, [(READ, OTHER), (ADD, HOT)]) + read(100, 40)),
-    Frame("eight-keys", "8 compute, 300 add to eight keys, 100 read all in turn 5 times",
+    SumsFrame("eight-keys", "8 compute, 300 add to eight keys, 100 read all in turn 5 times",
           compute(8) + listed(300, at_keys(ADD, 8)) + listed(100, at_keys(READ, 8), 5)),
-    Frame("few-adders", "22 compute, 40 add, 900 read 10 times", compute(22, 50_000) + add(40) + read(900, 10)),
-    Frame("own-sums", "8 compute, 20 add, 600 add and then read the same key 10 times",
+    SumsFrame("few-adders", "22 compute, 40 add, 900 read 10 times", compute(22, 50_000) + add(40) + read(900, 10)),
+    SumsFrame("own-sums", "8 compute, 20 add, 600 add and then read the same key 10 times",
           compute(8) + add(20) + listed(600, [(ADD, HOT), *[(READ, HOT)] * 10])),
-    Frame("harmless", "64 compute for long, 500 add, 300 read 50 times", compute(64, 20_000) + add(500) + read(300, 50)),
+    SumsFrame("harmless", "64 compute for long, 500 add, 300 read 50 times", compute(64, 20_000) + add(500) + read(300, 50)),
 )

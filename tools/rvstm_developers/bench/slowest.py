@@ -5,11 +5,11 @@ from collections.abc import Callable, Sequence
 from dataclasses import dataclass
 from pathlib import Path
 
-from rvstm_developers import options as shared_options
 from rvstm_developers import texts
+from rvstm_developers import options as shared_options
 from rvstm_developers.bench import blocks, slow_sessions, tables
 from rvstm_developers.bench.processes import Spent, sound, timed
-from rvstm_developers.bench.slow_blocks import BLOCKS, CHAIN, CHAIN_4, GAS, SEQ, Block, Content, Share, endless, used_up, write_block
+from rvstm_developers.bench.slow_blocks import BLOCKS, CHAIN, CHAIN_4, GAS, SEQ, Content, Share, SlowBlock, endless, used_up, write_block
 from rvstm_tools.errors import MisuseError
 from rvstm_tools.options import Command, argument
 
@@ -51,14 +51,14 @@ def gas_of(options: Options, name: str) -> int:
         return sum(int(line.split(" ", 5)[4]) for line in process.stdout if line.startswith("call "))
 
 
-def whole_of(options: Options, block: Block, content: Content) -> int:
+def whole_of(options: Options, block: SlowBlock, content: Content) -> int:
     """What the time of a block is divided by: its calls, or the units of gas that they use."""
     if block.share is Share.CALL:
         return len(content.calls)
     return content.gas or gas_of(options, block.name)
 
 
-def print_block(options: Options, block: Block) -> None:
+def print_block(options: Options, block: SlowBlock) -> None:
     content = block.make(options.calls)
     write_block(options.place, block.name, content)
     whole = whole_of(options, block, content)
@@ -83,7 +83,7 @@ def print_row(command: str, runs: Sequence[Spent], whole: int, share: Share, rat
 
 
 def print_sessions(options: Options, names: Sequence[str]) -> None:
-    acts: dict[str, Callable[[], list[slow_sessions.Row]]] = {
+    acts: dict[str, Callable[[], list[slow_sessions.SessionRow]]] = {
         "one-hash": lambda: slow_sessions.reads_of_one_hash(options.rvstm, options.place, options.rounds),
         "new-keys": lambda: slow_sessions.keys_that_come(options.rvstm, options.place, options.rounds),
         "new-keys-stored": lambda: slow_sessions.keys_that_come(options.rvstm, options.place, options.rounds, str(options.place / "kept")),

@@ -61,7 +61,7 @@ def frame(name: str, calls: Sequence[bytes]) -> Request:
     return Request(Word.FRAME, (), f"{texts.HEADS[2]}program 0 {name}\n{''.join(lines)}".encode())
 
 
-class Measured:
+class MeasuredStorage:
     def __init__(self, rvstm: Path, files: Mapping[str, bytes], key: KeyOf, keys: int) -> None:
         self.session, self.keys = Session(rvstm, Settings(FRAME_LIMIT)), keys
         names = {source: frames.name_of(file) for source, file in files.items()}
@@ -87,7 +87,7 @@ class Measured:
         found = [processes.answered(self.session, request) for request in self.acts[act]]
         self.times[act].append(sum(one.processor for one in found) / len(found))
 
-    def row(self, kind: str, least: "Measured") -> list[str]:
+    def row(self, kind: str, least: "MeasuredStorage") -> list[str]:
         share = f"{(self.memory - least.memory) / (self.keys - COMPARED):.1f}" if self.keys > COMPARED else "-"
         ratio = tables.ratio(self.times["transfers"], least.times["transfers"])
         times = (f"{tables.middle(self.times[act], '.3f')} ms" for act in SHOWN_ACTS)
@@ -110,7 +110,7 @@ def grown(rvstm: Path, files: Mapping[str, bytes], keys: int) -> str:
 
 
 def print_kind(rvstm: Path, files: Mapping[str, bytes], kind: str, sizes: Sequence[int], rounds: int) -> None:
-    measured = [Measured(rvstm, files, KINDS[kind], keys) for keys in sizes]
+    measured = [MeasuredStorage(rvstm, files, KINDS[kind], keys) for keys in sizes]
     for _ in range(rounds):
         for one in measured:
             for act in ACTS:

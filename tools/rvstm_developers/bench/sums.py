@@ -7,7 +7,7 @@ from pathlib import Path
 from rvstm_developers import texts
 from rvstm_developers.bench import blocks, slow_blocks, slow_sums, tables
 from rvstm_developers.bench.processes import Spent, sound, timed
-from rvstm_developers.bench.slow_sums import FRAMES, Frame
+from rvstm_developers.bench.slow_sums import FRAMES, SumsFrame
 from rvstm_developers.running import Word
 from rvstm_tools.errors import UserError
 from rvstm_tools.options import Command, argument, count
@@ -20,7 +20,7 @@ COLUMNS = ("frame", "in order, ms", "workers", "ms", "times in order", "in time"
 
 
 @dataclass(frozen=True)
-class Row:
+class SumsRow:
     """A frame with so many workers: medians of milliseconds, and how much more memory it had at most than in order."""
 
     frame: str
@@ -43,7 +43,7 @@ class Row:
         return [self.frame, *times, f"{round(self.mebibytes_more)}"]
 
 
-def check(frame: Frame, answers: bytes, in_order: bytes, workers: int | None) -> None:
+def check(frame: SumsFrame, answers: bytes, in_order: bytes, workers: int | None) -> None:
     """Refuses answers that are others than those in order, and calls that do not return: they would not do what the frame is for."""
     if answers != in_order:
         raise UserError(f"{frame.name}: the answers with {workers} workers are others than in order")
@@ -51,7 +51,7 @@ def check(frame: Frame, answers: bytes, in_order: bytes, workers: int | None) ->
         raise UserError(f"{frame.name}: a call does not return: {answers[-200:]!r}")
 
 
-def spent_by(rvstm: Path, place: Path, frame: Frame, rounds: int) -> dict[int | None, list[Spent]]:
+def spent_by(rvstm: Path, place: Path, frame: SumsFrame, rounds: int) -> dict[int | None, list[Spent]]:
     """What the runs of a frame took in order (None) and with each number of workers, which are run in turn."""
     spent: dict[int | None, list[Spent]] = {workers: [] for workers in (None, *WORKERS)}
     in_order = b""
@@ -65,13 +65,13 @@ def spent_by(rvstm: Path, place: Path, frame: Frame, rounds: int) -> dict[int | 
     return spent
 
 
-def rows_of(rvstm: Path, place: Path, frame: Frame, rounds: int) -> Iterator[Row]:
+def rows_of(rvstm: Path, place: Path, frame: SumsFrame, rounds: int) -> Iterator[SumsRow]:
     slow_blocks.write_block(place, frame.name, frame.content())
     spent = spent_by(rvstm, place, frame, rounds)
     times = {workers: 1000 * statistics.median(run.seconds for run in runs) for workers, runs in spent.items()}
     most = {workers: max(run.mebibytes for run in runs) for workers, runs in spent.items()}
     for workers in WORKERS:
-        yield Row(frame.name, times[None], workers, times[workers], most[workers] - most[None])
+        yield SumsRow(frame.name, times[None], workers, times[workers], most[workers] - most[None])
 
 
 def run(given: argparse.Namespace) -> int:
@@ -79,7 +79,7 @@ def run(given: argparse.Namespace) -> int:
         print("\n".join(f"{frame.name:12} {frame.what}" for frame in FRAMES))
         return 0
     asked = [frame for frame in FRAMES if not given.only or frame.name in given.only]
-    rows: list[Row] = []
+    rows: list[SumsRow] = []
     with texts.new_folder() as place:
         for program in slow_sums.PROGRAMS:
             blocks.assemble(given.rvstm, place, program)

@@ -6,8 +6,8 @@ from pathlib import Path
 
 from rvstm_developers import options, texts
 from rvstm_developers.bench import blocks, processes, tables
-from rvstm_developers.bench.blocks import FOLDER, SPEED_PROGRAMS, Input, TimedBlock
-from rvstm_developers.bench.pictures import COLOURS, Picture, Point
+from rvstm_developers.bench.blocks import FOLDER, SPEED_PROGRAMS, TimedBlock, TimedCall
+from rvstm_developers.bench.pictures import COLOURS, LinePicture, Point
 from rvstm_developers.running import Word
 from rvstm_tools.options import Command, argument
 
@@ -18,7 +18,7 @@ MARGIN, BETWEEN = 60, 110  # pixels before the first number of workers, and betw
 
 
 @dataclass(frozen=True)
-class Row:
+class ThreadsRow:
     """A block: the milliseconds of files and text, those of `seq` and of each run without them, and two rows of ratios."""
 
     name: str
@@ -45,14 +45,14 @@ def print_ratios(title: str, rows: Iterable[tuple[str, list[float]]]) -> None:
 
 def program_ratios(rvstm: Path, place: Path, number: int) -> list[float]:
     name = SPEED_PROGRAMS[number]
-    calls = [Input(PROGRAM_GAS, blocks.speed_calls(number)[0].data)] * PROGRAM_CALLS
+    calls = [TimedCall(PROGRAM_GAS, blocks.speed_calls(number)[0].data)] * PROGRAM_CALLS
     (place / f"{name}.block").write_text(TimedBlock(name, name, calls).text(FOLDER / f"programs/{name}.elf"), encoding="utf-8")
     times = processes.times_of(runs_of(rvstm, f"{name}.block"), place, PROGRAM_TIMES)
     times.check(name)
     return times.ratios()
 
 
-def measured(rvstm: Path, place: Path, block: TimedBlock) -> Row:
+def measured(rvstm: Path, place: Path, block: TimedBlock) -> ThreadsRow:
     blocks.assemble(rvstm, place, block.source)
     (place / "calls.block").write_text(block.text(), encoding="utf-8")
     (place / "empty.block").write_text(block.empty().text(), encoding="utf-8")
@@ -61,12 +61,12 @@ def measured(rvstm: Path, place: Path, block: TimedBlock) -> Row:
     times.check(block.name, first=1)
     empty, *best = (min(spent) for spent in times.rounds)
     unread = processes.times_of(commands, place, TIMES, subprocess.DEVNULL)
-    return Row(block.name, len(block.calls), empty, [spent - empty for spent in best], times.ratios(first=1), unread.ratios())
+    return ThreadsRow(block.name, len(block.calls), empty, [spent - empty for spent in best], times.ratios(first=1), unread.ratios())
 
 
-def picture(rows: Sequence[Row]) -> Picture:
+def picture(rows: Sequence[ThreadsRow]) -> LinePicture:
     places = [2 * MARGIN + BETWEEN * number for number in range(len(WORKERS))]
-    made = Picture(720, 380, MARGIN, places[-1], 320)
+    made = LinePicture(720, 380, MARGIN, places[-1], 320)
     greatest = max(2.0, *(row.speed(number) for row in rows for number in range(len(WORKERS))))
     scale = (made.bottom - made.top) / (1.1 * greatest)
     for number in range(int(1.1 * greatest) + 1):

@@ -17,21 +17,21 @@ INTERVAL = 0.5
 PARENT, BEGAN, USER_TIME, SYSTEM_TIME = 1, 19, 11, 12  # fields of /proc/N/stat after the name
 
 
-class Kind(enum.Enum):
+class CostKind(enum.Enum):
     PROOF = "proof"
     TESTS = "tests"
     EDITS = "edits"
     OTHER = "other"
 
 
-class Task(NamedTuple):
+class CrateTask(NamedTuple):
     """The crate of a process, which is empty if it is of none, and what it is for."""
 
     crate: str
-    kind: Kind
+    kind: CostKind
 
 
-OTHER = Task("", Kind.OTHER)
+OTHER = CrateTask("", CostKind.OTHER)
 
 
 class Identity(NamedTuple):
@@ -60,7 +60,7 @@ def processes() -> Iterator[Process]:
         yield Process(Identity(int(path.name), int(fields[BEGAN])), int(fields[PARENT]), seconds)
 
 
-def task_of(number: int) -> Task | None:
+def task_of(number: int) -> CrateTask | None:
     """The task of a process of the prover; any other process is of no crate. None if it has ended. An edit is tried on a copy."""
     try:
         words = Path(f"/proc/{number}/cmdline").read_bytes().decode(errors="replace").split("\0")
@@ -71,8 +71,8 @@ def task_of(number: int) -> Task | None:
         return OTHER
     crate = words[words.index("--crate-name") + 1]
     if "--test" in words:
-        return Task(crate, Kind.TESTS)
-    return Task(crate, Kind.EDITS if "/rt-edit" in folder else Kind.PROOF)
+        return CrateTask(crate, CostKind.TESTS)
+    return CrateTask(crate, CostKind.EDITS if "/rt-edit" in folder else CostKind.PROOF)
 
 
 def descendants(root: int, found: Iterable[Process]) -> set[int]:
@@ -88,8 +88,8 @@ def descendants(root: int, found: Iterable[Process]) -> set[int]:
     return seen
 
 
-def measure(gate: subprocess.Popen[bytes]) -> dict[Task, float]:
-    tasks: dict[Identity, Task] = {}
+def measure(gate: subprocess.Popen[bytes]) -> dict[CrateTask, float]:
+    tasks: dict[Identity, CrateTask] = {}
     used: dict[Identity, float] = {}
     while gate.poll() is None:
         found = list(processes())
@@ -98,12 +98,12 @@ def measure(gate: subprocess.Popen[bytes]) -> dict[Task, float]:
             identity = process.identity
             if identity.number not in ours:
                 continue
-            if tasks.get(identity, OTHER).kind is Kind.OTHER:
+            if tasks.get(identity, OTHER).kind is CostKind.OTHER:
                 task = task_of(identity.number)
                 tasks[identity] = OTHER if task is None else task
             used[identity] = process.seconds
         time.sleep(INTERVAL)
-    costs: defaultdict[Task, float] = defaultdict(float)
+    costs: defaultdict[CrateTask, float] = defaultdict(float)
     for identity, seconds in used.items():
         costs[tasks.get(identity, OTHER)] += seconds
     return costs
@@ -113,17 +113,17 @@ def edits_of(crate: str) -> int:
     return len(list((TOP / "crates" / crate / "must-fail").glob("*.edit")))
 
 
-def print_table(costs: Mapping[Task, float], minutes: float) -> None:
-    def cost(crate: str, kind: Kind) -> float:
-        return costs.get(Task(crate, kind), 0)
+def print_table(costs: Mapping[CrateTask, float], minutes: float) -> None:
+    def cost(crate: str, kind: CostKind) -> float:
+        return costs.get(CrateTask(crate, kind), 0)
 
-    crates = sorted({task.crate for task in costs if task.crate}, key=lambda crate: -sum(cost(crate, kind) for kind in Kind))
+    crates = sorted({task.crate for task in costs if task.crate}, key=lambda crate: -sum(cost(crate, kind) for kind in CostKind))
     print("| crate | proof | tests | edits | number of edits | in all |")
     print("|---|---|---|---|---|---|")
     for crate in crates:
-        row = [round(cost(crate, kind)) for kind in (Kind.PROOF, Kind.TESTS, Kind.EDITS)]
+        row = [round(cost(crate, kind)) for kind in (CostKind.PROOF, CostKind.TESTS, CostKind.EDITS)]
         print(f"| {crate} | {row[0]} | {row[1]} | {row[2]} | {edits_of(crate)} | {sum(row)} |")
-    sums = [sum(seconds for task, seconds in costs.items() if task.kind is kind) for kind in Kind]
+    sums = [sum(seconds for task, seconds in costs.items() if task.kind is kind) for kind in CostKind]
     count = sum(edits_of(crate) for crate in crates)
     print(f"| all | {sums[0]:.0f} | {sums[1]:.0f} | {sums[2]:.0f} | {count} | {sum(sums[:3]):.0f} |")
     print(f"\nother: {sums[3]:.0f} s; processor time in all: {sum(sums) / 60:.0f} minutes; wall time: {minutes:.0f} minutes")

@@ -10,7 +10,7 @@ from rvstm_tools.options import Command, argument
 KINDS_SHOWN = 8
 
 
-class Module(NamedTuple):
+class CheckedModule(NamedTuple):
     time: float
     name: str
 
@@ -23,12 +23,12 @@ class Module(NamedTuple):
 
 class Cost(NamedTuple):
     seconds: float
-    module: Module
+    module: CheckedModule
 
 
-def modules(folder: Path) -> list[Module]:
+def modules(folder: Path) -> list[CheckedModule]:
     files = (path for path in folder.rglob("*.oantt") if path.parent.name != "records")
-    return sorted(Module(path.stat().st_mtime, path.stem) for path in files)
+    return sorted(CheckedModule(path.stat().st_mtime, path.stem) for path in files)
 
 
 def run(given: argparse.Namespace) -> int:
@@ -56,7 +56,7 @@ checked the crate from nothing. What is read before the first file of a kind is 
 nothing else on the machine:
 
     cd crates/stm_core && rm -rf out/incremental && rt check --jobs 1
-    tools/developers/module-cost stm_core
+    rvstm-developers module-cost stm_core
 
 Of a function, `Lts` is what the prover writes for the borrow checker, `Proof` the proof of its clauses, `Answers` what its own file
 answers, and `Tie` what it takes from the calls that it makes.

@@ -2,24 +2,24 @@ import argparse
 from dataclasses import dataclass
 from pathlib import Path
 
-from rvstm_developers.sources.causes import ALLOCATING, AREAS, CAUSE, KINDS, NAMED, RESULTS, RULES, SIZE, Kind
+from rvstm_developers.sources.causes import ALLOCATING, AREAS, CAUSE, KINDS, NAMED, RESULTS, RULES, SIZE, CauseKind
 from rvstm_developers.sources.rattle import Group, words
-from rvstm_developers.sources.uses import Around, Function, How, Use, Uses, call_name, is_pattern, is_token, last_call, text_of
+from rvstm_developers.sources.uses import Around, How, RattleFunction, Use, Uses, call_name, is_pattern, is_token, last_call, text_of
 from rvstm_developers.texts import TOP
 from rvstm_tools.options import Command, argument
 
 HANDED_ON = (How.ARGUMENT, How.LET, How.CONST, How.BLOCK, How.PATTERN, How.CALL, How.FN)
-NOT_KNOWN = Function("", "", [], "")
+NOT_KNOWN = RattleFunction("", "", [], "")
 
 
 @dataclass
-class Place:
+class CausePlace:
     """A place where a cause is made or handed on; and what refused there, if that is known."""
 
     path: Path
     line: int
     name: str
-    kind: Kind
+    kind: CauseKind
     around: tuple[Around, ...]
     refuser: str | None = None
     call: str | None = ""
@@ -47,7 +47,7 @@ def is_made(name: str, use: Use) -> bool:
 class Check:
     def __init__(self, uses: Uses) -> None:
         self.uses = uses
-        self.places: list[Place] = []
+        self.places: list[CausePlace] = []
         self.seen: set[tuple[Path, int, str, int]] = set()
         for functions in list(uses.functions.values()):
             for function in functions:
@@ -61,27 +61,27 @@ class Check:
                     self.note(kind, name if is_bare else words(use.items[use.index - 2 : use.index + 1]), use)
         for use in uses.words.get("Failure", []):
             if use.index + 2 < len(use.items) and is_token(use.after(), "::") and not is_pattern(use.items[: use.index]):
-                self.note(Kind.MEMORY, words(use.items[use.index : use.index + 3]), use)
+                self.note(CauseKind.MEMORY, words(use.items[use.index : use.index + 3]), use)
 
-    def note_errors(self, function: Function) -> None:
+    def note_errors(self, function: RattleFunction) -> None:
         """Notes each `Err` of a function that hands back what it was handed."""
         for use in self.uses.words.get("Err", []):
             is_there = Around(How.FN, function.name) in use.around and text_of(use.around, How.IMPL) == function.owner
             if is_there and not is_pattern(use.items[: use.index]):
-                self.note(Kind.MEMORY, "Err", use)
+                self.note(CauseKind.MEMORY, "Err", use)
 
-    def note(self, kind: Kind, name: str, use: Use) -> None:
+    def note(self, kind: CauseKind, name: str, use: Use) -> None:
         """Notes a place, and looks for what refused there."""
         line = use.items[use.index].line
         key = (use.path, line, name, use.index)
         if key in self.seen:
             return
         self.seen.add(key)
-        place = Place(use.path, line, name, kind, use.around)
+        place = CausePlace(use.path, line, name, kind, use.around)
         self.places.append(place)
         place.refuser = self.refuser(place) or self.followed(place)
 
-    def refuser(self, place: Place) -> str | None:
+    def refuser(self, place: CausePlace) -> str | None:
         """What refused, of what is around a place; None if nothing did."""
         kind = place.kind
         for one in reversed(place.around):
@@ -93,7 +93,7 @@ class Check:
             if how is How.ENDLESS or how is How.AFTER and NAMED[kind].search(text):
                 return text
             is_refused = how is How.RULE and RULES[kind].search(text) or how is How.CALL and self.fails_for(kind, text)
-            if is_refused or how is How.BACK and kind is Kind.MEMORY and self.hands_back(text):
+            if is_refused or how is How.BACK and kind is CauseKind.MEMORY and self.hands_back(text):
                 place.call = call_name(text)
                 return text
         return None
@@ -102,23 +102,23 @@ class Check:
         """Whether each function that a call may be hands back what it was handed."""
         return all(function.hands_back() for function in self.called(call) or [NOT_KNOWN])
 
-    def fails_for(self, kind: Kind, call: str) -> bool:
-        if RULES[kind].search(call) or (kind is Kind.MEMORY and SIZE.search(call)):
+    def fails_for(self, kind: CauseKind, call: str) -> bool:
+        if RULES[kind].search(call) or (kind is CauseKind.MEMORY and SIZE.search(call)):
             return True
         found = self.called(call)
         if not found:
             last = last_call(call)
-            return kind is Kind.MEMORY and (last.name in ALLOCATING or f"{last.owner} :: {last.name}" in ALLOCATING)
-        return all(RESULTS[kind].search(function.result) or (kind is Kind.MEMORY and function.hands_back()) for function in found)
+            return kind is CauseKind.MEMORY and (last.name in ALLOCATING or f"{last.owner} :: {last.name}" in ALLOCATING)
+        return all(RESULTS[kind].search(function.result) or (kind is CauseKind.MEMORY and function.hands_back()) for function in found)
 
-    def called(self, call: str) -> list[Function]:
+    def called(self, call: str) -> list[RattleFunction]:
         last = last_call(call)
         found = self.uses.functions.get(last.name, [])
         if last.is_method:
             return [function for function in found if function.owner is not None]
         return [function for function in found if function.owner == (last.owner or None)]
 
-    def followed(self, place: Place) -> str | None:
+    def followed(self, place: CausePlace) -> str | None:
         """What the cause of a place is handed to, whose uses are places in turn; None if that is not known."""
         one = next((one for one in reversed(place.around) if one.how in HANDED_ON), Around(How.BLOCK, ""))
         name = place.function()
@@ -138,7 +138,7 @@ class Check:
             return f"reported by {name}"
         return None
 
-    def follow(self, kind: Kind, name: str, function: str | None) -> bool:
+    def follow(self, kind: CauseKind, name: str, function: str | None) -> bool:
         """Notes each use of a name, in a function or everywhere. Returns whether there is one."""
         uses = [use for use in self.uses.words.get(name, []) if function is None or Around(How.FN, function) in use.around]
         uses = [use for use in uses if not is_pattern(use.items[: use.index]) and not use.is_declared()]
@@ -146,7 +146,7 @@ class Check:
             self.note(kind, name, use)
         return bool(uses)
 
-    def follow_calls(self, kind: Kind, name: str) -> bool:
+    def follow_calls(self, kind: CauseKind, name: str) -> bool:
         """Notes each call of a function. Returns whether there is one."""
         uses = [use for use in self.uses.words.get(name, []) if not is_token(use.before(), "fn") and use.is_call()]
         for use in uses:

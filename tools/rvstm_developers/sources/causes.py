@@ -4,26 +4,26 @@ import enum
 import re
 
 
-class Kind(enum.Enum):
+class CauseKind(enum.Enum):
     MEMORY = "memory"
     FILE = "file"
     THREAD = "thread"
 
 
 KINDS = {
-    "Memory": Kind.MEMORY, "OutOfMemory": Kind.MEMORY, "Unkept": Kind.MEMORY, "AllocError": Kind.MEMORY, "AllocFailed": Kind.MEMORY,
-    "Unreadable": Kind.FILE, "Unwritable": Kind.FILE, "Io": Kind.FILE, "WroteNothing": Kind.FILE, "Spawn": Kind.THREAD,
+    "Memory": CauseKind.MEMORY, "OutOfMemory": CauseKind.MEMORY, "Unkept": CauseKind.MEMORY, "AllocError": CauseKind.MEMORY, "AllocFailed": CauseKind.MEMORY,
+    "Unreadable": CauseKind.FILE, "Unwritable": CauseKind.FILE, "Io": CauseKind.FILE, "WroteNothing": CauseKind.FILE, "Spawn": CauseKind.THREAD,
 }
 NAMED = {
-    Kind.MEMORY: re.compile(r"\bAllocError\b|\bAllocFailed\b|:: (?:Memory|OutOfMemory|Unkept)\b|\bFailure\b|\bRoom \("),
-    Kind.FILE: re.compile(r"\bio :: Error\b|\bErrorKind\b|:: (?:Unreadable|Unwritable|Io|WroteNothing)\b"),
-    Kind.THREAD: re.compile(r"\bSpawnError\b|:: Spawn\b"),
+    CauseKind.MEMORY: re.compile(r"\bAllocError\b|\bAllocFailed\b|:: (?:Memory|OutOfMemory|Unkept)\b|\bFailure\b|\bRoom \("),
+    CauseKind.FILE: re.compile(r"\bio :: Error\b|\bErrorKind\b|:: (?:Unreadable|Unwritable|Io|WroteNothing)\b"),
+    CauseKind.THREAD: re.compile(r"\bSpawnError\b|:: Spawn\b"),
 }
 """Patterns and types that name a cause of a kind."""
 RESULTS = {
-    Kind.MEMORY: re.compile(r"Result < .*\b(?:AllocError|AllocFailed < .* >) >$"),
-    Kind.FILE: re.compile(r"^(?:io :: )?Result < .*io :: Error >$|^io :: Result <"),
-    Kind.THREAD: re.compile(r"Result < .*\bSpawnError >$"),
+    CauseKind.MEMORY: re.compile(r"Result < .*\b(?:AllocError|AllocFailed < .* >) >$"),
+    CauseKind.FILE: re.compile(r"^(?:io :: )?Result < .*io :: Error >$|^io :: Result <"),
+    CauseKind.THREAD: re.compile(r"Result < .*\bSpawnError >$"),
 }
 """Results of calls that fail for causes of a kind alone."""
 ALLOCATING = {
@@ -62,6 +62,6 @@ makes a cause: the calls after which it is called."""
 
 SIZE = re.compile(r":: try_from \(|\. checked_\w+ \(")  # calls that fail if a size does not fit a word of the machine
 NEVER = re.compile(r"$^")
-RULES = {Kind.MEMORY: NEVER, Kind.FILE: re.compile(r"\bstr :: from_utf8 \(|\. is_one_file \("), Kind.THREAD: NEVER}
+RULES = {CauseKind.MEMORY: NEVER, CauseKind.FILE: re.compile(r"\bstr :: from_utf8 \(|\. is_one_file \("), CauseKind.THREAD: NEVER}
 """Calls after which the rules name a cause of a kind."""
 CAUSE = re.compile(r"\w*(?:Fault|Refusal|Error|Failure|Answer)\b")  # types of causes

@@ -69,7 +69,7 @@ class Parameter(NamedTuple):
 
 
 @dataclass(frozen=True)
-class Function:
+class RattleFunction:
     owner: str | None
     name: str
     parameters: Sequence[Parameter]
@@ -87,7 +87,7 @@ class Function:
 
 class Uses:
     def __init__(self, folder: Path) -> None:
-        self.functions: defaultdict[str, list[Function]] = defaultdict(list)
+        self.functions: defaultdict[str, list[RattleFunction]] = defaultdict(list)
         self.words: defaultdict[str, list[Use]] = defaultdict(list)
         for path in sorted(folder.glob("*/src/**/*.rt")):
             if not is_test(path):
@@ -156,7 +156,7 @@ class Uses:
             parameters = parameters[1:]
         named = [parameter_of(parameter) for parameter in parameters]
         result = after[3:] if after.startswith("-> ") else ""
-        self.functions[name_item.text].append(Function(text_of(around, How.IMPL), name_item.text, named, result))
+        self.functions[name_item.text].append(RattleFunction(text_of(around, How.IMPL), name_item.text, named, result))
 
 
 def parameter_of(text: str) -> Parameter:

@@ -3,7 +3,7 @@ from collections.abc import Callable
 
 from rvstm_tools import options
 from rvstm_tools.debugging.gdb import Server
-from rvstm_tools.debugging.moments import Call
+from rvstm_tools.debugging.moments import DebuggedCall
 from rvstm_tools.debugging.packets import Wire
 from rvstm_tools.debugging.sessions import CallOf
 from rvstm_tools.errors import Status, UserError
@@ -53,9 +53,9 @@ def run(given: argparse.Namespace) -> int:
 
 
 def serve(program: Program, block: GivenBlock) -> None:
-    def open_call(hear: Callable[[], None]) -> Call:
+    def open_call(hear: Callable[[], None]) -> DebuggedCall:
         try:
-            return Call(CallOf(program.path, block.path, block.call, block.folder), block.view, hear)
+            return DebuggedCall(CallOf(program.path, block.path, block.call, block.folder), block.view, hear)
         except UserError as error:
             raise UserError(running.placed_refusal(program, block.path, str(error))) from error
 

@@ -10,7 +10,7 @@ from rvstm_tools.errors import Status, UserError
 from rvstm_tools.options import Command, argument
 from rvstm_tools.programs import compilers, finding
 from rvstm_tools.templates import folders
-from rvstm_tools.templates.folders import Language, Places
+from rvstm_tools.templates.folders import Language, TemplateNames
 
 LAUNCHER = "rvstm-tools"
 DETAILS = f"""\
@@ -44,7 +44,7 @@ def run(given: argparse.Namespace) -> int:
     name = finding.absolute(folder).name
     folders.check_name(name, language)
     sdk = finding.sdk()
-    make_files(folder, folders.files_of(language, Places(name, str(sdk), words_of_tools())))
+    make_files(folder, folders.files_of(language, TemplateNames(name, str(sdk), words_of_tools())))
     lack = compilers.lack(sdk, is_rust=given.rust)
     if lack:
         raise UserError(f"{folder} is made, and not built: {lack}; then run `make` in {folder}")
@@ -62,6 +62,7 @@ def words_of_tools() -> str:
 
 
 def make_files(folder: Path, files: dict[str, str]) -> None:
+    """Writes files by their paths in a folder, which is made, or is empty: a UserError otherwise."""
     folder.mkdir(parents=True, exist_ok=True)
     if any(folder.iterdir()):
         raise UserError(f"{folder}: it is there, and is not empty")
@@ -73,6 +74,7 @@ def make_files(folder: Path, files: dict[str, str]) -> None:
 
 
 def build(folder: Path, name: str) -> None:
+    """Makes the program and its lines by `make`. A UserError has its status."""
     words = ["make", "-s", f"{name}.elf", f"{name}.lines.elf"]
     environment = {key: value for key, value in os.environ.items() if key not in ("MAKEFLAGS", "MAKELEVEL")}
     done = subprocess.run(words, cwd=folder, env=environment, stdin=subprocess.DEVNULL, stdout=subprocess.DEVNULL, check=False)

@@ -117,6 +117,7 @@ class Release:
         return archives.gzip_of(archives.tar_of(placed, self.seconds))
 
     def files(self) -> dict[str, bytes]:
+        """The files of the release by their names, SHA256SUMS among them."""
         program, folder = self.products.built(Product.PROGRAM), f"rvstm-{self.version}"
         kit = checkouts.kit_of(self.products.path(Product.PROGRAM))
         noted = f"{self.products.sources(Product.PROGRAM)} {hashlib.sha256(program).hexdigest()}\n{kit}\n"

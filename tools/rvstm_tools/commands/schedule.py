@@ -43,6 +43,7 @@ def run(given: argparse.Namespace) -> int:
 
 
 def continuation(runner: Runner, block: str, workers: int, begun: str) -> Sequence[int]:
+    """The workers of the entries that have to follow a schedule, until all are done."""
     def refusal(added: Sequence[int]) -> str:
         with running.temporary_file(begun + schedules.text_of(added), ".schedule") as path:
             words = ["drive", block, "--workers", str(workers), "--schedule", path]

@@ -63,6 +63,7 @@ rvstm; then no test is run."""
 
 
 def percent(word: str) -> float:
+    """A number of at least 0, as argparse wants the type of an option."""
     try:
         number = float(word)
     except ValueError:

@@ -3,12 +3,11 @@ import os
 from pathlib import Path
 
 from rvstm_tools import options
-from rvstm_tools.debugging import traces
-from rvstm_tools.debugging.replays import Replay
+from rvstm_tools.debugging import charges, traces
+from rvstm_tools.debugging.replays import StorageReplay
 from rvstm_tools.debugging.sessions import CallOf
 from rvstm_tools.debugging.traces import Places
 from rvstm_tools.errors import Status, UserError
-from rvstm_tools.debugging import charges
 from rvstm_tools.options import Command, argument
 from rvstm_tools.pictures import flames
 from rvstm_tools.programs import finding, running
@@ -51,7 +50,7 @@ def trace(given: argparse.Namespace, program: Program, block: GivenBlock) -> Non
     view = block.view
     receipt = receipt_of(program, block)
     head = blockfiles.head_of_call(block.path, block.call)
-    replay = Replay(CallOf(program.path, block.path, block.call, block.folder), head.rules)
+    replay = StorageReplay(CallOf(program.path, block.path, block.call, block.folder), head.rules)
     replay.end_by(receipt, head.limit)
     places = Places(str(block.folder / head.program), given.lines, replay.addresses())
     title = f"call {given.call} of {os.path.basename(given.file)}"
@@ -68,6 +67,7 @@ def trace(given: argparse.Namespace, program: Program, block: GivenBlock) -> Non
 
 
 def receipt_of(program: Program, block: GivenBlock) -> Receipt:
+    """The receipt of the call by `rvstm seq`. A UserError if the block has no such call."""
     receipts = results.result_of(running.run_file(program, "seq", block.path, block.folder)).receipts
     if block.call not in range(len(receipts)):
         raise UserError(f"{block.path}: there is no call {block.call}; its {len(receipts)} calls count from 0")

@@ -43,6 +43,7 @@ class Ways(NamedTuple):
     false: int
 
     def both(self) -> tuple[int, int]:
+        """How often it held, and how often not."""
         return self.true, self.false
 
 
@@ -101,9 +102,11 @@ class SourceFile:
         return ((branch.line, ways) for branch, ways in sorted(self.branches.items()))
 
     def ran(self) -> set[int]:
+        """The numbers of the lines that ran, from 1."""
         return {line for line, count in self.lines.items() if count}
 
     def ways_taken(self) -> int:
+        """How many ways of all branches were taken."""
         return sum(bool(count) for ways in self.branches.values() for count in ways.both())
 
     def one_way(self) -> set[int]:
@@ -125,6 +128,7 @@ Copy = tuple[InChain, ...]  # a line of a function, in one of the places where t
 
 
 def lines_program(path: str, tool: str | None) -> ElfFile:
+    """The program with its lines beside another. A UserError if it is missing or of other code, or no tool is there."""
     beside = sources.lines_file_of(path)
     try:
         file = ElfFile(beside)

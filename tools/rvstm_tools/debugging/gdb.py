@@ -4,7 +4,7 @@ import enum
 from collections.abc import Callable, Sequence
 from typing import NamedTuple
 
-from rvstm_tools.debugging.moments import Call, Changes, Hits, InterruptedMove, Search, Stop, Watched, is_watchable
+from rvstm_tools.debugging.moments import DebuggedCall, Hits, InterruptedMove, MemorySearch, MomentSearch, Stop, Watched, is_watchable
 from rvstm_tools.debugging.packets import Wire
 from rvstm_tools.texts.results import End
 
@@ -64,6 +64,7 @@ class WrongPacketError(Exception):
 
 
 def number_of(word: str) -> int:
+    """A number in hex; -1 if it has too many digits. A WrongPacketError for another word."""
     try:
         return int(word, 16) if len(word) <= MOST_DIGITS and "_" not in word else -1
     except ValueError as error:
@@ -90,13 +91,13 @@ class Breakpoint(NamedTuple):
 
 
 class Server:
-    def __init__(self, wire: Wire, open_call: Callable[[Callable[[], None]], Call]) -> None:
+    def __init__(self, wire: Wire, open_call: Callable[[Callable[[], None]], DebuggedCall]) -> None:
         """`open_call` opens the call. It is handed what has to be asked often, and stops a move."""
         self.wire = wire
         self.open_call = open_call
-        self.opened: Call | None = None
+        self.opened: DebuggedCall | None = None
         self.breakpoints: dict[Breakpoint, Hits] = {}
-        self.watches: dict[Watched, Changes] = {}
+        self.watches: dict[Watched, MemorySearch] = {}
         self.stopped = TRAPPED
         self.answers: dict[str, Callable[[str], str]] = {
             "?": lambda _: self.stop(self.stopped), "g": self.all_registers, "p": self.register, "m": self.memory,
@@ -106,7 +107,7 @@ class Server:
         }
 
     @property
-    def call(self) -> Call:
+    def call(self) -> DebuggedCall:
         """The call. gdb wants an answer to its first packets in two seconds, and the calls before this one may last longer; so
         the call is opened when it is first asked for."""
         if self.opened is None:
@@ -216,7 +217,7 @@ class Server:
             self.breakpoints[Breakpoint(kind, address)] = self.call.hits_of(address)
         return "OK"
 
-    def searches(self) -> list[Search]:
+    def searches(self) -> list[MomentSearch]:
         """What stops a move: if two do at the same moment, the watchpoint is reported."""
         return [*self.watches.values(), *self.breakpoints.values()]
 
@@ -230,7 +231,7 @@ class Server:
 
     def stop_for(self, found: Stop, at_edge: Callable[[], str]) -> str:
         """The stop for what a move found; None is an end of the call."""
-        if isinstance(found, Changes):
+        if isinstance(found, MemorySearch):
             return self.stop(f"{TRAPPED}watch:{found.start:x};")
         return at_edge() if found is None else self.stop(TRAPPED)
 
@@ -255,6 +256,7 @@ class Server:
 
 
 def words_of_hex(text: str) -> list[str]:
+    """At most two words of a text in hex. A WrongPacketError for other letters."""
     try:
         return bytes.fromhex(text).decode(errors="replace").strip().split(None, 1)
     except ValueError as error:

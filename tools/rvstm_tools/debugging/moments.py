@@ -13,10 +13,10 @@ from typing import NamedTuple
 
 from rvstm_tools import errors
 from rvstm_tools.debugging import coverage, replays, sources
+from rvstm_tools.debugging.charges import StorageCall
 from rvstm_tools.debugging.sessions import LINES_AT_ONCE, MOST_BYTES, REFUSED, CallOf, Debugger, place_of
 from rvstm_tools.debugging.sources import Chains
 from rvstm_tools.errors import UserError
-from rvstm_tools.debugging.charges import StorageCall
 from rvstm_tools.programs.elf import ElfFile
 from rvstm_tools.programs.running import Program
 from rvstm_tools.texts import blockfiles, shown, words
@@ -66,16 +66,17 @@ class AnyMoment(Debugger):
             self.take(self.answer_bytes(f"t {moment}"))
 
     def bytes_at(self, address: int, length: int) -> bytes:
+        """Bytes of memory; those outside of it are left out."""
         starts = range(address, address + length, MOST_BYTES)
         return b"".join(self.memory(start, min(MOST_BYTES, address + length - start)) or b"" for start in starts)
 
 
-class Search:
+class MomentSearch:
     """The moments that a line of `debug` leads to, one after another, as far as they were looked for."""
 
     address: int | None = None  # the address that the pc has there, if the search is for one
 
-    def __init__(self, call: "Call", line: str) -> None:
+    def __init__(self, call: "DebuggedCall", line: str) -> None:
         self.call = call
         self.line = line
         self.place: AnyMoment | None = None  # the session that was asked, and whose answers are not read yet
@@ -154,26 +155,28 @@ class Search:
         return self.before(moment)
 
 
-class Hits(Search):
-    def __init__(self, call: "Call", address: int) -> None:
+class Hits(MomentSearch):
+    def __init__(self, call: "DebuggedCall", address: int) -> None:
         super().__init__(call, f"g {address:08x}")
         self.address = address
 
     def up_to(self, moment: int) -> list[int]:
+        """The moments of hits up to one, which is included, in their order."""
         if self.first:
             self.begin(0)
         self.look(moment)
         return self.moments[: bisect_right(self.moments, moment)]
 
 
-class Changes(Search):
+class MemorySearch(MomentSearch):
     """The moments at which some bytes of memory are others than at the moment before."""
 
-    def __init__(self, call: "Call", start: int, length: int) -> None:
+    def __init__(self, call: "DebuggedCall", start: int, length: int) -> None:
         super().__init__(call, f"c {start:08x} {length}")
         self.start = start
 
     def back(self, moment: int) -> int:
+        """The moment before the last change up to one, which is included; -2 if there is none."""
         return self.before(moment + 1) - 1
 
 
@@ -182,7 +185,7 @@ class Edge:
 
 
 RANGE_LEFT, NO_STOP = Edge(), Edge()
-Stop = Search | Edge | None
+Stop = MomentSearch | Edge | None
 """What a move found: a search, `RANGE_LEFT`, `NO_STOP` if a step was made and nothing stops it, or None at an end of the call."""
 
 
@@ -191,7 +194,7 @@ class Watched(NamedTuple):
     length: int
 
 
-class State(NamedTuple):
+class MomentRow(NamedTuple):
     moment: int
     registers: list[int]
     pc: int
@@ -199,7 +202,7 @@ class State(NamedTuple):
 
 class Met(NamedTuple):
     moment: int
-    search: Search | None
+    search: MomentSearch | None
 
 
 @dataclass(frozen=True)
@@ -218,7 +221,7 @@ def end_of(answer: str) -> EndOfCall:
         raise UserError(f"rvstm debug answered {answer!r} in place of an end; please report it") from error
 
 
-class Call:
+class DebuggedCall:
     def __init__(self, subject: CallOf, view: View, hear: Callable[[], None]) -> None:
         """`hear` is asked often, and raises `InterruptedMove` if the user asks to stop."""
         self.subject = subject
@@ -227,11 +230,11 @@ class Call:
         self.idle: list[AnyMoment] = []
         self.opened: list[AnyMoment] = []
         self.hits: dict[int, Hits] = {}
-        self.changes: dict[Watched, Changes] = {}
+        self.changes: dict[Watched, MemorySearch] = {}
         self.end = end_of(self.here_at(0).answer("e"))
         self.now = 0
         self.last = self.end.steps - 1  # the last instruction changes nothing, so the moment after it is not shown
-        self.seen: State | None = None
+        self.seen: MomentRow | None = None
 
     def close(self) -> None:
         for place in self.opened:
@@ -254,10 +257,10 @@ class Call:
         place.go(moment)
         return place
 
-    def state(self) -> State:
+    def state(self) -> MomentRow:
         if self.seen is None or self.seen.moment != self.now:
             place = self.here_at(self.now)
-            self.seen = State(self.now, place.registers(), place.pc)
+            self.seen = MomentRow(self.now, place.registers(), place.pc)
         return self.seen
 
     def memory(self, address: int, length: int) -> bytes:
@@ -272,14 +275,14 @@ class Call:
             self.hits[address] = Hits(self, address)
         return self.hits[address]
 
-    def changes_of(self, watched: Watched) -> Changes:
+    def changes_of(self, watched: Watched) -> MemorySearch:
         if watched not in self.changes:
-            self.changes[watched] = Changes(self, *watched)
+            self.changes[watched] = MemorySearch(self, *watched)
         return self.changes[watched]
 
     # ---- moves
 
-    def step(self, watches: Sequence[Search]) -> Stop:
+    def step(self, watches: Sequence[MomentSearch]) -> Stop:
         """Goes to the next moment. Returns a watch that has it."""
         if self.now == self.last:
             return None
@@ -287,14 +290,14 @@ class Call:
         self.now += 1
         return watch if moment == self.now else NO_STOP
 
-    def step_back(self, watches: Sequence[Search]) -> Stop:
+    def step_back(self, watches: Sequence[MomentSearch]) -> Stop:
         """Goes to the moment before. Returns a watch that is met on the way there."""
         if self.now == 0:
             return None
         self.now -= 1
         return next((watch for watch in watches if watch.back(self.now + 1) == self.now), NO_STOP)
 
-    def next_of(self, searches: Sequence[Search]) -> Met:
+    def next_of(self, searches: Sequence[MomentSearch]) -> Met:
         """The first moment after this one that one of some searches has; NEVER if none has one."""
         for search in searches:
             search.prepare(self.now)
@@ -302,20 +305,20 @@ class Call:
         first = min(met, key=lambda one: one.moment, default=Met(NEVER, None))
         return first if first.moment < NEVER else Met(NEVER, None)
 
-    def go_on(self, searches: Sequence[Search]) -> Stop:
+    def go_on(self, searches: Sequence[MomentSearch]) -> Stop:
         """Goes to the next moment that one of some searches has, or to the last one. Returns the search that has it."""
         stop, search = self.next_of(searches)
         self.now = min(stop, self.last)
         return search
 
-    def go_back(self, searches: Sequence[Search]) -> Stop:
+    def go_back(self, searches: Sequence[MomentSearch]) -> Stop:
         """Goes back to the last moment before that one of some searches has, or to the first one. Returns that search."""
         met = [Met(search.back(self.now), search) for search in searches]
         last = max(met, key=lambda one: one.moment, default=Met(-1, None))
         self.now = max(last.moment, 0)
         return last.search if last.moment >= 0 else None
 
-    def leave(self, begin: int, end: int, searches: Sequence[Search]) -> Stop:
+    def leave(self, begin: int, end: int, searches: Sequence[MomentSearch]) -> Stop:
         """Makes steps until the pc leaves a range or a search has the moment."""
         stop, search = self.next_of(searches)
         first, count, has_left = self.now, 1, False
@@ -378,6 +381,7 @@ class Call:
         return "".join(f"{address:08x}\n" for address in places) or f"{line}: no code is of this line\n"
 
     def ecalls(self) -> list[int]:
+        """The addresses of all ECALLs of the program. A UserError if rvstm refuses it."""
         path = blockfiles.head_of_call(self.subject.file, self.subject.number).program
         printed = Program(self.subject.program).run(["dis", path], self.subject.folder)
         if printed.refusal:

@@ -91,4 +91,5 @@ class Wire:
 
 
 def checksum_of(body: bytes) -> bytes:
+    """Two digits in hex."""
     return b"%02x" % (sum(body) % 256)

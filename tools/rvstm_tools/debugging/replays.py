@@ -7,10 +7,10 @@ from collections import defaultdict
 from dataclasses import dataclass, field
 from typing import NamedTuple
 
-from rvstm_tools.debugging.sessions import LINES_AT_ONCE, CallOf, Debugger
-from rvstm_tools.errors import UserError
 from rvstm_tools.debugging import charges
 from rvstm_tools.debugging.charges import StorageCall
+from rvstm_tools.debugging.sessions import LINES_AT_ONCE, CallOf, Debugger
+from rvstm_tools.errors import UserError
 from rvstm_tools.texts import shown
 from rvstm_tools.texts.keys import KEY_LENGTH, Key
 from rvstm_tools.texts.results import End, Receipt
@@ -158,7 +158,7 @@ class Fact(NamedTuple):
     turn: Turn
 
 
-class Replay:
+class StorageReplay:
     def __init__(self, call: CallOf, rules: int) -> None:
         self.rules = rules
         self.gas = 0

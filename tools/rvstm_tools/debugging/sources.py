@@ -31,6 +31,7 @@ Chains = dict[int, list[Inlined]]  # of addresses the functions that are there, 
 
 
 def address_tool() -> str | None:
+    """The path of an addr2line; None if the machine has none."""
     return next(filter(None, map(shutil.which, ADDRESS_TOOLS)), None)
 
 
@@ -90,6 +91,7 @@ def short_place(line: str) -> str:
 
 
 def source_line(line: str) -> SourceLine | None:
+    """The file, by its whole path, and the line; None if either is unknown."""
     path, _, number = without_discriminator(line).rpartition(":")
     is_known = path and path != UNKNOWN and number.isdecimal() and int(number)
     return SourceLine(os.path.realpath(path), int(number)) if is_known else None

@@ -5,10 +5,9 @@ import sys
 from collections.abc import Iterator, Sequence
 
 from rvstm_tools import errors
-from rvstm_tools.debugging import sources
-from rvstm_tools.debugging.replays import ECALL, Frame, Replay
+from rvstm_tools.debugging import charges, sources
+from rvstm_tools.debugging.replays import ECALL, Frame, StorageReplay
 from rvstm_tools.debugging.sources import Inlined
-from rvstm_tools.debugging import charges
 from rvstm_tools.pictures import flames
 from rvstm_tools.pictures.flames import Bar
 from rvstm_tools.programs.elf import ElfFile
@@ -50,7 +49,7 @@ def report(text: str) -> None:
     print(f"trace: {errors.printable(text)}", file=sys.stderr)
 
 
-def bars_of(replay: Replay, places: Places, title: str) -> Bar:
+def bars_of(replay: StorageReplay, places: Places, title: str) -> Bar:
     """The gas of all instructions and storage calls by the functions that they are in."""
     root = Bar(title)
     bars: dict[Frame, Bar] = {}
@@ -81,7 +80,7 @@ def chain_text(chain: Sequence[Inlined]) -> str:
     return " > ".join(words)
 
 
-def storage_lines(replay: Replay, places: Places, receipt: Receipt, view: View) -> Iterator[str]:
+def storage_lines(replay: StorageReplay, places: Places, receipt: Receipt, view: View) -> Iterator[str]:
     if not replay.storage_calls:
         yield "no storage calls"
         return
@@ -94,7 +93,7 @@ def storage_lines(replay: Replay, places: Places, receipt: Receipt, view: View) 
         yield f"{'':41}{chain_text(places.chain(call.frame, call.pc))}"
 
 
-def end_lines(replay: Replay, places: Places, receipt: Receipt) -> Iterator[str]:
+def end_lines(replay: StorageReplay, places: Places, receipt: Receipt) -> Iterator[str]:
     """The instruction that ended the call, if it is not a storage call."""
     if replay.last.text != ECALL:
         chain = chain_text(places.chain(replay.last_frame, replay.last.pc))

@@ -48,6 +48,7 @@ class Name(Data):
     __eq__ = Data.__eq__  # which would be lost beside another hash
 
     def bytes_of(self, text: str) -> bytes:
+        """The bytes that a text says. A MistakeError if it says none, or more or fewer than this has."""
         is_key = len(self) == keys.KEY_LENGTH
         what = "key" if is_key else "account"
         try:

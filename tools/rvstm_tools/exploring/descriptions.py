@@ -13,7 +13,7 @@ from rvstm_tools.errors import UserError
 from rvstm_tools.exploring import expressions, places, storages
 from rvstm_tools.exploring.expressions import MODEL, OF_BEFORE, OF_CALLS, OF_STORAGE, Rule
 from rvstm_tools.exploring.models import ModelClass
-from rvstm_tools.exploring.places import Numbers, Place, Value, Words
+from rvstm_tools.exploring.places import NumberSpans, Place, Value, Words
 from rvstm_tools.texts import blocks, lists, words
 from rvstm_tools.texts.keys import Key
 from rvstm_tools.texts.lists import BlockReader, Line
@@ -47,9 +47,10 @@ class Time:
     key: Key
     bits: int
     first: int
-    steps: Numbers
+    steps: NumberSpans
 
     def drawn(self, random: Random) -> int:
+        """The seconds that pass."""
         step = self.steps.drawn(random, [])
         assert isinstance(step, int)
         return step
@@ -60,6 +61,7 @@ class Time:
         return ends + [less for less in self.steps.simpler(step) if isinstance(less, int)]
 
     def after(self, time: int, step: int) -> int:
+        """The value after it; at most the greatest of its bits."""
         return min(time + step, (1 << self.bits) - 1)
 
     def store_words(self, time: int) -> list[str]:
@@ -67,7 +69,7 @@ class Time:
 
 
 @dataclass
-class Kind:
+class CallLineKind:
     """A line `call`: its number and text, the program, the gas, and the words of the input with places in them."""
 
     line: int
@@ -107,7 +109,7 @@ class Description:
         self.lets: dict[str, Rule] = {}
         self.always: list[Rule] = []
         self.at_end: list[Rule] = []
-        self.kinds: list[Kind] = []
+        self.kinds: list[CallLineKind] = []
         self.stores: list[str] = []  # the lines `store`
         self.shapes: list[str] = []  # the lines `shape`
         self.dump: str | None = None  # the file of the storage that they are put over
@@ -208,7 +210,7 @@ class Description:
         rules.append(Rule(when, number, text, self._code_of(text, known)))
         expressions.check_constant(text)
 
-    def _last_kind(self, word: str) -> Kind:
+    def _last_kind(self, word: str) -> CallLineKind:
         if not self.kinds or self.is_over:
             raise UserError(f"{word}: no call is above it; `always` holds after each call")
         return self.kinds[-1]
@@ -223,7 +225,7 @@ class Description:
         for word in forms:
             if BRACES.search(ANY_PLACE.sub("", word)):
                 raise UserError(f"{word}: a place is {{NAME}} or {{OTHER=NAME}}")
-        kind = Kind(line.number, text.partition(" #")[0].rstrip(), program, gas, forms, named)
+        kind = CallLineKind(line.number, text.partition(" #")[0].rstrip(), program, gas, forms, named)
         kind.check()
         self.kinds.append(kind)
 
@@ -264,7 +266,7 @@ class Description:
     def _take_time(self, line: Line) -> None:
         found = FIRST_TIME.fullmatch(line.words[2]) if len(line.words) > 3 else None
         steps = places.place_of("time", line.words[3:]) if found else None
-        if not found or not isinstance(steps, Numbers) or self.time or self.kinds:
+        if not found or not isinstance(steps, NumberSpans) or self.time or self.kinds:
             raise UserError(WRONG_TIME)
         word, first = line.words[1:3]
         self.time = Time(word, words.key_of(word), int(found[1]), int.from_bytes(words.bytes_of(first), "little"), steps)

@@ -10,8 +10,8 @@ from rvstm_tools.exploring import foundlists
 from rvstm_tools.exploring import saved as saving
 from rvstm_tools.exploring.descriptions import Description
 from rvstm_tools.exploring.folders import Folder
-from rvstm_tools.exploring.progress import Progress
-from rvstm_tools.exploring.runs import Finding, Run
+from rvstm_tools.exploring.progress import ProgressLine
+from rvstm_tools.exploring.runs import Finding, SequenceRun
 from rvstm_tools.exploring.searches import Found, Limits, Search
 from rvstm_tools.exploring.shortening import Shorter
 
@@ -36,7 +36,7 @@ class Exploration:
         self.limits = plan.limits
         self.folder = plan.folder
         self.out = plan.out or (plan.folder.found_list if plan.folder else None)
-        self.progress = Progress(plan.rvstm, plan.description)
+        self.progress = ProgressLine(plan.rvstm, plan.description)
         self.next = 0
 
     def explore(self) -> Status:
@@ -45,7 +45,7 @@ class Exploration:
         if self.folder:
             self.next = self.folder.first(earlier)
             self.limits = dataclasses.replace(self.limits, first=self.next)
-        with Run(self.plan.rvstm, self.description) as run:
+        with SequenceRun(self.plan.rvstm, self.description) as run:
             if earlier and earlier.found is not None:
                 finding = run.finding_of(saving.restored(self.description, earlier.found))
                 if finding:
@@ -85,13 +85,13 @@ class Exploration:
         made, at = self.limits.place_of(found.sequence, found.broken.at), found.broken.at
         place = f"call {made} of all, call {at} of sequence {found.sequence}" if found.calls else "the storage before any call"
         print(f"broken by {place}: {found.broken.text}", flush=True)
-        with Run(self.plan.rvstm, self.description) as run:
+        with SequenceRun(self.plan.rvstm, self.description) as run:
             finding = run.finding_of(saving.restored(self.description, found.calls))
             if finding is None:
                 raise UserError("the same calls break nothing the second time: an expression depends on something other than them")
             return self._shorten(run, finding)
 
-    def _shorten(self, run: Run, finding: Finding) -> Status:
+    def _shorten(self, run: SequenceRun, finding: Finding) -> Status:
         """Writes a finding, shortens it, and writes or prints what is left."""
         self._write(run, finding)
         seconds = self.limits.seconds or SECONDS_TO_SHORTEN
@@ -112,11 +112,11 @@ class Exploration:
         if self.folder:
             self.folder.keep(self.limits, self.next, found.calls if found else None)
 
-    def _write(self, run: Run, finding: Finding) -> None:
+    def _write(self, run: SequenceRun, finding: Finding) -> None:
         if self.out is not None:
             self.out.write_text(self._text(run, finding), encoding="utf-8")
 
-    def _text(self, run: Run, finding: Finding) -> str:
+    def _text(self, run: SequenceRun, finding: Finding) -> str:
         view = foundlists.view_of(self.description, run.storage, finding)
         folder = Path(self.out or self.description.path).absolute().parent
         lines = foundlists.list_lines(self.description, view, finding, self.limits, folder)

@@ -15,7 +15,7 @@ MOST_SEQUENCES = 1 << 63
 
 
 @dataclass(frozen=True)
-class State:
+class FolderState:
     description: str  # the SHA-256 of its text
     programs: str  # the SHA-256 of the files
     seed: int
@@ -41,7 +41,7 @@ class Folder:
     def found_list(self) -> Path:
         return self.path / LIST
 
-    def earlier(self, limits: Limits) -> State | None:
+    def earlier(self, limits: Limits) -> FolderState | None:
         """What an earlier run left. It is refused if that drew other sequences."""
         path = self.path / STATE
         if not path.exists():
@@ -51,18 +51,19 @@ class Folder:
             raise UserError(f"{path}: the run there has another description, seed or length: name another folder")
         return state
 
-    def first(self, state: State | None) -> int:
+    def first(self, state: FolderState | None) -> int:
         """The number of the sequence to go on with: the first one if a program is another one now."""
         return state.next if state and state.programs == self.programs else 0
 
     def keep(self, limits: Limits, following: int, found: list[SavedCall] | None) -> None:
-        state = State(self.description, self.programs, limits.seed, limits.length, following, found)
+        state = FolderState(self.description, self.programs, limits.seed, limits.length, following, found)
         new = self.path / f"{STATE}.new"
         new.write_text(json.dumps(asdict(state), indent=1) + "\n", encoding="utf-8")
         new.replace(self.path / STATE)
 
 
 def saved_call_of(line: object, values: dict[str, object], step: object = None) -> SavedCall:
+    """A call of a saved finding. A TypeError for other objects."""
     if type(line) is not int or not all(isinstance(word, str) for word in values.values()):
         raise TypeError("not a line and words")
     if step is not None and (type(step) is not int or step < 0):
@@ -70,11 +71,11 @@ def saved_call_of(line: object, values: dict[str, object], step: object = None) 
     return SavedCall(line, {name: f"{word}" for name, word in values.items()}, step)
 
 
-def state_of(path: Path) -> State:
+def state_of(path: Path) -> FolderState:
     try:
         fields = json.loads(path.read_bytes())
         found = fields.pop("found")
-        state = State(**fields, found=None if found is None else [saved_call_of(**call) for call in found])
+        state = FolderState(**fields, found=None if found is None else [saved_call_of(**call) for call in found])
         if type(state.next) is not int or not 0 <= state.next <= MOST_SEQUENCES:
             raise ValueError("not the number of a sequence")
         return state

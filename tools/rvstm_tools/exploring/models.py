@@ -51,6 +51,7 @@ def mistakes_of(path: Path, what: str = "") -> Iterator[None]:
 
 
 def module_of(path: Path) -> ModuleType:
+    """The module of a file, which is run. A UserError if it is no file of Python."""
     path.read_bytes()  # so that a file that is missing is reported by its name
     spec = importlib.util.spec_from_file_location(MODULE, path)
     if spec is None or spec.loader is None:

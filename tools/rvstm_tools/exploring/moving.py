@@ -9,8 +9,8 @@ from dataclasses import replace
 from typing import NamedTuple
 
 from rvstm_tools.exploring import runs, storages
-from rvstm_tools.exploring.places import DISTANCES, Numbers, Value
-from rvstm_tools.exploring.runs import Call, Finding, Run
+from rvstm_tools.exploring.places import DISTANCES, NumberSpans, Value
+from rvstm_tools.exploring.runs import DrawnCall, Finding, SequenceRun
 from rvstm_tools.texts import words
 from rvstm_tools.texts.keys import Key
 from rvstm_tools.texts.results import End, Receipt
@@ -25,7 +25,7 @@ Source = Key | OutputOf  # where a number comes from
 FromSources = dict[Source, int]  # the numbers that a sequence changed or returned so far, those of the last call first
 
 
-def add(numbers: FromSources, at: int, outcome: Receipt, run: Run) -> FromSources:
+def add(numbers: FromSources, at: int, outcome: Receipt, run: SequenceRun) -> FromSources:
     """The numbers after a call. Of a run it has to be the last call."""
     found: FromSources = {}
     if outcome.end is End.RETURNED and len(outcome.output) in words.NUMBER_SIZES:
@@ -38,15 +38,15 @@ def add(numbers: FromSources, at: int, outcome: Receipt, run: Run) -> FromSource
 
 
 class Moving:
-    def __init__(self, run: Run, finding: Finding) -> None:
+    def __init__(self, run: SequenceRun, finding: Finding) -> None:
         self.run = run
         self.calls = finding.calls
 
-    def without(self, left_out: int) -> Sequence[Call] | None:
+    def without(self, left_out: int) -> Sequence[DrawnCall] | None:
         """The calls without one, if a number after it is moved. They are run one by one to see what the storage has then."""
         before = self._numbers()
         kept = [at for at in range(len(self.calls)) if at != left_out]
-        made: list[Call] = []
+        made: list[DrawnCall] = []
         numbers: FromSources = {}
         is_broken = bool(self.run.begin())
         for at, call in zip(kept, runs.left(self.calls, kept), strict=True):
@@ -68,10 +68,10 @@ class Moving:
             numbers = add(numbers, at, self.run.outcomes[-1], self.run)
         return found
 
-    def _moved_value(self, call: Call, name: str, before: FromSources, now: FromSources) -> Value:
+    def _moved_value(self, call: DrawnCall, name: str, before: FromSources, now: FromSources) -> Value:
         """A value of a call; of a number the one that is as far from those now as it was from those before."""
         value, place = call.values[name], call.kind.places[name]
-        if not isinstance(value, int) or not isinstance(place, Numbers):
+        if not isinstance(value, int) or not isinstance(place, NumberSpans):
             return value
         for source, number in before.items():
             distance = value - number

@@ -52,7 +52,7 @@ class Words:
 
 
 @dataclass(frozen=True)
-class Numbers:
+class NumberSpans:
     spans: tuple[Span, ...]
 
     def has(self, number: int) -> bool:
@@ -103,10 +103,11 @@ class AnyBytes:
         return [DrawnBytes(data) for data in [*shorter, bytes(len(value)), *zeros] if data != value]
 
 
-Place = Words | Numbers | AnyBytes
+Place = Words | NumberSpans | AnyBytes
 
 
 def span_of(found: re.Match[str], most: int) -> Span:
+    """The numbers FIRST..LAST. A UserError above the most, or if the first is above the last."""
     ends = [numbers.at_most(digits, most) for digits in (found[1], found[2] or found[1])]
     first, last = ends
     if first is None or last is None:
@@ -133,7 +134,7 @@ def place_of(name: str, words: Sequence[str]) -> Place:
         return AnyBytes(span_of(of_bytes, MOST_BYTES))
     ranges = [found for found in map(RANGE.fullmatch, words) if found]
     if len(ranges) == len(words):
-        return Numbers(tuple(span_of(found, MOST) for found in ranges))
+        return NumberSpans(tuple(span_of(found, MOST) for found in ranges))
     if ranges or any(map(BYTES.fullmatch, words)):
         raise UserError("draw: only words follow the name, or only numbers, or one bytes:FIRST..LAST")
     return Words(tuple(words))

@@ -17,7 +17,7 @@ EACH = 0.2  # seconds
 LEAST_REPLAYING = 2.0  # seconds that replays may last after a search
 
 
-class Progress:
+class ProgressLine:
     """Writes the line again and again. Nothing is written if the output is no terminal."""
 
     def __init__(self, rvstm: Path, description: Description, output: TextIO | None = None) -> None:

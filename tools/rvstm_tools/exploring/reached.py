@@ -14,7 +14,7 @@ from rvstm_tools.debugging.sessions import CallOf
 from rvstm_tools.debugging.sources import SourceLine
 from rvstm_tools.errors import UserError
 from rvstm_tools.exploring.descriptions import Description
-from rvstm_tools.exploring.runs import Call, Run
+from rvstm_tools.exploring.runs import DrawnCall, SequenceRun
 from rvstm_tools.programs import finding, running
 from rvstm_tools.programs.elf import ElfFile
 from rvstm_tools.texts import blocks
@@ -47,14 +47,14 @@ class Sample:
 class Sampler:
     """Takes a sample of each way in which calls of a run end; of no run none."""
 
-    def __init__(self, run: Run | None) -> None:
+    def __init__(self, run: SequenceRun | None) -> None:
         self.run = run
         self.ways: set[Way] = set()
         self.samples: list[Sample] = []
         if run:
             run.watch = self.see
 
-    def see(self, call: Call, outcome: Receipt) -> None:
+    def see(self, call: DrawnCall, outcome: Receipt) -> None:
         assert self.run
         way = Way(call.kind.line, outcome.end, outcome.pc, outcome.gas)
         if way in self.ways or len(self.ways) >= MOST_WAYS or len(self.run.storage.data) > MOST_KEYS:

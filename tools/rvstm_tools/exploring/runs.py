@@ -11,7 +11,7 @@ from typing import NamedTuple, Self
 from rvstm_tools.errors import UserError
 from rvstm_tools.exploring import expressions, storages
 from rvstm_tools.exploring.comparing import Data
-from rvstm_tools.exploring.descriptions import Description, Kind
+from rvstm_tools.exploring.descriptions import CallLineKind, Description
 from rvstm_tools.exploring.expressions import MODEL, Names, Raised, Rule
 from rvstm_tools.exploring.models import Model
 from rvstm_tools.exploring.places import Value
@@ -28,10 +28,10 @@ MOST_SEEN = 64  # numbers of the storage and of outputs that are kept to draw fr
 
 
 @dataclass
-class Call:
+class DrawnCall:
     """A call. If time passes before it, it begins the next block."""
 
-    kind: Kind
+    kind: CallLineKind
     values: dict[str, Value]
     step: int | None = None  # how much time passes before it
 
@@ -62,17 +62,17 @@ class Counted(NamedTuple):
 
 @dataclass(frozen=True)
 class Finding:
-    calls: Sequence[Call]
+    calls: Sequence[DrawnCall]
     outcomes: Sequence[Receipt]
     broken: Broken
 
 
-def drawn_call(random: Random, kinds: Sequence[Kind], seen: Sequence[int]) -> Call:
+def drawn_call(random: Random, kinds: Sequence[CallLineKind], seen: Sequence[int]) -> DrawnCall:
     kind = kinds[random.randrange(len(kinds))]
-    return Call(kind, {name: place.drawn(random, seen) for name, place in kind.places.items()})
+    return DrawnCall(kind, {name: place.drawn(random, seen) for name, place in kind.places.items()})
 
 
-def left(calls: Sequence[Call], kept: Iterable[int]) -> list[Call]:
+def left(calls: Sequence[DrawnCall], kept: Iterable[int]) -> list[DrawnCall]:
     """Some of the calls. The time that passes before one that is left out passes before the next one."""
     found, at = [], 0
     for number in kept:
@@ -82,9 +82,9 @@ def left(calls: Sequence[Call], kept: Iterable[int]) -> list[Call]:
     return found
 
 
-def blocks_of(calls: Iterable[Call]) -> Iterator[list[Call]]:
+def blocks_of(calls: Iterable[DrawnCall]) -> Iterator[list[DrawnCall]]:
     """The calls by their blocks, of which no frame has too many calls."""
-    block: list[Call] = []
+    block: list[DrawnCall] = []
     for call in calls:
         if block and (call.step is not None or len(block) == blocks.MOST_CALLS):
             yield block
@@ -94,7 +94,7 @@ def blocks_of(calls: Iterable[Call]) -> Iterator[list[Call]]:
         yield block
 
 
-class Run:
+class SequenceRun:
     def __init__(self, rvstm: Path, description: Description) -> None:
         self.rvstm = rvstm
         self.description = description
@@ -105,7 +105,7 @@ class Run:
         self.outcomes: list[Receipt] = []  # of the sequence
         self.seen = collections.deque[int](maxlen=MOST_SEEN)
         self.model: Model | None = None
-        self.watch: Callable[[Call, Receipt], None] | None = None  # what sees each call that was made
+        self.watch: Callable[[DrawnCall, Receipt], None] | None = None  # what sees each call that was made
         self.numbers = {name: number for number, name in enumerate(description.programs)}
         for text in description.stores:
             self.storage.new_key(words.words_of(text)[1])
@@ -161,7 +161,7 @@ class Run:
         self._keep_lets()
         return broken or self._first_broken(self.description.always) or self._broken_invariant()
 
-    def go_on(self, calls: Sequence[Call]) -> Broken | None:
+    def go_on(self, calls: Sequence[DrawnCall]) -> Broken | None:
         """Runs calls as one block. Returns what the first one breaks that breaks something."""
         broken = self._pass_time(calls[0].step)
         if broken:
@@ -195,7 +195,7 @@ class Run:
         self.done = max(0, self.done - 1)
         return self._first_broken(self.description.at_end)
 
-    def finding_of(self, calls: Sequence[Call]) -> Finding | None:
+    def finding_of(self, calls: Sequence[DrawnCall]) -> Finding | None:
         """What a whole sequence breaks, with the calls up to the one that does."""
         broken = self.begin()
         for block in blocks_of(calls):
@@ -204,7 +204,7 @@ class Run:
             broken = self.end()
         return Finding(list(calls[: broken.at + 1]), self.outcomes[: broken.at + 1], broken) if broken else None
 
-    def _line_of(self, call: Call) -> str:
+    def _line_of(self, call: DrawnCall) -> str:
         data = blocks.field_of(call.kind.data(call.values))
         return f"call {self.numbers[call.kind.program]} {call.kind.gas} {data}\n"
 
@@ -220,7 +220,7 @@ class Run:
     def _keep_lets(self) -> None:
         self.before.__dict__.update({name: self.names[name] for name in self.description.lets})
 
-    def _after(self, call: Call, outcome: Receipt) -> Broken | None:
+    def _after(self, call: DrawnCall, outcome: Receipt) -> Broken | None:
         """Takes over what a call did, and checks what has to hold after it."""
         end, kind = outcome.end, call.kind
         self.counts[Counted(kind.line, end, outcome.output if end is End.REVERTED else b"")] += 1
@@ -243,7 +243,7 @@ class Run:
         rules = [rule for rule in kind.rules if rule.when in ("holds", end)]
         return self._first_broken(self.description.always + rules) or self._broken_invariant()
 
-    def _other_answer(self, call: Call, outcome: Receipt) -> Broken | None:
+    def _other_answer(self, call: DrawnCall, outcome: Receipt) -> Broken | None:
         method = call.kind.method
         if not self.model or not method or outcome.end not in ENDS_WITH_OUTPUT:
             return None

@@ -20,7 +20,7 @@ from rvstm_tools.exploring import runs
 from rvstm_tools.exploring import saved as saving
 from rvstm_tools.exploring.descriptions import Description
 from rvstm_tools.exploring.reached import Sample, Sampler
-from rvstm_tools.exploring.runs import Broken, Call, Counted, Run
+from rvstm_tools.exploring.runs import Broken, Counted, DrawnCall, SequenceRun
 from rvstm_tools.exploring.saved import SavedCall
 
 LENGTH = 100  # calls of a sequence, if no other number is asked for
@@ -77,12 +77,12 @@ class Refused:
 
 
 class Sequence:
-    def __init__(self, run: Run, limits: Limits, number: int) -> None:
+    def __init__(self, run: SequenceRun, limits: Limits, number: int) -> None:
         self.run = run
         self.number = number
         self.most = limits.length_of(number)
         self.choice = random.Random(f"{limits.seed}:{number}")
-        self.calls: list[Call] = []
+        self.calls: list[DrawnCall] = []
 
     def broken(self, deadline: float) -> Broken | None:
         """What it breaks. It ends early if the time is over."""
@@ -137,7 +137,7 @@ class Task:
             to.send(Refused(errors.reason(error)))
 
     def _do(self, to: Connection) -> None:
-        with Run(self.rvstm, self.description) as run:
+        with SequenceRun(self.rvstm, self.description) as run:
             sampler = Sampler(run if self.has_samples else None)
             for number in self.sequences():
                 made = Sequence(run, self.limits, number).made(self.deadline, sampler)
@@ -247,4 +247,5 @@ class Search:
         return self.calls + sum(made.calls for made in self._waiting.values())
 
     def speed(self) -> float:
+        """Calls a second."""
         return self.made() / max(self.seconds or time.monotonic() - self.begun, LEAST_SECONDS)

@@ -9,8 +9,8 @@ from random import Random
 from rvstm_tools.exploring import runs
 from rvstm_tools.exploring.comparing import MistakeError
 from rvstm_tools.exploring.moving import Moving
-from rvstm_tools.exploring.places import Numbers, Place, Value, Words
-from rvstm_tools.exploring.runs import Call, Finding, Run
+from rvstm_tools.exploring.places import NumberSpans, Place, Value, Words
+from rvstm_tools.exploring.runs import DrawnCall, Finding, SequenceRun
 
 MOST_FOR_PAIRS = 24  # calls of a sequence of which each two are left out, or one while the numbers after it move
 MOST_FOR_SUMS = 12  # calls of a sequence of which one is left out, and its numbers are added or subtracted elsewhere
@@ -24,7 +24,7 @@ class Over(Exception):
 
 
 class Shorter:
-    def __init__(self, run: Run, finding: Finding, seconds: float, watch: Callable[["Shorter"], None] | None = None) -> None:
+    def __init__(self, run: SequenceRun, finding: Finding, seconds: float, watch: Callable[["Shorter"], None] | None = None) -> None:
         self.run = run
         self.finding = finding  # the best so far
         self.watch = watch
@@ -33,10 +33,11 @@ class Shorter:
         self.runs = 0
 
     @property
-    def calls(self) -> Sequence[Call]:
+    def calls(self) -> Sequence[DrawnCall]:
         return self.finding.calls
 
     def spent(self) -> float:
+        """Seconds."""
         return time.monotonic() - self.begun
 
     def shorten(self, random: Random) -> str:
@@ -57,7 +58,7 @@ class Shorter:
                 self.leave_out()
             is_shorter = self.find_shorter(random)
 
-    def takes(self, calls: Sequence[Call]) -> bool:
+    def takes(self, calls: Sequence[DrawnCall]) -> bool:
         """Whether other calls break the same rule. Then they are taken, up to the one that does."""
         if time.monotonic() >= self.deadline:
             raise Over
@@ -92,7 +93,7 @@ class Shorter:
         pairs = [{one, other} for one in range(len(calls)) for other in range(one)]
         return any(self.takes(self._without(pair)) for pair in pairs)
 
-    def _without(self, numbers: Container[int]) -> list[Call]:
+    def _without(self, numbers: Container[int]) -> list[DrawnCall]:
         return runs.left(self.calls, [at for at in range(len(self.calls)) if at not in numbers])
 
     def leave_out_one_and_change(self) -> bool:
@@ -101,7 +102,7 @@ class Shorter:
             return False
         return any(self.takes(calls) for at in range(len(self.calls) - 1, -1, -1) for calls in self.without(at))
 
-    def without(self, at: int) -> Iterator[Sequence[Call]]:
+    def without(self, at: int) -> Iterator[Sequence[DrawnCall]]:
         """The calls without one: with numbers that move as the storage does, and with the one's numbers added or subtracted
         elsewhere."""
         moved = self._moved_without(at)
@@ -114,12 +115,12 @@ class Shorter:
         for other, call in enumerate(rest):
             for name, place in call.kind.places.items():
                 value = call.values[name]
-                if isinstance(place, Numbers) and isinstance(value, int):
+                if isinstance(place, NumberSpans) and isinstance(value, int):
                     numbers = {value + sign * amount for amount in amounts for sign in (-1, 1)}
                     for number in sorted(filter(place.has, numbers)):
                         yield with_value(rest, other, name, number)
 
-    def _moved_without(self, at: int) -> Sequence[Call] | None:
+    def _moved_without(self, at: int) -> Sequence[DrawnCall] | None:
         try:
             return Moving(self.run, self.finding).without(at)
         except MistakeError:
@@ -134,7 +135,7 @@ class Shorter:
     def _takes_random(self, random: Random, count: int) -> bool:
         if time.monotonic() >= self.deadline:
             raise Over
-        calls: list[Call] = []
+        calls: list[DrawnCall] = []
         try:
             broken = self.run.begin()
             while not broken and len(calls) < count:
@@ -189,13 +190,13 @@ class Shorter:
         if len(self.calls) > MOST_FOR_TWO_NUMBERS:
             return False
         kinds = [call.kind.places for call in self.calls]
-        places = [(at, name) for at, of in enumerate(kinds) for name, place in of.items() if isinstance(place, Numbers)]
+        places = [(at, name) for at, of in enumerate(kinds) for name, place in of.items() if isinstance(place, NumberSpans)]
         return any(self._lower_two(*one, *other) for one, other in itertools.combinations(places, 2))
 
     def _lower_two(self, at: int, name: str, other_at: int, other_name: str) -> bool:
         place, value = self.calls[at].kind.places[name], self.calls[at].values[name]
         other_place, other = self.calls[other_at].kind.places[other_name], self.calls[other_at].values[other_name]
-        assert isinstance(value, int) and isinstance(other, int) and isinstance(other_place, Numbers)
+        assert isinstance(value, int) and isinstance(other, int) and isinstance(other_place, NumberSpans)
         for number in place.simpler(value):
             assert isinstance(number, int)
             lower = other - (value - number)
@@ -206,10 +207,10 @@ class Shorter:
         return False
 
 
-def with_value(calls: Sequence[Call], at: int, name: str, value: Value) -> list[Call]:
+def with_value(calls: Sequence[DrawnCall], at: int, name: str, value: Value) -> list[DrawnCall]:
     changed = replace(calls[at], values={**calls[at].values, name: value})
     return [*calls[:at], changed, *calls[at + 1 :]]
 
 
-def renamed(call: Call, place: Place, old: Value, new: Value) -> dict[str, Value]:
+def renamed(call: DrawnCall, place: Place, old: Value, new: Value) -> dict[str, Value]:
     return {name: new if call.kind.places[name] is place and value == old else value for name, value in call.values.items()}

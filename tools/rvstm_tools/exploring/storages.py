@@ -10,7 +10,7 @@ from rvstm_tools.exploring.expressions import NUMBERS, Names
 from rvstm_tools.texts import differences, keys, views, words
 from rvstm_tools.texts.keys import Key, Storage
 from rvstm_tools.texts.results import Added, Change, Removed
-from rvstm_tools.texts.shapes import Kind, Misfit, Part
+from rvstm_tools.texts.shapes import FieldKind, Misfit, Part
 from rvstm_tools.texts.views import View
 
 AMOUNTS = 2**64
@@ -90,9 +90,11 @@ class StorageByReceipts:
         return sorted(self.data)
 
     def value(self, key: str | bytes) -> bytes | None:
+        """None if the key has none."""
         return self.data.get(self.key_of(key))
 
     def value_before(self, key: str | bytes) -> bytes | None:
+        """The value before the last call; None if there was none."""
         found = self.key_of(key)
         return self.changed[found] if found in self.changed else self.data.get(found)
 
@@ -128,11 +130,11 @@ Reader = Callable[[str | bytes], bytes | None]
 
 def value_of(part: Part) -> int | str | Data:
     """A field: a number, a text, a name of a key or an account, or other bytes."""
-    if part.field.kind in (Kind.UNSIGNED, Kind.SIGNED):
+    if part.field.kind in (FieldKind.UNSIGNED, FieldKind.SIGNED):
         return views.number_of(part)
-    if part.field.kind is Kind.TEXT:
+    if part.field.kind is FieldKind.TEXT:
         return part.data.rstrip(b"\0").decode()
-    return Name(part.data) if part.field.kind in (Kind.KEY, Kind.ACCOUNT) else Data(part.data)
+    return Name(part.data) if part.field.kind in (FieldKind.KEY, FieldKind.ACCOUNT) else Data(part.data)
 
 
 def data_at(value: Reader, key: str | bytes) -> Data | None:
@@ -174,6 +176,7 @@ def shown_value(value: object) -> str:
 
 
 def number_of(data: bytes) -> int:
+    """A number without a sign, the lowest byte first."""
     return int.from_bytes(data, "little")
 
 

@@ -48,6 +48,7 @@ def before(calls: Sequence[WaitingCall], call: WaitingCall) -> int | None:
 
 
 def longest_path(calls: Sequence[WaitingCall]) -> set[int]:
+    """The places of its calls, from 0."""
     chain = set[int]()
     if not calls:
         return chain
@@ -137,10 +138,12 @@ class Picture:
         label = next((text for text in labels if len(text) * LETTER + 6 <= width), "")
         middle = self.middle(box)
         text = f'<text x="{box.left + 4:.1f}" y="{middle + 4:.1f}">{label}</text>'
+        shown = text if label and self.row >= TEXT_ROW else ""
         return (
-            f'<g><title>{escape(title)}</title><rect x="{box.left:.1f}" y="{middle - height / 2:.1f}" width="{width:.1f}" '
-            f'height="{height:.1f}" rx="{min(3, height / 4):.1f}" fill="{fill}" stroke="{edge}" '
-            f'stroke-width="{min(1, self.row / 8, width / 6):.2f}"/>{text if label and self.row >= TEXT_ROW else ""}</g>'
+            f'<g><title>{escape(title)}</title>'
+            f'<rect x="{box.left:.1f}" y="{middle - height / 2:.1f}" width="{width:.1f}" height="{height:.1f}" '
+            f'rx="{min(3, height / 4):.1f}" fill="{fill}" stroke="{edge}" '
+            f'stroke-width="{min(1, self.row / 8, width / 6):.2f}"/>{shown}</g>'
         )
 
     def heading(self) -> list[str]:

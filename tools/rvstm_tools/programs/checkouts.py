@@ -21,6 +21,7 @@ class Checkout:
 
     @functools.cached_property
     def needs(self) -> dict[str, list[str]]:
+        """The crates of this checkout that each crate stands on, by its name."""
         lines = (self.top / "crates.txt").read_text(encoding="utf-8").splitlines()
         rows = [line.split(":") for line in lines if not line.startswith("#")]
         below = {row[0].split()[0]: row[1].split() for row in rows if len(row) == 2 and row[0].strip()}

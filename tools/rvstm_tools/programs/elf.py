@@ -115,6 +115,7 @@ class ElfFile:
         return Path(self.path).name
 
     def words(self) -> dict[int, int]:
+        """The words of the code by their addresses."""
         return {
             part.address + at: int.from_bytes(part.data[at : at + 4], "little")
             for part in self.segments

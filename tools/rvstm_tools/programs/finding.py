@@ -51,6 +51,7 @@ def home() -> Home:
 
 
 def sdk() -> Path:
+    """The folder of the SDK. A UserError if these tools have none."""
     path = home().top / "sdk"
     if not (path / "Makefile").is_file():
         raise UserError(f"{path}: no SDK; the package rvstm-sdk has it, and pip installs it with these tools from a checkout")
@@ -72,6 +73,7 @@ def is_program(path: Path) -> bool:
 
 
 def find(choice: ProgramChoice, place: Home, environment: Mapping[str, str]) -> Path:
+    """A program that may be run. A UserError says how to get one."""
     path, cure = candidate(choice, place, environment)
     if not is_program(path):
         raise UserError(f"{path}: no program; {cure}")

@@ -28,11 +28,13 @@ def tell(text: str) -> None:
 
 
 def need_rt() -> None:
+    """A UserError if there is no rt on the path."""
     if not shutil.which("rt"):
         raise UserError(NO_RT)
 
 
 def run_rt(words: Sequence[str], folder: Path, niceness: int = 0) -> None:
+    """Runs rt in a folder. If it fails, what it said is printed, and a UserError has the status."""
     command = ["nice", "-n", str(niceness), "rt", *words]
     done = subprocess.run(command, cwd=folder, stdout=subprocess.PIPE, stderr=subprocess.STDOUT, encoding="utf-8", check=False)
     if done.returncode != 0:

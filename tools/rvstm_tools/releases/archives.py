@@ -133,6 +133,7 @@ def files_of_tar(tar: bytes) -> Entries:
 
 
 def files_of_release(data: bytes) -> Entries:
+    """The files of a tar.gz. A UserError if a release would make another of them."""
     tar = unpacked(data, zlib.decompressobj(zlib.MAX_WBITS | 16))
     found = files_of_tar(tar)
     if tar != tar_of(found, next((info.mtime for info, _ in entries_of_tar(tar)), 0)):
@@ -141,6 +142,7 @@ def files_of_release(data: bytes) -> Entries:
 
 
 def files_of_debian(data: bytes) -> Entries:
+    """The files of a package. A UserError if it has other members than those of a release."""
     members = list(ar_members(data))
     if [member.name for member in members] != DEBIAN_MEMBERS or members[0].data != b"2.0\n":
         raise UserError("it is an archive of ar, and not a package of Debian as a release has it")

@@ -11,7 +11,7 @@ from rvstm_tools.errors import UserError
 from rvstm_tools.releases.roff import escaped, roman
 
 PAGE = "man/rvstm.1"
-MAKER = "tools/developers/man-page"
+MAKER = "rvstm-developers man-page"
 HEAD = re.compile(r"^(\w[\w ]*):$")
 ITEM = re.compile(r"^ {2,}(\S.*?)(?: {2,}(\S.*))?$")
 OPTIONS = "\nOptions:\n"
@@ -25,14 +25,14 @@ done, also for help and the version
 .B 1
 refused: standard error has one line, such as
 .BR "rvstm: block 1 BadHeader 1" .
-Standard output is empty, except for a result that could not be written whole, or whose counts could not be written, and for the
-answers of a session that was cut
+Standard output is empty, except for a result that could not be written whole, or whose counts could not be written, and
+for the answers of a session that was cut
 .TP
 .B 2
 a wrong command line
 .SH SEE ALSO
-formats.md has every file, request and answer exactly. messages.md has each refusal, when it comes and what to do. Debian's package puts
-both into /usr/share/doc/rvstm.
+formats.md has every file, request and answer exactly. messages.md has each refusal, when it comes and what to do.
+Debian's package puts both into /usr/share/doc/rvstm.
 """
 
 

@@ -9,7 +9,7 @@ from rvstm_tools.options import Command
 from rvstm_tools.releases.roff import as_it_is, escaped, roman
 
 PAGE, COMPLETION = "man/rvstm-tools.1", "completions/rvstm-tools.bash"
-MAKER = "tools/developers/tool-pages"
+MAKER = "rvstm-developers tool-pages"
 NAME = "writes, builds, tests and debugs contracts for rvstm"
 STATUSES = {
     0: "done, or what was asked for holds",

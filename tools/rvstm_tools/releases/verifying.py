@@ -29,21 +29,21 @@ PT_LOAD, PT_NOTE = 1, 4
 RVSTM = "rvstm"  # the name of the program in a list of checksums
 
 
-class Span(NamedTuple):
+class ByteSpan(NamedTuple):
     start: int
     end: int
 
 
-SECTION_FIELDS = (Span(40, 48), Span(60, 64))  # of the head of a file: where its table of sections is, and how long it is
+SECTION_FIELDS = (ByteSpan(40, 48), ByteSpan(60, 64))  # of the head of a file: where its table of sections is, and how long it is
 
 
-class Loaded(NamedTuple):
+class LoadedSegment(NamedTuple):
     kind: int
-    span: Span
+    span: ByteSpan
 
 
 @dataclass(frozen=True)
-class Part:
+class ProductPart:
     product: Product
     name: str
     data: bytes
@@ -59,11 +59,11 @@ def digest(data: bytes) -> str:
     return hashlib.sha256(data).hexdigest()
 
 
-def segments_of(data: bytes) -> Iterator[Loaded]:
+def segments_of(data: bytes) -> Iterator[LoadedSegment]:
     table, (size, count) = struct.unpack_from("<Q", data, 32)[0], struct.unpack_from("<HH", data, 54)
     for at in range(table, table + size * count, max(size, 1)):
         kind, _, start, _, _, length, _, _ = struct.unpack_from(PROGRAM_HEAD, data, at)
-        yield Loaded(kind, Span(start, start + length))
+        yield LoadedSegment(kind, ByteSpan(start, start + length))
 
 
 def is_loaded_so(data: bytes, without: bytes) -> bool:
@@ -78,6 +78,7 @@ def is_loaded_so(data: bytes, without: bytes) -> bool:
 
 
 def bare(name: str, data: bytes) -> bytes:
+    """The bytes of a program without symbols and build id. A UserError if it is none, or is cut."""
     if not data.startswith(ELF_HEAD):
         raise UserError(f"{name}: NOT a program of 64 bits")
     try:
@@ -90,11 +91,11 @@ def bare(name: str, data: bytes) -> bytes:
     return without
 
 
-def parts_of(path: str, data: bytes) -> list[Part]:
+def parts_of(path: str, data: bytes) -> list[ProductPart]:
     if not archives.is_package(data):
         if not data.startswith(ELF_HEAD):
             raise UserError(f"{path}: neither a program nor a package")
-        return [Part(Product.PROGRAM, path, data)]
+        return [ProductPart(Product.PROGRAM, path, data)]
     try:
         files = archives.files_in(data)
     except UserError as error:
@@ -109,7 +110,7 @@ def parts_of(path: str, data: bytes) -> list[Part]:
             if not is_library and not (TOOLS.fullmatch(name) and file == parts.TOOLS_LINK):
                 raise UserError(f"{path}: it has a link, {name}, which no release has")
         elif product:
-            found.append(Part(product, f"{path}, {name}", file.data))
+            found.append(ProductPart(product, f"{path}, {name}", file.data))
     return found
 
 
@@ -142,6 +143,7 @@ def by_building(path: str, data: bytes, built: Products, build: Callable[[Produc
 
 
 def sums_of(path: str) -> dict[str, str]:
+    """The SHA-256 of each file, in hex, by its name. A UserError for another line."""
     rows = [line.split() for line in Path(path).read_text(encoding="ascii", errors="replace").splitlines()]
     if not all(len(row) == 2 and CHECKSUM.fullmatch(row[0]) for row in rows):
         raise UserError(f"{path}: not a file of checksums and names")

@@ -121,6 +121,7 @@ STATE = re.compile(
 
 
 def state_of(body: bytes) -> State:
+    """What the answer to `state` says. A UserError for other lines."""
     form = STATE.fullmatch(body)
     if form is None:
         raise UserError(f"not the lines of a state: {body[:SHOWN_OF_WRONG_LINE]!r}")

@@ -59,6 +59,7 @@ def digest_file_of(path: Path) -> Path:
 
 
 def digest_in(path: Path) -> str:
+    """The digest of a file, 64 digits in hex. A UserError if it has another text, or is not there."""
     try:
         text = path.read_text(encoding="ascii", errors="backslashreplace").strip()
     except FileNotFoundError:

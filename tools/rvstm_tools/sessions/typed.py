@@ -35,6 +35,7 @@ class Form:
         return f"{self.word} {self.arguments}".rstrip()
 
     def check(self, given: Sequence[str]) -> None:
+        """A UserError if there are too few words, or too many."""
         names = self.arguments.split()
         least = sum(not name.startswith("[") for name in names)
         if len(given) < least or len(given) > len(names) and not self.arguments.endswith("..]"):
@@ -42,6 +43,7 @@ class Form:
 
 
 def path_of(word: str) -> Path:
+    """A path, with or without quotes. A UserError if it has a zero byte."""
     if "\0" in word:
         raise UserError(f"{word}: a path has no zero byte")
     return Path(word[1:-1] if words.is_text(word) else word)

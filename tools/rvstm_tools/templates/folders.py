@@ -31,7 +31,7 @@ OF_LANGUAGE = {
 
 
 @dataclass(frozen=True)
-class Places:
+class TemplateNames:
     name: str  # of the contract and its files
     sdk: str  # the folder of the SDK
     tools: str  # how a shell runs rvstm-tools
@@ -45,7 +45,8 @@ def check_name(name: str, language: Language) -> None:
         raise UserError(f"{name}: the crate of the SDK has this name")
 
 
-def files_of(language: Language, places: Places) -> dict[str, str]:
+def files_of(language: Language, places: TemplateNames) -> dict[str, str]:
+    """The text of each file by its path in the folder. A UserError if a Makefile cannot have the paths."""
     if NOT_IN_A_MAKEFILE.search(places.sdk + places.tools):
         raise UserError(f"{places.sdk}: a path with one of \" $ # \\ cannot be in a Makefile; move the SDK")
     texts = {FOLDER / name: path for name, path in OF_ALL.items()}

@@ -6,7 +6,7 @@ from pathlib import Path
 
 from rvstm_tools.debugging import charges, sources
 from rvstm_tools.debugging.charges import StorageCall
-from rvstm_tools.debugging.replays import A1, A2, A7, OUTPUTS, Frame, Replay
+from rvstm_tools.debugging.replays import A1, A2, A7, OUTPUTS, Frame, StorageReplay
 from rvstm_tools.debugging.sessions import CallOf
 from rvstm_tools.debugging.sources import Chains, Inlined
 from rvstm_tools.errors import UserError
@@ -52,7 +52,7 @@ def place_of(rvstm: Path, run: InTurn, number: int, folder: Path, program: str) 
         place = author_place(sources.chains_of(file, [receipt.pc], tool), [receipt.pc])
         if not place and receipt.gas <= MOST_STEPS:
             with running.temporary_file(run.text, ".block") as made:
-                replay = Replay(CallOf(rvstm, made, number, folder), 1)
+                replay = StorageReplay(CallOf(rvstm, made, number, folder), 1)
             addresses = [receipt.pc, *callers_of(replay.last_frame)]
             place = author_place(sources.chains_of(file, addresses, tool), addresses)
     except UserError:

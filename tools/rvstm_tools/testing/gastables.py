@@ -60,6 +60,7 @@ class GasOfInput:
 
     @property
     def mean(self) -> int:
+        """In gas, rounded."""
         return round(sum(self.gas) / len(self.gas))
 
     def said(self) -> str:

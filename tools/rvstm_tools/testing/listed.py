@@ -22,6 +22,7 @@ class CallPart:
         return frozenset(line.key for line in self.expectations.values() if isinstance(line, Changes))
 
     def gas_lines(self) -> list[int]:
+        """The numbers of the lines `gas at most` in the list."""
         return [number for number, line in self.expectations.items() if isinstance(line, CostsAtMost)]
 
 

@@ -21,6 +21,7 @@ class Rules(enum.IntEnum):
 
     @property
     def longest_value(self) -> int:
+        """In bytes."""
         return 64 if self is Rules.ONE else 256
 
     @property

@@ -56,6 +56,7 @@ class Conflicts:
 
 
 def conflicts_of(text: str) -> Conflicts:
+    """What `rvstm conflicts` prints. A UserError names another line."""
     found, waits, writers = Conflicts(), list[Wait](), dict[str, list[int]]()
     for number, line in enumerate(text.splitlines(), 1):
         fields = next((match for form in FORMS if (match := form.fullmatch(line))), None)

@@ -91,6 +91,7 @@ class ResultLine(NamedTuple):
 
 
 def bytes_of(text: str) -> bytes:
+    """Bytes in hex; `-` for none."""
     return b"" if text == "-" else bytes.fromhex(text)
 
 

@@ -17,7 +17,7 @@ REPEATED = ".."
 LONGEST_FIELD = 4096  # bytes that a text or bytes may have
 
 
-class Kind(enum.Enum):
+class FieldKind(enum.Enum):
     """What the bytes of a field are."""
 
     UNSIGNED = enum.auto()
@@ -34,15 +34,15 @@ class Field:
     """A field: its name, which may be empty, what it is, and its length in bytes, which is None if it has all that are left."""
 
     name: str
-    kind: Kind
+    kind: FieldKind
     length: int | None
     word: str  # the word of the list that says it
 
     def misfit(self, data: bytes) -> str:
         """Why bytes of the right length are not this field; empty if they are."""
-        if self.kind is Kind.FIXED and data != words.bytes_of(self.word):
+        if self.kind is FieldKind.FIXED and data != words.bytes_of(self.word):
             return f"it has {data.hex()} in place of {self.word}"
-        if self.kind is Kind.TEXT and not shown.is_printable(data.rstrip(b"\0")):
+        if self.kind is FieldKind.TEXT and not shown.is_printable(data.rstrip(b"\0")):
             return f"{self.name or 'its text'} has bytes that are not printable"
         return ""
 
@@ -70,6 +70,7 @@ class Shape:
 
     @property
     def least(self) -> int:
+        """The bytes of its fields, without the rest that may follow."""
         return length_of(self.fields)
 
     @property
@@ -148,19 +149,19 @@ def field_of(word: str) -> Field:
     data = words.bytes_of(word)
     if not data:
         raise UserError(f"{word}: a field has at least one byte")
-    return Field("", Kind.FIXED, len(data), word)
+    return Field("", FieldKind.FIXED, len(data), word)
 
 
 def typed_field(name: str, found: re.Match[str], word: str) -> Field:
     sign, bits, of_key, of_bytes, digits = found.groups()
     if sign:
-        return Field(name, Kind.UNSIGNED if sign == "u" else Kind.SIGNED, int(bits) // 8, word)
+        return Field(name, FieldKind.UNSIGNED if sign == "u" else FieldKind.SIGNED, int(bits) // 8, word)
     if of_key == "key":
-        return Field(name, Kind.KEY, keys.KEY_LENGTH, word)
+        return Field(name, FieldKind.KEY, keys.KEY_LENGTH, word)
     if of_key == "account":
-        return Field(name, Kind.ACCOUNT, keys.ACCOUNT_LENGTH, word)
+        return Field(name, FieldKind.ACCOUNT, keys.ACCOUNT_LENGTH, word)
     length = numbers.number_of(digits, 1, LONGEST_FIELD, f"the length of {of_bytes}") if digits else None
-    return Field(name, Kind.TEXT if of_bytes == "text" else Kind.BYTES, length, word)
+    return Field(name, FieldKind.TEXT if of_bytes == "text" else FieldKind.BYTES, length, word)
 
 
 def check_fields(fields: Sequence[Field], repeated: Sequence[Field]) -> None:

@@ -10,7 +10,7 @@ from rvstm_tools.texts.differences import Difference
 from rvstm_tools.texts.keys import Key
 from rvstm_tools.texts.results import Change, Written
 from rvstm_tools.texts.rows import Row
-from rvstm_tools.texts.shapes import Field, Kind, Misfit, Part, Shape
+from rvstm_tools.texts.shapes import Field, FieldKind, Misfit, Part, Shape
 
 LONGEST_VALUE = 256
 ROW_TARGET = re.compile(r"row:([^:\[]*)(?:\[(.*)\])?")
@@ -55,7 +55,7 @@ class View:
         parts = word.split(":", 2)[2].split(",")
         if len(parts) != len(fields) or row.key in self.of_keys or not isinstance(Shape(fields).parts(row.data), Misfit):
             return ""
-        meant = [f"key:{part}" if field.kind is Kind.ACCOUNT and ":" not in part else part for field, part in zip(fields, parts)]
+        meant = [f"key:{part}" if field.kind is FieldKind.ACCOUNT and ":" not in part else part for field, part in zip(fields, parts)]
         key = f"row:{row.table}:{','.join(meant)}"
         return f"{word}: a text, and its shape has an account there; the key of the account is {key}" if key != word else ""
 
@@ -194,20 +194,20 @@ class View:
 
     def fields(self, parts: Sequence[Part]) -> str:
         """Fields for people, each with its name if it has one. Those that are always the same are left out."""
-        shown_parts = [part for part in parts if part.field.kind is not Kind.FIXED]
+        shown_parts = [part for part in parts if part.field.kind is not FieldKind.FIXED]
         texts = (f"{part.field.name} {self.field(part)}".lstrip() for part in shown_parts)
         return ", ".join(texts) or "-"
 
     def field(self, part: Part) -> str:
         data = part.data
         match part.field.kind:
-            case Kind.UNSIGNED | Kind.SIGNED:
+            case FieldKind.UNSIGNED | FieldKind.SIGNED:
                 return str(number_of(part))
-            case Kind.KEY:
+            case FieldKind.KEY:
                 return self.called(Key(data))
-            case Kind.ACCOUNT:
+            case FieldKind.ACCOUNT:
                 return shown_name(data)
-            case Kind.TEXT:
+            case FieldKind.TEXT:
                 return f'"{data.rstrip(bytes(1)).decode()}"'
             case _:  # BYTES and FIXED
                 return data.hex() or "-"
@@ -218,16 +218,16 @@ class View:
 
     def _words_of_part(self, part: Part) -> list[str]:
         data, kind = part.data, part.field.kind
-        if kind in (Kind.UNSIGNED, Kind.SIGNED):
+        if kind in (FieldKind.UNSIGNED, FieldKind.SIGNED):
             return [word_of_number(part)]
-        if kind is Kind.KEY:
+        if kind is FieldKind.KEY:
             return [self._word_of_key_field(Key(data))]
-        if kind is Kind.ACCOUNT:
+        if kind is FieldKind.ACCOUNT:
             return [f"account:{name}" if (name := text_of(data)) else data.hex()]
-        if kind is Kind.TEXT and b'"' not in data:
+        if kind is FieldKind.TEXT and b'"' not in data:
             text = data.rstrip(b"\0")
             return [f'"{text.decode()}"', *([data[len(text) :].hex()] if len(data) > len(text) else [])]
-        return [part.field.word if kind is Kind.FIXED else data.hex() or '""']
+        return [part.field.word if kind is FieldKind.FIXED else data.hex() or '""']
 
     def _word_of_key_field(self, key: Key) -> str:
         text = f"key:{name}" if (name := text_of(key)) else ""
@@ -245,7 +245,7 @@ class View:
         parts = self.inputs[name].parts(data) if name else Misfit("it fits no shape of an input")
         if isinstance(parts, Misfit):
             return f"{differences.short_bytes(data)}  ({parts.reason})" if self.inputs else ""
-        has_fields = any(part.field.kind is not Kind.FIXED for part in parts)
+        has_fields = any(part.field.kind is not FieldKind.FIXED for part in parts)
         return f"{name}({self.fields(parts) if has_fields else ''})"
 
 
@@ -255,11 +255,11 @@ def another(target: str) -> UserError:
 
 
 def number_of(part: Part) -> int:
-    return int.from_bytes(part.data, "little", signed=part.field.kind is Kind.SIGNED)
+    return int.from_bytes(part.data, "little", signed=part.field.kind is FieldKind.SIGNED)
 
 
 def word_of_number(part: Part) -> str:
-    return f"{'i' if part.field.kind is Kind.SIGNED else 'u'}{8 * len(part.data)}:{number_of(part)}"
+    return f"{'i' if part.field.kind is FieldKind.SIGNED else 'u'}{8 * len(part.data)}:{number_of(part)}"
 
 
 def text_of(data: bytes) -> str:
@@ -288,10 +288,10 @@ def numbered(key: Key) -> str:
 
 def word_in_row(part: Part) -> str:
     match part.field.kind:
-        case Kind.UNSIGNED | Kind.SIGNED:
+        case FieldKind.UNSIGNED | FieldKind.SIGNED:
             return word_of_number(part)
-        case Kind.ACCOUNT if name := text_of(part.data):
+        case FieldKind.ACCOUNT if name := text_of(part.data):
             return f"key:{name}"
-        case Kind.TEXT if words.is_text_in_row(part.data):
+        case FieldKind.TEXT if words.is_text_in_row(part.data):
             return part.data.decode()
     return f"hex:{part.data.hex()}"

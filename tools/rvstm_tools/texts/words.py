@@ -42,6 +42,7 @@ def is_hex(word: str) -> bool:
 
 
 def bytes_of(word: str) -> bytes:
+    """The bytes that a word says. A UserError says which words there are."""
     if is_text(word):
         return word[1:-1].encode()
     if number := NUMBER.fullmatch(word):
@@ -63,6 +64,7 @@ def bytes_of(word: str) -> bytes:
 
 
 def bytes_of_number(word: str, found: re.Match[str]) -> bytes:
+    """The bytes of a number, the lowest first. A UserError if its bits do not hold it."""
     of_unsigned, unsigned, of_signed, sign, signed = found.groups()
     bits = int(of_unsigned or of_signed)
     most = 2**bits - 1 if of_unsigned else 2 ** (bits - 1) - (0 if sign else 1)
@@ -91,6 +93,7 @@ def row_of(word: str) -> Row:
 
 
 def bytes_in_row(word: str, part: str) -> bytes:
+    """The bytes of a part of a row. A UserError if it is empty or no such word."""
     if not part:
         raise UserError(f"{word}: a part of the row is empty")
     if part.startswith("key:"):

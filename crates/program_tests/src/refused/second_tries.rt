@@ -1,4 +1,4 @@
-//! Calls for which `scripts/growths` refuses one request for memory, and which are made once more then.
+//! Calls for which `rvstm-developers growths` refuses one request for memory, and which are made once more then.
 
 use crate::refused::exhausted::attempts::Way;
 use crate::refused::exhausted::{assert_come_right, runs_counts, runs_echo};

@@ -110,7 +110,7 @@ fn is_made_again<A: Attempt>(alloc: Global, call: &mut A) -> bool {
 pub enum Way {
     /// All memory is taken away, and more and more of it is given back.
     Exhausted,
-    /// One request at most is refused, by `scripts/growths`.
+    /// One request at most is refused, by `rvstm-developers growths`.
     OneRequest,
 }
 

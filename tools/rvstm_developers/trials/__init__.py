@@ -1,0 +1,1 @@
+"""Commands that try the program, one a module."""
