@@ -1,8 +1,8 @@
 """The blocks of the pages that have a command and its output: each is run, and what it prints is compared.
 
-In a block the lines that begin with `$ ` are commands, and those after a command are what it prints. `..` matches what is cut: some
-text of a line, or, if it is the whole line, any number of lines. A block that begins with `cd` begins in the folder that has the
-examples; any other one continues in the folder of the block before it. A block after a comment `<!-- not run: WHY -->` is not run.
+In a block the lines that begin with `$ ` are commands, and those after a command are what it prints. `..` and `[...]` match what is
+cut: some text of a line, or, if it is the whole line, any number of lines. A block that begins with `cd` begins in the folder that has
+the examples; any other one continues in the folder of the block before it. A block after a comment `<!-- not run: WHY -->` is not run.
 """
 
 import dataclasses
@@ -26,7 +26,8 @@ MOST_MARKED = 5
 SECONDS_A_BLOCK = 20
 COPIED = ("examples",)
 """What commands of pages write into; the rest is the checkout's."""
-CUT = ".."
+CUT, CLEAR_CUT = "..", "[...]"
+"""What is cut; the second is clear if a tool prints the first."""
 
 
 @dataclass(frozen=True)
@@ -133,7 +134,7 @@ def line_pattern(line: str) -> str:
 
 def first_difference(wanted: Sequence[str], came: Sequence[str]) -> str:
     """How lines that came differ from those of a page; empty if they do not."""
-    wanted, came = trimmed(wanted), trimmed(came)
+    wanted, came = trimmed([line.replace(CLEAR_CUT, CUT) for line in wanted]), trimmed(came)
     reached = {0}  # how many lines of `came` the lines of the page so far can match
     for number, line in enumerate(wanted):
         if line.strip() == CUT:
