@@ -41,7 +41,7 @@ def parser() -> argparse.ArgumentParser:
     )
     made.add_argument("program", nargs="?", type=Path, metavar="PROGRAM", help="the built program")
     made.add_argument("--preview", action="store_true", help="the unproved program, which is made first if it is not there")
-    made.add_argument("--only", metavar="WORD", default="", help="the cases alone whose names have this")
+    made.add_argument("--only", metavar="WORD", default="", help="run only cases whose name contains WORD")
     made.add_argument("--jobs", type=int, metavar="N", help="so many cases at once (one for each processor)")
     made.add_argument("--seed", type=int, metavar="N", help="of what is made at random; it is printed")
     made.add_argument("--times", action="store_true", help="print each case with its time")
