@@ -3,6 +3,7 @@
 In a block the lines that begin with `$ ` are commands, and those after a command are what it prints. `..` and `[...]` match what is
 cut: some text of a line, or, if it is the whole line, any number of lines. A block that begins with `cd` begins in the folder that has
 the examples; any other one continues in the folder of the block before it. A block after a comment `<!-- not run: WHY -->` is not run.
+A comment `<!-- the page needs: TOOLS -->` is of all blocks of its page.
 """
 
 import dataclasses
@@ -19,6 +20,7 @@ from gate.machine import Tool
 
 PROMPT = "$ "
 MARKER = re.compile(r"<!-- (not run|needs): (.+) -->")
+OF_PAGE = re.compile(r"^<!-- the page needs: (.+) -->$", re.M)
 REASONS = ("the network", "root", "an editor", "a compiler that may be missing", "more than 20 seconds")
 BUILT = "the built program"
 MOST_MARKED = 5
@@ -112,6 +114,17 @@ def marker_before(lines: Sequence[str], number: int) -> tuple[str, str]:
     return (found[1], found[2]) if found else ("", "")
 
 
+def tools_of(words: Sequence[str]) -> tuple[Tool, ...]:
+    """The tools that a comment names."""
+    return tuple(tool for tool in Tool if tool.name.lower() in words)
+
+
+def needs_of_page(text: str) -> tuple[Tool, ...]:
+    """The tools that all blocks of a page need."""
+    found = OF_PAGE.search(text)
+    return tools_of(found[1].split(", ")) if found else ()
+
+
 def blocks_of(page: str, text: str) -> list[Block]:
     """The blocks of a page that have a command and its output, and those with a command alone that such blocks continue."""
     lines, found = text.splitlines(), []
@@ -119,8 +132,7 @@ def blocks_of(page: str, text: str) -> list[Block]:
         if any(line.startswith(PROMPT) for line in block):
             kind, value = marker_before(lines, number)
             words = value.split(", ") if kind == "needs" else []
-            tools = tuple(tool for tool in Tool if tool.name.lower() in words)
-            found.append(Block(page, number, steps_of(block), value if kind == "not run" else "", tools, BUILT in words))
+            found.append(Block(page, number, steps_of(block), value if kind == "not run" else "", tools_of(words), BUILT in words))
     return found
 
 
@@ -258,15 +270,16 @@ def counted(run: Run, pages: dict[str, list[Block]]) -> None:
 def cases() -> list[Case]:
     """A case for each page that has blocks, and one that counts them all."""
     pages: dict[str, list[Block]] = {}
+    needs: dict[str, tuple[Tool, ...]] = {}
     for file in page_files():
-        name = str(file.relative_to(TOP))
-        found = blocks_of(name, file.read_text(encoding="utf-8"))
+        name, text = str(file.relative_to(TOP)), file.read_text(encoding="utf-8")
+        found = blocks_of(name, text)
         if found:
-            pages[name] = found
+            pages[name], needs[name] = found, needs_of_page(text)
 
-    def of(blocks: list[Block]) -> Case:
+    def of(name: str, blocks: list[Block]) -> Case:
         most = 1 + sum(not block.reason for block in blocks)
-        return Case(f"pages: {blocks[0].page}", lambda run: run_page(run, blocks), seconds=SECONDS_A_BLOCK * most, cost=3.0 * most)
+        return Case(f"pages: {name}", lambda run: run_page(run, blocks), needs[name], seconds=SECONDS_A_BLOCK * most, cost=3.0 * most)
 
-    runnable = [of(blocks) for blocks in pages.values() if any(not block.reason for block in blocks)]
+    runnable = [of(name, blocks) for name, blocks in pages.items() if any(not block.reason for block in blocks)]
     return [Case("pages: blocks and marks", lambda run: counted(run, pages)), *runnable]
