@@ -94,14 +94,14 @@ typedef struct {
 } rvstm_refusal_parts;
 
 /**
- * Returns the library's version, in the form of #RVSTM_VERSION.
+ * Returns the library's version, in the form of #RVSTM_VERSION. Takes no memory.
  * @return the version, which a program may compare with the header's
  */
 uint32_t rvstm_version(void);
 
 /**
  * Opens a session over an empty storage, with frames of at most 64 MiB, gas without a bound, no digest, and receipts with their
- * registers. The caller owns the session, and ends it with rvstm_close().
+ * registers. The caller owns the session, and ends it with rvstm_close(). Takes memory for an empty session.
  * @param session  one whose bytes are zero, or that was closed
  * @retval RVSTM_DONE          it is open, with an answer without bytes
  * @retval RVSTM_ALREADY_OPEN  it was open before
@@ -110,7 +110,7 @@ uint32_t rvstm_version(void);
 uint32_t rvstm_open(rvstm_session *session);
 
 /**
- * Opens a session with settings, as rvstm_open() does.
+ * Opens a session with settings, as rvstm_open() does. Takes the memory of rvstm_open().
  * @param session   one whose bytes are zero, or that was closed
  * @param settings  are copied
  * @retval RVSTM_DONE          it is open, with an answer without bytes
@@ -136,7 +136,8 @@ uint32_t rvstm_open_with(rvstm_session *session, const rvstm_settings *settings)
 
 /**
  * Gives the session a program. The answer is its name, the SHA-256 of the file in 64 hex digits, and a line feed. If the session
- * has it already, the answer is the same, and nothing changes.
+ * has it already, the answer is the same, and nothing changes. Takes memory for the pages of 4,096 bytes that the segments fill,
+ * and time in proportion to the length of the file.
  * @param session      an open one
  * @param file         the bytes of the program's file
  * @param file_length  their number
@@ -148,7 +149,7 @@ uint32_t rvstm_open_with(rvstm_session *session, const rvstm_settings *settings)
 uint32_t rvstm_program(rvstm_session *session, const uint8_t *file, size_t file_length);
 
 /**
- * Removes a program. The answer has no bytes.
+ * Removes a program, and frees its memory. The answer has no bytes. Takes no memory.
  * @param session      an open one
  * @param name         the program's name, without a line feed
  * @param name_length  64
@@ -159,7 +160,7 @@ uint32_t rvstm_program(rvstm_session *session, const uint8_t *file, size_t file_
 uint32_t rvstm_forget(rvstm_session *session, const uint8_t *name, size_t name_length);
 
 /**
- * Lists the names of the programs, ascending, one on each line.
+ * Lists the names of the programs, ascending, one on each line. Takes 65 bytes of memory for each program.
  * @param session  an open one
  * @retval RVSTM_DONE    the answer has the names
  * @retval RVSTM_FAILED  output Memory
@@ -170,7 +171,9 @@ uint32_t rvstm_programs(rvstm_session *session);
 /**
  * Runs a frame: a block file in which a program's path is its name. Its `store` lines are put over the storage, and its calls run
  * over that. The answer has the lines of the calls and `end`. A frame that is done or refused counts: the height goes up, and
- * rvstm_last() returns its answer. Two refusals do not count: for the height, and as `request BadLine 1`.
+ * rvstm_last() returns its answer. Two refusals do not count: for the height, and as `request BadLine 1`. Takes memory for the
+ * block, for what its calls leave, and for the answer. Takes time in proportion to the length of the block and to the gas limits of
+ * its calls at most; it grows little with the storage.
  * @param session       an open one
  * @param block         the bytes of the block file
  * @param block_length  their number
@@ -183,16 +186,20 @@ uint32_t rvstm_programs(rvstm_session *session);
 uint32_t rvstm_frame(rvstm_session *session, const uint8_t *block, size_t block_length);
 
 /**
- * Answers as rvstm_frame() would, and keeps nothing: no entry, no rules, no height, no digest.
+ * Answers as rvstm_frame() would, and keeps nothing: no entry, no rules, no height, no digest. Takes the memory and the time of
+ * rvstm_frame().
  * @param session       an open one
  * @param block         the bytes of the block file
  * @param block_length  their number
- * @return what rvstm_frame() would
+ * @retval RVSTM_DONE     the answer has what the calls would do
+ * @retval RVSTM_REFUSED  as rvstm_frame()
+ * @retval RVSTM_FAILED   as rvstm_frame()
+ * @retval RVSTM_CLOSED   the session is not open
  */
 uint32_t rvstm_try(rvstm_session *session, const uint8_t *block, size_t block_length);
 
 /**
- * Repeats the answer to the last frame that counts, with the same bytes or parts.
+ * Repeats the answer to the last frame that counts, with the same bytes or parts. Takes no memory.
  * @param session  an open one
  * @retval RVSTM_DONE     it was done
  * @retval RVSTM_REFUSED  it was refused; or there was none, or none since rvstm_begin() (frame NoFrame)
@@ -201,7 +208,7 @@ uint32_t rvstm_try(rvstm_session *session, const uint8_t *block, size_t block_le
 uint32_t rvstm_last(rvstm_session *session);
 
 /**
- * Reads the storage at a key: a line `value ..` or `absent`.
+ * Reads the storage at a key: a line `value ..` or `absent`. Takes memory for the line, and the time of a look-up.
  * @param session     an open one
  * @param key         its hex digits
  * @param key_length  64
@@ -213,7 +220,7 @@ uint32_t rvstm_last(rvstm_session *session);
 uint32_t rvstm_get(rvstm_session *session, const uint8_t *key, size_t key_length);
 
 /**
- * Lists the first entries from a key on, itself included, in `store` lines.
+ * Lists the first entries from a key on, itself included, in `store` lines. Takes memory for the lines, at most 600,000 bytes.
  * @param session      an open one
  * @param from         the hex digits of the key
  * @param from_length  64
@@ -226,7 +233,8 @@ uint32_t rvstm_get(rvstm_session *session, const uint8_t *key, size_t key_length
 uint32_t rvstm_list(rvstm_session *session, const uint8_t *from, size_t from_length, uint64_t count);
 
 /**
- * Dumps the whole storage: a block file of the session's rules, which rvstm_begin() accepts. The text is made in memory.
+ * Dumps the whole storage: a block file of the session's rules, which rvstm_begin() accepts. Takes memory for all of the text, for
+ * each key 72 bytes and twice the length of its value, and time in proportion.
  * @param session  an open one
  * @retval RVSTM_DONE    the answer has the block file
  * @retval RVSTM_FAILED  output Memory
@@ -236,7 +244,8 @@ uint32_t rvstm_dump(rvstm_session *session);
 
 /**
  * Replaces the session's storage, rules, height and digest. The programs stay, and rvstm_last() has no frame. The answer has no
- * bytes.
+ * bytes. Takes memory for the new storage beside the old one, and time in proportion to the length of the block and to the old
+ * storage, which is freed.
  * @param session        an open one
  * @param height         at most 9,999,999,999
  * @param digest         64 hex digits, or `-` if the session keeps none
@@ -255,7 +264,7 @@ uint32_t rvstm_begin(
 
 /**
  * Reports the session's counts and settings in lines `rules N`, `height N`, `keys N`, `programs N`, `frame-limit N`, `frame-gas N`
- * or `frame-gas none`, `brief 0` or `brief 1`, and `digest HEX` if one is kept.
+ * or `frame-gas none`, `brief 0` or `brief 1`, and `digest HEX` if one is kept. Takes memory for the lines, less than 300 bytes.
  * @param session  an open one
  * @retval RVSTM_DONE    the answer has the lines
  * @retval RVSTM_FAILED  output Memory
@@ -266,15 +275,15 @@ uint32_t rvstm_state(rvstm_session *session);
 /**@}*/
 
 /**
- * Returns the length of the answer to the last request.
+ * Returns the length of the answer to the last request. Takes no memory.
  * @param session  any
  * @return the number of its bytes; 0 before the first request, if it was refused or failed, and if the session is not open
  */
 size_t rvstm_answer_length(rvstm_session *session);
 
 /**
- * Copies the answer to the last request to the beginning of the caller's buffer. No zero is added, and the rest of the buffer
- * stays as it was. The answer stays, and may be copied again.
+ * Copies the answer to the last request to the beginning of the caller's buffer. No zero is added, and the rest of the buffer stays
+ * as it was. The answer stays, and may be copied again. Takes no memory, and time in proportion to the answer.
  * @param session        an open one
  * @param buffer         the caller's bytes
  * @param buffer_length  their number
@@ -285,7 +294,7 @@ size_t rvstm_answer_length(rvstm_session *session);
 uint32_t rvstm_answer(rvstm_session *session, uint8_t *buffer, size_t buffer_length);
 
 /**
- * Copies the parts of the refusal or failure of the last request; zeros if it is done.
+ * Copies the parts of the refusal or failure of the last request; zeros if it is done. Takes no memory.
  * @param session  an open one
  * @param parts    the caller's struct
  * @retval RVSTM_REFUSED  the last request was refused
@@ -296,7 +305,7 @@ uint32_t rvstm_answer(rvstm_session *session, uint8_t *buffer, size_t buffer_len
 uint32_t rvstm_refusal(rvstm_session *session, rvstm_refusal_parts *parts);
 
 /**
- * Closes a session, and frees its memory. It may be opened again.
+ * Closes a session, and frees its memory. It may be opened again. Takes time in proportion to what it frees.
  * @param session  any
  * @retval RVSTM_DONE    it is closed
  * @retval RVSTM_CLOSED  it was not open
@@ -398,7 +407,8 @@ typedef struct {
 } rvstm_result_entries;
 
 /**
- * Loads a program. It may be closed before the blocks that use it.
+ * Loads a program. It may be closed before the blocks that use it. Takes memory for the pages of 4,096 bytes that the segments
+ * fill, and time in proportion to the length of the file.
  * @param image        one whose bytes are zero, or that was closed
  * @param file         the bytes of the program's file
  * @param file_length  their number
@@ -411,7 +421,7 @@ typedef struct {
 uint32_t rvstm_image_open(rvstm_image *image, const uint8_t *file, size_t file_length, rvstm_refusal_parts *parts);
 
 /**
- * Closes an image. Its memory is freed when the last block that uses it is closed.
+ * Closes an image. Its memory is freed when the last block that uses it is closed. Takes no memory.
  * @param image  any
  * @retval RVSTM_DONE    it is closed
  * @retval RVSTM_CLOSED  it was not open
@@ -419,7 +429,7 @@ uint32_t rvstm_image_open(rvstm_image *image, const uint8_t *file, size_t file_l
 uint32_t rvstm_image_close(rvstm_image *image);
 
 /**
- * Opens a block without calls.
+ * Opens a block without calls. Takes memory for an empty block.
  * @param block  one whose bytes are zero, or that was closed
  * @param rules  1, 2 or 3: the rules of its calls
  * @retval RVSTM_DONE          it is open
@@ -461,7 +471,8 @@ uint32_t rvstm_calls_add(rvstm_block *block, rvstm_image *image, uint32_t gas, c
 uint32_t rvstm_run_go(rvstm_block *block, rvstm_key *key);
 
 /**
- * Answers the key that rvstm_run_go() returned: what the storage has there before the block.
+ * Answers the key that rvstm_run_go() returned: what the storage has there before the block. Takes memory for the key and the
+ * value.
  * @param block         an open one
  * @param present       whether the key has a value; if it has none, the bytes are not read
  * @param value         the bytes of the value
@@ -475,7 +486,7 @@ uint32_t rvstm_run_go(rvstm_block *block, rvstm_key *key);
 uint32_t rvstm_run_base(rvstm_block *block, bool present, const uint8_t *value, size_t value_length);
 
 /**
- * Copies how many entries the result has.
+ * Copies how many entries the result has. Takes no memory.
  * @param block    an open one, after RVSTM_ENDED
  * @param entries  gets the numbers at RVSTM_DONE; otherwise it stays
  * @retval RVSTM_DONE         the numbers were copied
@@ -485,7 +496,7 @@ uint32_t rvstm_run_base(rvstm_block *block, bool present, const uint8_t *value, 
 uint32_t rvstm_result_counts(rvstm_block *block, rvstm_result_entries *entries);
 
 /**
- * Copies what a call did.
+ * Copies what a call did. Takes no memory, and the time of a copy.
  * @param block    an open one, after RVSTM_ENDED
  * @param call     the index of the call, from 0
  * @param receipt  gets it at RVSTM_DONE; otherwise it stays
@@ -498,6 +509,7 @@ uint32_t rvstm_result_receipt(rvstm_block *block, size_t call, rvstm_receipt *re
 
 /**
  * Copies what a call returned or reverted with to the beginning of a buffer. No zero is added, and the rest of the buffer stays.
+ * Takes no memory, and the time of a copy.
  * @param block          an open one, after RVSTM_ENDED
  * @param call           the index of the call, from 0
  * @param buffer         the caller's bytes; 256 are always enough
@@ -511,7 +523,7 @@ uint32_t rvstm_result_receipt(rvstm_block *block, size_t call, rvstm_receipt *re
 uint32_t rvstm_result_output(rvstm_block *block, size_t call, uint8_t *buffer, size_t buffer_length);
 
 /**
- * Copies a write of a call. The writes of a call are in the order of their keys.
+ * Copies a write of a call. The writes of a call are in the order of their keys. Takes no memory, and the time of a copy.
  * @param block  an open one, after RVSTM_ENDED
  * @param call   the index of the call, from 0
  * @param index  the index of the write, from 0
@@ -525,7 +537,7 @@ uint32_t rvstm_result_write(rvstm_block *block, size_t call, size_t index, rvstm
 
 /**
  * Copies a change of the block: what it leaves at one of the keys that its calls wrote. The changes are in the order of their keys,
- * and added amounts are resolved. Make exactly these changes of your storage.
+ * and added amounts are resolved. Make exactly these changes of your storage. Takes no memory, and the time of a copy.
  * @param block   an open one, after RVSTM_ENDED
  * @param index   the index of the change, from 0
  * @param change  gets it at RVSTM_DONE; otherwise it stays
@@ -537,7 +549,7 @@ uint32_t rvstm_result_write(rvstm_block *block, size_t call, size_t index, rvstm
 uint32_t rvstm_result_change(rvstm_block *block, size_t index, rvstm_change *change);
 
 /**
- * Closes a block at any stage, and frees its memory. It may be opened again.
+ * Closes a block at any stage, and frees its memory. It may be opened again. Takes time in proportion to what it frees.
  * @param block  any
  * @retval RVSTM_DONE    it is closed
  * @retval RVSTM_CLOSED  it was not open

@@ -16,7 +16,7 @@ from rvstm_developers.commands.built import OF_LIBRARY, PROGRAM, are_noted
 EXAMPLES = TOP / "examples"
 COUNTER, LOCK, TOKEN = (EXAMPLES / name for name in ("counter", "lock", "token"))
 KEY = f"{1:064x}"
-# README has this text, and says by hand what it means.
+# By hand: each of three calls adds 1 to the number at key 1.
 COUNTED = f"""\
 call 0 returned gas 639 pc 00010034 out -
 regs 00000000 00000000 00110000 ..

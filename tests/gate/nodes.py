@@ -14,7 +14,7 @@ from pathlib import Path
 
 from gate.calls import command
 from gate.outside import last_lines
-from gate.runner import CONTRACTS, TOP, Case, Lacks, Run, holds, same
+from gate.runner import CONTRACTS, TOP, Case, Run, Tool, holds, same
 from rvstm_developers.models.sessions import NO_DIGEST, SessionModel
 from rvstm_tools.programs.running import Program
 from rvstm_tools.sessions import answers, requests
@@ -152,8 +152,6 @@ def from_a_file(run: Run) -> None:
 
 
 def signed_calls(run: Run, tests: str) -> None:
-    if command([PYTHON, "-c", "import cryptography"]).status:
-        raise Lacks("python3-cryptography")
     more = {"RVSTM": str(run.program), "PYTHONDONTWRITEBYTECODE": "1"}
     done = command([PYTHON, "-m", "unittest", tests], NODE, more=more)
     holds(done.status == 0, last_lines(done.errors), "OK")
@@ -177,12 +175,12 @@ def cases() -> list[Case]:
     return [
         Case("node: from a dump", from_a_dump, cost=2),
         Case("node: from a file", from_a_file, cost=8),
-        Case("node: signed calls", partial(signed_calls, tests="test_node.SignedCalls"), cost=20),
-        Case("node: strangers", partial(signed_calls, tests="test_node.Strangers"), cost=20),
-        Case("node: pages", partial(signed_calls, tests="test_node.Pages"), cost=10),
-        Case("node: kills", partial(signed_calls, tests="test_node.Kills"), cost=20),
-        Case("node: failures", partial(signed_calls, tests="test_node.Failures"), cost=20),
-        Case("node: payments", partial(signed_calls, tests="test_pay"), cost=10),
+        Case("node: signed calls", partial(signed_calls, tests="test_node.SignedCalls"), (Tool.CRYPTOGRAPHY,), cost=20),
+        Case("node: strangers", partial(signed_calls, tests="test_node.Strangers"), (Tool.CRYPTOGRAPHY,), cost=20),
+        Case("node: pages", partial(signed_calls, tests="test_node.Pages"), (Tool.CRYPTOGRAPHY,), cost=10),
+        Case("node: kills", partial(signed_calls, tests="test_node.Kills"), (Tool.CRYPTOGRAPHY,), cost=20),
+        Case("node: failures", partial(signed_calls, tests="test_node.Failures"), (Tool.CRYPTOGRAPHY,), cost=20),
+        Case("node: payments", partial(signed_calls, tests="test_pay"), (Tool.CRYPTOGRAPHY,), cost=10),
         Case("node: its contract built again", coins_built_again, CONTRACTS),
         Case("node: its lines", few_lines),
     ]

@@ -1,8 +1,9 @@
 """The blocks of the pages that have a command and its output: each is run, and what it prints is compared.
 
-In a block the lines that begin with `$ ` are commands, and those after a command are what it prints. `..` matches what is cut: some
-text of a line, or, if it is the whole line, any number of lines. A block that begins with `cd` begins in the folder that has the
-examples; any other one continues in the folder of the block before it. A block after a comment `<!-- not run: WHY -->` is not run.
+In a block the lines that begin with `$ ` are commands, and those after a command are what it prints. `..` and `[...]` match what is
+cut: some text of a line, or, if it is the whole line, any number of lines. A block that begins with `cd` begins in the folder that has
+the examples; any other one continues in the folder of the block before it. A block after a comment `<!-- not run: WHY -->` is not run.
+A comment `<!-- the page needs: TOOLS -->` is of all blocks of its page.
 """
 
 import dataclasses
@@ -18,6 +19,7 @@ from gate.runner import TOP, Case, Differs, Lacks, Run, Tool, shown
 
 PROMPT = "$ "
 MARKER = re.compile(r"<!-- (not run|needs): (.+) -->")
+OF_PAGE = re.compile(r"^<!-- the page needs: (.+) -->$", re.M)
 REASONS = ("the network", "root", "an editor", "a compiler that may be missing", "more than 20 seconds")
 BUILT = "the built program"
 MOST_MARKED = 5
@@ -25,7 +27,8 @@ MOST_MARKED = 5
 SECONDS_A_BLOCK = 20
 COPIED = ("examples",)
 """What commands of pages write into; the rest is the checkout's."""
-CUT = ".."
+CUT, CLEAR_CUT = "..", "[...]"
+"""What is cut; the second is clear if a tool prints the first."""
 
 
 @dataclass(frozen=True)
@@ -108,6 +111,17 @@ def marker_before(lines: Sequence[str], number: int) -> tuple[str, str]:
     return (found[1], found[2]) if found else ("", "")
 
 
+def tools_of(words: Sequence[str]) -> tuple[Tool, ...]:
+    """The tools that a comment names."""
+    return tuple(tool for tool in Tool if tool.name.lower() in words)
+
+
+def needs_of_page(text: str) -> tuple[Tool, ...]:
+    """The tools that all blocks of a page need."""
+    found = OF_PAGE.search(text)
+    return tools_of(found[1].split(", ")) if found else ()
+
+
 def blocks_of(page: str, text: str) -> list[PageBlock]:
     """The blocks of a page that have a command and its output, and those with a command alone that such blocks continue."""
     lines, found = text.splitlines(), []
@@ -115,8 +129,7 @@ def blocks_of(page: str, text: str) -> list[PageBlock]:
         if any(line.startswith(PROMPT) for line in block):
             kind, value = marker_before(lines, number)
             words = value.split(", ") if kind == "needs" else []
-            tools = tuple(tool for tool in Tool if tool.name.lower() in words)
-            found.append(PageBlock(page, number, steps_of(block), value if kind == "not run" else "", tools, BUILT in words))
+            found.append(PageBlock(page, number, steps_of(block), value if kind == "not run" else "", tools_of(words), BUILT in words))
     return found
 
 
@@ -129,7 +142,7 @@ def line_pattern(line: str) -> str:
 
 def first_difference(wanted: Sequence[str], came: Sequence[str]) -> str:
     """How lines that came differ from those of a page; empty if they do not."""
-    wanted, came = trimmed(wanted), trimmed(came)
+    wanted, came = trimmed([line.replace(CLEAR_CUT, CUT) for line in wanted]), trimmed(came)
     reached = {0}  # how many lines of `came` the lines of the page so far can match
     for number, line in enumerate(wanted):
         if line.strip() == CUT:
@@ -253,15 +266,16 @@ def counted(run: Run, pages: dict[str, list[PageBlock]]) -> None:
 def cases() -> list[Case]:
     """A case for each page that has blocks, and one that counts them all."""
     pages: dict[str, list[PageBlock]] = {}
+    needs: dict[str, tuple[Tool, ...]] = {}
     for file in page_files():
-        name = str(file.relative_to(TOP))
-        found = blocks_of(name, file.read_text(encoding="utf-8"))
+        name, text = str(file.relative_to(TOP)), file.read_text(encoding="utf-8")
+        found = blocks_of(name, text)
         if found:
-            pages[name] = found
+            pages[name], needs[name] = found, needs_of_page(text)
 
-    def of(blocks: list[PageBlock]) -> Case:
+    def of(name: str, blocks: list[PageBlock]) -> Case:
         most = 1 + sum(not block.reason for block in blocks)
-        return Case(f"pages: {blocks[0].page}", lambda run: run_page(run, blocks), seconds=SECONDS_A_BLOCK * most, cost=3.0 * most)
+        return Case(f"pages: {name}", lambda run: run_page(run, blocks), needs[name], seconds=SECONDS_A_BLOCK * most, cost=3.0 * most)
 
-    runnable = [of(blocks) for blocks in pages.values() if any(not block.reason for block in blocks)]
+    runnable = [of(name, blocks) for name, blocks in pages.items() if any(not block.reason for block in blocks)]
     return [Case("pages: blocks and marks", lambda run: counted(run, pages)), *runnable]

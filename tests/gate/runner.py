@@ -41,6 +41,7 @@ class Tool(enum.Enum):
     CARGO = ("cargo", ("/usr/bin/cargo", "--version"), "")
     RUSTC = ("rustc", ("/usr/bin/rustc", "--version"), "")
     VALGRIND = ("valgrind", ("valgrind", "--version"), "")
+    CRYPTOGRAPHY = ("python3-cryptography", ("/usr/bin/python3", "-c", "import cryptography"), "")
     GCC = ("riscv64-unknown-elf-gcc 12.2.0", ("riscv64-unknown-elf-gcc", "--version"), "12.2.0")
 
     def __init__(self, label: str, asks: tuple[str, ...], version: str) -> None:
@@ -300,7 +301,7 @@ def parser() -> argparse.ArgumentParser:
     )
     made.add_argument("program", nargs="?", type=Path, metavar="PROGRAM", help="the built program")
     made.add_argument("--preview", action="store_true", help="the unproved program, which is made first if it is not there")
-    made.add_argument("--only", metavar="WORD", default="", help="the cases alone whose names have this")
+    made.add_argument("--only", metavar="WORD", default="", help="run only cases whose name contains WORD")
     made.add_argument("--jobs", type=int, metavar="N", help="so many cases at once (one for each processor)")
     made.add_argument("--seed", type=int, metavar="N", help="of what is made at random; it is printed")
     made.add_argument("--times", action="store_true", help="print each case with its time")

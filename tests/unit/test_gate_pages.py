@@ -61,6 +61,11 @@ class BlocksTest(unittest.TestCase):
         self.assertEqual(self.blocks[2].needs, (Tool.CLANG, Tool.LLVM))
         self.assertEqual([block.needs_speed for block in self.blocks], [False, False, True])
 
+    def test_of_page(self) -> None:
+        """What all blocks of a page need; the comment of one block is not that."""
+        self.assertEqual(pages.needs_of_page(f"# Page\n\n<!-- the page needs: clang, cryptography -->\n\n{PAGE}"), (Tool.CLANG, Tool.CRYPTOGRAPHY))
+        self.assertEqual(pages.needs_of_page(PAGE), ())
+
 
 class DifferenceTest(unittest.TestCase):
     def same(self, wanted: str, came: str) -> None:
@@ -81,6 +86,8 @@ class DifferenceTest(unittest.TestCase):
         self.same("write 0 00..01 ..", "write 0 000001 02")
         self.differs("regs 0 ..", "regs 1 0", "came regs 1 0")
         self.differs("a.c", "abc", "came abc")
+        self.same("seq [...] end", "seq 1 .. 2 end")
+        self.differs("seq [...] end", "run 1 end", "came run 1 end")
 
     def test_cut_lines(self) -> None:
         """A line `..` matches any lines, or none; what follows it may come late."""
@@ -90,6 +97,7 @@ class DifferenceTest(unittest.TestCase):
         self.same("..|b|..", "a|b|c")
         self.differs("a|..|z", "a|b", "came b; wanted z")
         self.differs("..|b", "b|c", "came c after the last line")
+        self.same("a|[...]|z", "a|b|z")
 
     def test_nothing(self) -> None:
         """A command that a page shows nothing of prints nothing."""

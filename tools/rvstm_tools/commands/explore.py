@@ -131,7 +131,7 @@ COMMAND = Command(
         options.JOBS,
         argument("file", metavar="FILE", help="a description"),
         argument(
-            "--calls", type=options.count, metavar="N", help=f"how many are made at most ({MOST_CALLS:,}; with --seconds as many as come)",
+            "--calls", type=options.count, metavar="N", help=f"maximum number of calls ({MOST_CALLS:,}; with --seconds as many as come)",
         ),
         argument(
             "--seconds", type=options.positive, metavar="N",

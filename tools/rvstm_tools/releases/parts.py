@@ -16,7 +16,7 @@ CHANGES = "CHANGELOG.md"
 PAGES = {
     "rvstm": ("README.md", CHANGES, "docs/formats.md", "docs/messages.md", "docs/operators.md", "docs/glossary.md"),
     "librvstm-dev": ("docs/embedding.md",),
-    "rvstm-sdk": ("docs/contracts.md", "docs/assembly.md", "docs/debugging.md"),
+    "rvstm-sdk": ("docs/tutorial.md", "docs/contracts.md", "docs/assembly.md", "docs/debugging.md"),
 }
 PROVED = {"rvstm": Product.PROGRAM, "librvstm-dev": Product.ARCHIVE}
 OF_LIBRARY = ("examples/embed/", "examples/state/")
