@@ -23,6 +23,7 @@ class Tool(enum.Enum):
     LIBSQLITE = ("libsqlite3-dev", ("cc", "-E", "-include", "sqlite3.h", "-xc", "/dev/null"), "")
     LIBLMDB = ("liblmdb-dev", ("cc", "-E", "-include", "lmdb.h", "-xc", "/dev/null"), "")
     ETCD = ("etcd", ("etcd", "--version"), "")
+    ETCDCTL = ("etcdctl", ("etcdctl", "version"), "")
     GDB = ("gdb-multiarch 13", ("gdb-multiarch", "--version"), "13.")
     CARGO = ("cargo", ("/usr/bin/cargo", "--version"), "")
     RUSTC = ("rustc", ("/usr/bin/rustc", "--version"), "")
