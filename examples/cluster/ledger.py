@@ -17,7 +17,7 @@ import json
 import re
 import secrets
 import sys
-from collections.abc import Callable, Container, Iterable, Iterator, Sequence
+from collections.abc import Callable, Iterable, Iterator, Sequence
 from dataclasses import dataclass
 from pathlib import Path
 from typing import NamedTuple
@@ -25,6 +25,7 @@ from typing import NamedTuple
 sys.path.append(str(Path(__file__).resolve().parents[2] / "tools"))
 from rvstm_tools.errors import UserError
 from rvstm_tools.sessions import frames
+from rvstm_tools.texts.blocks import MOST_PROGRAMS
 
 import etcd
 from etcd import Etcd, Pair
@@ -117,10 +118,11 @@ class Log:
         key = PROGRAMS + frames.name_of(file).encode()
         self.client.transact([etcd.is_at(key, 0)], [etcd.put(key, bounded(file))])
 
-    def programs(self, block: Pair, known: Container[bytes]) -> Iterator[tuple[bytes, bytes]]:
+    def programs(self, block: Pair, known: set[bytes]) -> Iterator[tuple[bytes, bytes]]:
         """The names and files of programs that a block names, but for known ones. One that was put after the block is
-        none: all nodes find the same, whenever they run it."""
-        for name in sorted({name for name in PROGRAM.findall(block.value) if name not in known}):
+        none: all nodes find the same, whenever they run it. A block that names too many is refused without them."""
+        names = set(PROGRAM.findall(block.value))
+        for name in sorted(names - known) if len(names) <= MOST_PROGRAMS else ():
             found = self.client.read(PROGRAMS + name)
             if found and found.made < block.made and frames.name_of(found.value).encode() == name:
                 yield name, found.value

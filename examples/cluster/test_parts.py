@@ -159,8 +159,10 @@ class TheLog(unittest.TestCase):
         self.log.append(NAMED % one + b"program 1 %s\nprogram 2 %s\nprogram 3 /etc/passwd\n" % (two, late))
         self.log.put_program(b"late")
         [[pair]] = self.log.read(self.log.after(0)[2])
-        self.assertEqual(list(self.log.programs(pair, ())), [(one, b"one")])
+        self.assertEqual(list(self.log.programs(pair, set())), [(one, b"one")])
         self.assertEqual(list(self.log.programs(pair, {one})), [])
+        many = pair._replace(value=pair.value + b"".join(b"program 4 %064x\n" % number for number in range(62)))
+        self.assertEqual(list(self.log.programs(many, set())), [])
 
 
 class Dumps(unittest.TestCase):
