@@ -34,7 +34,7 @@ class Shelf(etcd.Etcd):
     def __init__(self) -> None:
         super().__init__("http://127.0.0.1:1")
         self.pairs, self.revision = dict[bytes, Pair](), 1
-        self.compacted = 0
+        self.compacted = self.refused = 0  # a revision; how many transactions were not done
         self.before: Callable[[], None] | None = None  # runs once, before a transaction
         self.is_lost = False  # the answer of the next transaction that writes
 
@@ -50,6 +50,7 @@ class Shelf(etcd.Etcd):
             before()
         is_done = all(self.holds(one) for one in body["compare"])
         self.revision += 1
+        self.refused += not is_done
         found = [self.does(one) for one in body["success"]] if is_done else []
         if self.is_lost and is_done and any("request_put" in one for one in body["success"]):
             self.is_lost = False
@@ -136,10 +137,11 @@ class TheLog(unittest.TestCase):
         self.assertEqual(keys, [[b"a", b"b"], [b"x", b"y"], [], [b"new"]])
         self.assertEqual(said, ["compacted: reads the log again"])
 
-    def test_two_proposers_append_each_block_once(self) -> None:
+    def test_of_two_proposers_at_once_the_later_tries_again(self) -> None:
         self.shelf.before = lambda: setattr(self.shelf, "before", lambda: self.log.append(b"other"))
         self.log.append(b"mine")
         self.assertEqual([self.shelf.pairs[place.key].value for place in self.log.after(0)[2]], [b"other", b"mine"])
+        self.assertEqual(self.shelf.refused, 1)
 
     def test_a_lost_answer_appends_nothing_twice(self) -> None:
         self.shelf.is_lost = True
@@ -254,8 +256,8 @@ class Said(unittest.TestCase):
         values = [b"", b"\xff", b"200", b"9" * 99, *(sign + OTHER.encode() for sign in (b"200  ", b"+200 ", b"0200 "))]
         for number, value in enumerate(values):
             self.said(b"/newest/v%d" % number, value)
-            self.said(b"/digests/n2/%010d" % (200 + number), value)
-        self.said(b"/newest/n2", f"200 {ONE}".encode())
+            self.said(b"/digests/n%d/0000000200" % number, value)
+            self.said(b"/newest/n%d" % number, f"200 {ONE}".encode())
         for _ in range(2):
             self.node.looked = -math.inf
             self.node.look()
