@@ -176,6 +176,10 @@ class WholeCluster(unittest.TestCase):
         printed = self.command("--name", "twin", "--store", self.cluster.folder / "n1.store")
         self.assertEqual(printed, "node.py: rvstm: store Busy 1\n")
 
+    def test_6_a_name_has_no_slash(self) -> None:
+        for name in ("n1/x", "", "N1", "n-1"):
+            self.assertIn("--name of [a-z0-9]+", self.command("--name", name, "--store", self.cluster.folder / "other"))
+
     def test_7_a_node_that_differs_stops_all_and_the_others_continue_without_it(self) -> None:
         changed = self.cluster.folder / "rvstm"
         changed.write_bytes(self.cluster.rvstm.read_bytes().replace(b"returned", b"Returned"))
