@@ -93,8 +93,8 @@ def dump_in(path: Path) -> Dump:
     text = path.read_bytes()
     place, (head, _, storage) = place_in(text), text.partition(b"\n")
     dump = Dump(place, str(json.loads(head).get("digest")), storage)
-    if dump.text() != text:
-        raise UserError(f"{path}: its SHA-256 is not that of its head")
+    if dump.text() != text or not DIGEST.fullmatch(dump.digest.encode()):
+        raise UserError(f"{path}: a head with another SHA-256, or without a digest")
     return dump
 
 

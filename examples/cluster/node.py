@@ -175,10 +175,10 @@ class Node:
     def run(self) -> None:
         """Runs blocks until the node has to stop; the error says why."""
         for pairs in self.log.batches(self.height, self.say):
+            self.look()
             for pair in pairs:
                 self.run_block(pair)
                 self.look()
-            self.look()
 
 
 def main() -> int:

@@ -182,7 +182,8 @@ class Dumps(unittest.TestCase):
         self.assertEqual(ledger.dump_in(self.path), self.dump)
         head = json.loads(text.split(b"\n")[0])
         self.assertEqual((head["height"], head["digest"]), (3, ONE))
-        for changed in (text + b"\n", text.replace(b"gas 1", b"gas 2"), text.replace(b'"sha256": "', b'"sha256": "0')):
+        changes = (b'"sha256": "', b'"sha256": "0'), (b"gas 1", b"gas 2"), (b" 1\n", b" 1\n\n"), (ONE.encode(), b"1")
+        for changed in (text.replace(*change) for change in changes):
             self.path.write_bytes(changed)
             self.assertRaisesRegex(UserError, "SHA-256", ledger.dump_in, self.path)
         for other in (b"", b"rvblock 2\n", b"[]", b'{"height": 3}', b'{"height": 3, "revision": 1, "key": "no hex"}'):
