@@ -1,255 +1,185 @@
-"""A client for the JSON gateway of etcd, with Python's library alone. etcd 3.4 and later answer /v3/ at their client ports.
+"""A client for the JSON gateway of etcd, with Python's library alone. etcd answers /v3/ at its client ports since 3.4.
 
-Certificates and the user come from the environment, as for etcdctl: ETCDCTL_CACERT, ETCDCTL_CERT, ETCDCTL_KEY, and ETCDCTL_USER,
-which is USER:PASSWORD.
+Certificates and the user come from the environment, as for etcdctl: ETCDCTL_CACERT, ETCDCTL_CERT, ETCDCTL_KEY, and
+ETCDCTL_USER, which is USER:PASSWORD.
 """
 
 import base64
 import http.client
 import json
+import math
 import os
 import ssl
 import time
 import urllib.parse
-from collections.abc import Callable, Iterable, Iterator
+from collections.abc import Callable, Iterator, Sequence
 from typing import Any, NamedTuple
 
 from rvstm_tools.errors import UserError
 
-SECONDS_A_REQUEST = 5
-SECONDS_BETWEEN_TRIES = 0.05
-SECONDS_UNTIL_SAID = 30
-BYTES_AT_ONCE = 1 << 20  # of a watch
-TOKEN_IS_OLD = 16
-# gRPC's codes after which another member, or the same one later, may answer
-MAY_ANSWER_LATER = (1, 4, 8, 13, 14, TOKEN_IS_OLD)
-FAULTS_OF_A_LINE = (OSError, http.client.HTTPException, json.JSONDecodeError)
-
-Object = dict[str, Any]
-"""An object of JSON."""
-Line = http.client.HTTPConnection
-"""A connection with a member."""
+SECONDS_A_REQUEST, SECONDS_BETWEEN_TRIES, SECONDS_UNTIL_SAID = 5, 0.1, 30
+MAY_ANSWER_LATER = (1, 4, 8, 13, 14, 16)
+"""gRPC's codes after which another member, or the same one later, may answer; 16 is for a token that is too old."""
+FAULTS = (OSError, http.client.HTTPException, ValueError)  # of a connection, and of an answer that is cut
+Object = dict[str, Any]  # of JSON
 
 
-class Refused(UserError):
+class RefusedError(UserError):
     """A request that etcd refuses, with gRPC's code."""
 
-    def __init__(self, code: int, text: str) -> None:
-        super().__init__(f"etcd: {text} ({code})")
-        self.code = code
+    def __init__(self, reply: Object) -> None:
+        self.code = int(reply.get("code", 0))
+        super().__init__(f"etcd: {reply.get('error', 'no reason given')} ({self.code})")
 
 
-class NoAnswer(UserError):
-    """No member answered within the time that a client waits."""
-
-
-class Compacted(Exception):
-    """A watch began at a revision that etcd has compacted away."""
+class CompactedError(Exception):
+    """A revision that etcd has compacted away."""
 
 
 class Pair(NamedTuple):
-    """A key with its value, the revisions at which it was made and last changed, and its lease, 0 for none."""
+    """A key with its value, and the revisions at which it was made and last changed."""
 
-    key: str
+    key: bytes
     value: bytes
     made: int
     changed: int
-    lease: int
 
 
-def pack(data: str | bytes) -> str:
-    return base64.b64encode(data if isinstance(data, bytes) else data.encode()).decode()
+class Reply(NamedTuple):
+    """Whether the comparisons of a transaction held, the pairs that each of its requests read, and etcd's revision."""
+
+    is_done: bool
+    read: list[list[Pair]]
+    revision: int
 
 
-def unpack(text: str) -> bytes:
-    return base64.b64decode(text)
+def packed(data: bytes) -> str:
+    return base64.b64encode(data).decode()
 
 
-def pair_of(reply: Object) -> Pair:
-    key = unpack(reply["key"]).decode("ascii", "backslashreplace")
-    numbers = (int(reply.get(word, 0)) for word in ("create_revision", "mod_revision", "lease"))
-    return Pair(key, unpack(reply.get("value", "")), *numbers)
+def pair_of(given: Object) -> Pair:
+    key, value = (base64.b64decode(given.get(word, "")) for word in ("key", "value"))
+    return Pair(key, value, int(given["create_revision"]), int(given["mod_revision"]))
 
 
-def after(prefix: str) -> str:
-    """The first key after all keys that begin with a prefix."""
-    return prefix[:-1] + chr(ord(prefix[-1]) + 1)
+def one(key: bytes) -> Object:
+    return {"key": packed(key)}
 
 
-def keys(first: str, last: str | None = None, **options: object) -> Object:
-    """A key, or the keys from one up to and without another."""
-    return {"key": pack(first), **({"range_end": pack(last)} if last else {}), **options}
+def below(prefix: bytes) -> Object:
+    """All keys that begin with a prefix, whose last byte is not 255."""
+    return {"key": packed(prefix), "range_end": packed(prefix[:-1] + bytes([prefix[-1] + 1]))}
 
 
-def below(prefix: str, **options: object) -> Object:
-    return keys(prefix, after(prefix), **options)
+def get(wanted: Object, *, keys_only: bool = False) -> Object:
+    return {"request_range": {**wanted, "keys_only": keys_only}}
 
 
-def put(key: str, value: str | bytes, lease: int = 0) -> Object:
-    return {"request_put": {"key": pack(key), "value": pack(value), "lease": lease}}
-
-
-def keep(key: str) -> Object:
-    """Frees a key from its lease, and keeps its value. The key must be there."""
-    return {"request_put": {"key": pack(key), "ignore_value": True}}
-
-
-def read(wanted: Object) -> Object:
-    return {"request_range": wanted}
+def put(key: bytes, value: bytes, lease: int = 0) -> Object:
+    return {"request_put": {"key": packed(key), "value": packed(value), "lease": lease}}
 
 
 def delete(wanted: Object) -> Object:
     return {"request_delete_range": wanted}
 
 
-def is_absent(key: str) -> Object:
-    return {"key": pack(key), "target": "CREATE", "result": "EQUAL", "create_revision": 0}
-
-
-def is_there(key: str) -> Object:
-    return {"key": pack(key), "target": "CREATE", "result": "GREATER", "create_revision": 0}
-
-
-def pairs_of(reply: Object) -> list[Pair]:
-    return [pair_of(pair) for pair in reply.get("kvs", [])]
-
-
-def pairs_read(reply: Object) -> list[list[Pair]]:
-    """The pairs of each read of a transaction."""
-    return [pairs_of(answer.get("response_range", {})) for answer in reply.get("responses", [])]
-
-
-def context() -> ssl.SSLContext:
-    """The certificates for TLS."""
-    made = ssl.create_default_context(cafile=os.environ.get("ETCDCTL_CACERT"))
-    if os.environ.get("ETCDCTL_CERT"):
-        made.load_cert_chain(os.environ["ETCDCTL_CERT"], os.environ.get("ETCDCTL_KEY"))
-    return made
+def is_at(key: bytes, revision: int) -> Object:
+    """Whether a key was last changed at this revision; 0 if it is absent."""
+    return {"key": packed(key), "target": "MOD", "result": "EQUAL", "mod_revision": revision}
 
 
 class Etcd:
     """Asks one member, and the next one if it does not answer. For one thread at a time."""
 
-    def __init__(self, urls: str | Iterable[str], patience: float = 30) -> None:
-        self.urls = urls.split(",") if isinstance(urls, str) else list(urls)
-        self.patience = patience
-        self.line: Line | None = None
-        self.token: str | None = None
-        self.say: Callable[[str], None] = lambda text: None  # gets a line if no member answers for a while
+    def __init__(self, urls: str, patience: float = math.inf, say: Callable[[str], None] = print) -> None:
+        """`patience` is how many seconds it waits for an answer; `say` gets a line now and then meanwhile."""
+        self.urls, self.patience, self.say = urls.split(","), patience, say
+        self.connection: http.client.HTTPConnection | None = None
+        self.token = ""
 
     def ask(self, path: str, body: Object) -> Object:
-        """The answer of the first member that gives one. A request may be carried out more than once, or later: make only requests
-        for which that does no harm."""
-        now = time.monotonic()
-        until, to_say = now + self.patience, now + SECONDS_UNTIL_SAID
+        """The first answer that a member gives. The request may be carried out twice: that has to do no harm."""
+        began = said = time.monotonic()
         while True:
             try:
-                return self.ask_once(path, body)
-            except (*FAULTS_OF_A_LINE, Refused) as error:
-                now = time.monotonic()
-                if isinstance(error, Refused) and error.code not in MAY_ANSWER_LATER:
+                self.connection = line = self.connection or self.connected(SECONDS_A_REQUEST)
+                return posted(line, path, body, self.headers(line))
+            except (*FAULTS, RefusedError) as error:
+                now, fault = time.monotonic(), f"no member of etcd answers: {error}"
+                if isinstance(error, RefusedError) and error.code not in MAY_ANSWER_LATER:
                     raise
-                if isinstance(error, Refused) and error.code == TOKEN_IS_OLD:
-                    self.token = None
-                if now > until:
-                    raise NoAnswer(f"no member of etcd answers: {error}") from error
-                if now > to_say:
-                    self.say(f"no member of etcd answers: {error}")
-                    to_say = now + SECONDS_UNTIL_SAID
-                self.turn()
-                time.sleep(SECONDS_BETWEEN_TRIES)
+            if now - began > self.patience:
+                raise UserError(fault)
+            if now - said > SECONDS_UNTIL_SAID:
+                self.say(fault)
+                said = now
+            self.turn()
+            self.token = ""
+            time.sleep(SECONDS_BETWEEN_TRIES)
 
-    def ask_once(self, path: str, body: Object) -> Object:
-        self.line = line = self.line or self.connection(SECONDS_A_REQUEST)
-        line.request("POST", f"/v3/{path}", json.dumps(body), self.headers())
-        answer = line.getresponse()
-        reply: Object = json.loads(answer.read())
-        if answer.status != 200:
-            raise Refused(reply.get("code", 0), reply.get("error", "no reason given"))
-        return reply
-
-    def connection(self, seconds: float) -> Line:
+    def connected(self, seconds: float) -> http.client.HTTPConnection:
+        """A connection with the first member of the list."""
         url = urllib.parse.urlsplit(self.urls[0])
-        assert url.hostname is not None
-        if url.scheme == "https":
-            return http.client.HTTPSConnection(url.hostname, url.port, timeout=seconds, context=context())
-        return http.client.HTTPConnection(url.hostname, url.port, timeout=seconds)
+        if url.scheme != "https":
+            return http.client.HTTPConnection(url.hostname or "", url.port, timeout=seconds)
+        context = ssl.create_default_context(cafile=os.environ.get("ETCDCTL_CACERT"))
+        if certificate := os.environ.get("ETCDCTL_CERT"):
+            context.load_cert_chain(certificate, os.environ.get("ETCDCTL_KEY"))
+        return http.client.HTTPSConnection(url.hostname or "", url.port, timeout=seconds, context=context)
 
-    def headers(self) -> dict[str, str]:
+    def headers(self, line: http.client.HTTPConnection) -> dict[str, str]:
         """The token of the user, if there is one."""
-        user, _, password = os.environ.get("ETCDCTL_USER", "").partition(":")
-        if not user:
-            return {}
-        if self.token is None:
-            assert self.line is not None
-            self.line.request("POST", "/v3/auth/authenticate", json.dumps({"name": user, "password": password}))
-            reply = json.loads(self.line.getresponse().read())
-            if "token" not in reply:
-                raise Refused(reply.get("code", 0), reply.get("error", "no token"))
-            self.token = str(reply["token"])
-        return {"Authorization": self.token}
+        name, _, password = os.environ.get("ETCDCTL_USER", "").partition(":")
+        if name and not self.token:
+            self.token = str(posted(line, "auth/authenticate", {"name": name, "password": password}, {})["token"])
+        return {"Authorization": self.token} if name else {}
 
     def turn(self) -> None:
         """Continues with the next member."""
-        if self.line is not None:
-            self.line.close()
-        self.line = None
+        if self.connection:
+            self.connection.close()
+        self.connection = None
         self.urls.append(self.urls.pop(0))
 
-    def range(self, wanted: Object) -> tuple[int, list[Pair]]:
-        """The revision of the answer, and the pairs."""
-        reply = self.ask("kv/range", wanted)
-        return int(reply["header"]["revision"]), pairs_of(reply)
+    def transact(self, compare: Sequence[Object], success: Sequence[Object]) -> Reply:
+        reply = self.ask("kv/txn", {"compare": [*compare], "success": [*success]})
+        found = [answer["response_range"] for answer in reply.get("responses", []) if "response_range" in answer]
+        read = [[pair_of(pair) for pair in one.get("kvs", [])] for one in found]
+        return Reply(reply.get("succeeded", False), read, int(reply["header"]["revision"]))
 
-    def get(self, key: str) -> Pair | None:
-        return next(iter(self.range(keys(key))[1]), None)
+    def read(self, key: bytes) -> Pair | None:
+        found = self.transact([], [get(one(key))]).read[0]
+        return found[0] if found else None
 
-    def need(self, key: str) -> Pair:
-        """The pair of a key that is there."""
-        pair = self.get(key)
-        if pair is None:
-            raise UserError(f"{key} is not in etcd")
-        return pair
-
-    def count(self, prefix: str) -> int:
-        return int(self.ask("kv/range", below(prefix, count_only=True)).get("count", 0))
-
-    def transact(self, compare: Iterable[Object], success: Iterable[Object], failure: Iterable[Object] = ()) -> tuple[bool, Object]:
-        """Whether all comparisons held, and the answer."""
-        reply = self.ask("kv/txn", {"compare": list(compare), "success": list(success), "failure": list(failure)})
-        return reply.get("succeeded", False), reply
-
-    def watch(self, prefix: str, revision: int, quiet: float) -> Iterator[list[Pair]]:
-        """What is put below a prefix from a revision on: a list of the pairs that came meanwhile, again and again. It ends if nothing
-        came for some seconds, or if the member is gone. The caller then watches from the last pair on, with the next member."""
+    def watch(self, prefix: bytes, revision: int, quiet: float) -> Iterator[list[Pair]]:
+        """What is put below a prefix from a revision on: lists of the pairs of whole revisions. It ends if nothing came
+        for some seconds, or if the watch is cut: the caller then watches on, by the next member."""
         self.turn()
-        self.line = line = self.connection(quiet)
-        setattr(line, "_http_vsn", 10)
-        setattr(line, "_http_vsn_str", "HTTP/1.0")  # has no chunks, so one read gets all that came
+        line, held = self.connected(quiet), list[Pair]()
+        wanted = {**below(prefix), "start_revision": revision, "filters": ["NODELETE"], "fragment": True}
         try:
-            wanted = {**below(prefix), "start_revision": revision, "filters": ["NODELETE"], "fragment": True}
-            line.request("POST", "/v3/watch", json.dumps({"create_request": wanted}), self.headers())
-            answer, rest = line.getresponse(), b""
-            while data := answer.read1(BYTES_AT_ONCE):
-                *lines, rest = (rest + data).split(b"\n")
-                reply = [json.loads(text) for text in lines]
-                if pairs := [pair_of(event["kv"]) for one in reply for event in one.get("result", {}).get("events", [])]:
-                    yield pairs
-                if any(self.is_ended(one) for one in reply):
-                    return
+            line.request("POST", "/v3/watch", json.dumps({"create_request": wanted}), self.headers(line))
+            for text in line.getresponse():
+                reply = json.loads(text)["result"]
+                if "compact_revision" in reply:
+                    raise CompactedError(f"revision {revision} is compacted, up to {reply['compact_revision']}")
+                held += [pair_of(event["kv"]) for event in reply.get("events", [])]
+                if held and not reply.get("fragment"):  # a revision may be in several fragments
+                    yield held
+                    held = []
         except TimeoutError:
             pass
-        except FAULTS_OF_A_LINE:
+        except (*FAULTS, KeyError, RefusedError):
+            self.token = ""
             time.sleep(SECONDS_BETWEEN_TRIES)
         finally:
             line.close()
 
-    def is_ended(self, reply: Object) -> bool:
-        """Whether etcd ends a watch with this message."""
-        if "error" in reply:
-            self.token = None
-            return True
-        reply = reply.get("result", {})
-        if int(reply.get("compact_revision", 0)):
-            raise Compacted(int(reply["compact_revision"]))
-        return bool(reply.get("canceled"))
+
+def posted(line: http.client.HTTPConnection, path: str, body: Object, headers: dict[str, str]) -> Object:
+    line.request("POST", f"/v3/{path}", json.dumps(body), headers)
+    answer = line.getresponse()
+    reply: Object = json.loads(answer.read())
+    if answer.status != http.client.OK:
+        raise RefusedError(reply)
+    return reply

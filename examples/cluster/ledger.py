@@ -1,314 +1,186 @@
-"""What all parts of the ledger agree on: its keys in etcd, its log, which blocks a node refuses, and which nodes differ.
+"""What a cluster has in etcd, and the order of its blocks.
 
-    /log/genesis              the first block, which alone may have `store` lines
-    /log/programs/SHA256      a program
-    /log/blocks/NAME/NUMBER   a block of a proposer
-    /parts/NAME/NUMBER/PART   a part of a longer block
-    /settings                 of all sessions, in JSON; put with the genesis
-    /digests/NODE/HEIGHT      the digest of a node's session at a height, and the revision of the block there
-    /dumps/NODE/HEIGHT        the SHA-256 of a node's dump at a height, the digest, and the revision
-    /nodes/NODE               where a node answers by HTTP
-    /pruned                   the last height whose block may be gone from the log, and its revision
+    /log/ANYTHING          a block: the bytes of a frame
+    /last                  the key of the block that was appended last
+    /programs/SHA256       the file of a program
+    /digests/NODE/HEIGHT   the digest of a node's session at a multiple of 100; HEIGHT has ten digits
+    /newest/NODE           its newest height, and the digest there
+    /alive/NODE            there while the node runs, by a lease
+    /trimmed               the head of the dump after which the log begins
 
-The log has the order of the revisions at which its keys were made. The genesis is its first entry; blocks before it do not count.
+The blocks are in the order of the revisions at which their keys were made, then of the keys. Every value is a block: if
+it has no form of one, all sessions refuse it alike. NODE is [a-z0-9]+; other keys count for nothing.
 """
 
 import hashlib
 import json
-import math
 import re
 import secrets
-import zlib
-from collections.abc import Callable, Iterable, Iterator, Mapping, Sequence
+import sys
+from collections.abc import Callable, Iterable, Iterator, Sequence
+from dataclasses import dataclass
+from pathlib import Path
 from typing import NamedTuple
 
-import etcd
-from etcd import Etcd, Object, Pair
-from etcd import below, delete, is_absent, is_there, keep, keys, put, read
+sys.path.append(str(Path(__file__).resolve().parents[2] / "tools"))
 from rvstm_tools.errors import UserError
+from rvstm_tools.sessions import frames
+from rvstm_tools.texts.blocks import MOST_PROGRAMS
 
-LOG, PARTS, DIGESTS, DUMPS, NODES = "/log/", "/parts/", "/digests/", "/dumps/", "/nodes/"
-PRUNED, SETTINGS = "/pruned", "/settings"
-GENESIS, PROGRAMS, BLOCKS = "/log/genesis", "/log/programs/", "/log/blocks/"
-LONGEST_INLINE = 100_000  # bytes of a block in its own entry: entries are watched, and many come in one answer
-LONGEST_PART = 1_000_000  # etcd refuses requests above 1.5 MiB
-MOST_PARTS = 100  # and transactions of more than 128 operations
-MOST_IN_A_TRANSACTION = 100
-SECONDS_OF_PARTS = 30  # how long parts live that no entry names
-SECONDS_OF_QUIET = 1
-PAIRS_A_READ = 32
-NO_DIGEST = "0" * 64
-PLACE = re.compile(r"/(?:digests|dumps)/(.+)/([0-9]{10})")
-HEAD = re.compile(rb"parts((?: [0-9a-f]{64}){0,%d})\n" % MOST_PARTS)
+import etcd
+from etcd import Etcd, Pair
 
-
-class Gone(UserError):
-    """A block that was pruned from the log."""
+LOG, LAST, PROGRAMS, TRIMMED = b"/log/", b"/last", b"/programs/", b"/trimmed"
+DIGESTS, NEWEST, ALIVE = b"/digests/", b"/newest/", b"/alive/"
+NAME, DIGEST = re.compile("[a-z0-9]+"), re.compile(rb"[0-9a-f]{64}")
+SAID = re.compile(rb"(0|[1-9][0-9]{0,9}) ([0-9a-f]{64})")
+PROGRAM = re.compile(rb"^program [0-9]+ ([0-9a-f]{64})$", re.M)
+LONGEST = 1_000_000  # bytes of a block or a program: etcd refuses requests above 1.5 MiB
+PAIRS_A_READ, KEYS_A_DELETION, SECONDS_OF_QUIET = 16, 100, 1
+Said = tuple[int, str]  # the height of a node's session, and the digest there
 
 
-class Mark(NamedTuple):
-    """A height, the digest of the sessions there, and the revision of its block."""
+def digest_key(name: str, height: int) -> bytes:
+    return DIGESTS + f"{name}/{height:010d}".encode()
+
+
+def said_in(pairs: Iterable[Pair]) -> tuple[dict[str, Said], set[bytes]]:
+    """What nodes say is the newest, by their names, and the keys that have another form."""
+    said, strange = dict[str, Said](), set[bytes]()
+    for pair in pairs:
+        name, form = pair.key.removeprefix(NEWEST).decode("latin-1"), SAID.fullmatch(pair.value)
+        if form and NAME.fullmatch(name):
+            said[name] = int(form[1]), form[2].decode()
+        else:
+            strange.add(pair.key)
+    return said, strange
+
+
+class Place(NamedTuple):
+    """The height of a block, and the revision and the key by which it is in the log."""
 
     height: int = 0
-    digest: str = NO_DIGEST
     revision: int = 0
+    key: bytes = b""
 
 
-class AgreedDump(NamedTuple):
-    """A dump on which enough nodes agree: its mark, its SHA-256, and the names of these nodes."""
+@dataclass(frozen=True)
+class Dump:
+    """A storage, its place in the log, and the digest of the session there."""
 
-    mark: Mark
-    content: str
-    names: list[str]
+    place: Place
+    digest: str
+    storage: bytes
 
-
-Values = dict[int, dict[str, str]]
-"""What nodes published, by height and name."""
-
-
-def sha256(data: bytes) -> str:
-    return hashlib.sha256(data).hexdigest()
-
-
-def at(prefix: str, name: str, height: int) -> str:
-    return f"{prefix}{name}/{height:010d}"
+    def text(self) -> bytes:
+        """A line of JSON, then the storage."""
+        head = {"height": self.place.height, "digest": self.digest, "sha256": hashlib.sha256(self.storage).hexdigest()}
+        head |= {"revision": self.place.revision, "key": self.place.key.hex()}
+        return json.dumps(head).encode() + b"\n" + self.storage
 
 
-def by_height(pairs: Iterable[Pair]) -> Values:
-    """The values of digests or dumps, by height and name."""
-    found: Values = {}
-    for pair in pairs:
-        place = PLACE.fullmatch(pair.key)
-        assert place is not None
-        name, height = place.groups()
-        found.setdefault(int(height), {})[name] = pair.value.decode()
-    return dict(sorted(found.items()))
-
-
-def digests(client: Etcd, first: int, last: int) -> Values:
-    """What all nodes published from one height to another, by height and name."""
-    names = [pair.key.removeprefix(NODES) for pair in client.range(below(NODES, keys_only=True))[1]]
-    wanted = [read(keys(at(DIGESTS, name, first), at(DIGESTS, name, last + 1))) for name in names]
-    _, reply = client.transact([], wanted)
-    return by_height(pair for pairs in etcd.pairs_read(reply) for pair in pairs)
-
-
-def different_from(name: str, values: Mapping[str, str]) -> tuple[list[str], bool]:
-    """The nodes that published another value at a height than this one, and whether they are more than half of all."""
-    others = sorted(other for other, value in values.items() if value != values[name])
-    return others, 2 * len(others) > len(values)
-
-
-# ---- entries of the log
-
-
-def parts_of_key(key: str) -> str:
-    """What the keys of a block's parts begin with."""
-    return PARTS + key.removeprefix(LOG).removeprefix("blocks/") + "/"
-
-
-def is_block(pair: Pair) -> bool:
-    return pair.key == GENESIS or pair.key.startswith(BLOCKS)
-
-
-def pruned(client: Etcd) -> tuple[int, int]:
-    """The height and the revision of the last block that may be gone."""
-    pair = client.get(PRUNED)
-    height, revision = map(int, pair.value.split()) if pair else (0, 0)
-    return height, revision
-
-
-def block_of(client: Etcd, pair: Pair, limit: int) -> bytes | None:
-    """The bytes of a block, or None if the entry has none: all nodes find the same. A limit of 0 is no limit."""
-    head = HEAD.match(pair.value)
-    if not head:
-        return None
-    data: bytes | None = pair.value[head.end() :]
-    unpacked = zlib.decompressobj()
-    if head[1]:
-        data = whole(client, pair, head[1].decode().split())
+def place_in(text: bytes) -> Place:
+    """The place of a dump, or of its head."""
     try:
-        block = unpacked.decompress(data or b"", limit + 1 if limit else 0)
-    except zlib.error:
-        return None
-    return block if unpacked.eof and not unpacked.unused_data and (not limit or len(block) <= limit) else None
+        head = json.loads(text.partition(b"\n")[0])
+        return Place(int(head["height"]), int(head["revision"]), bytes.fromhex(head["key"]))
+    except (ValueError, KeyError, TypeError) as error:
+        raise UserError(f"not the head of a dump: {text[:100]!r}") from error
 
 
-def whole(client: Etcd, pair: Pair, digests: Sequence[str]) -> bytes | None:
-    """The bytes of a block in parts, or None. A part counts if it was made before the entry, and the entry kept it."""
-    parts = []
-    for number, digest in enumerate(digests):
-        part = client.get(f"{parts_of_key(pair.key)}{number:03d}")
-        if part is None and pruned(client)[1] >= pair.made:
-            raise Gone(f"the parts of {pair.key} are gone from the log")
-        if part is None or part.lease or part.made >= pair.made or sha256(part.value) != digest:
-            return None
-        parts.append(part.value)
-    return b"".join(parts)
-
-
-def is_refused(block: bytes, is_genesis: bool) -> bool:
-    """Whether a node refuses a block before its session sees it. All nodes must find the same. `store` lines mint."""
-    return not is_genesis and re.search(rb"^store ", block, re.M) is not None
-
-
-# ---- writers
-
-
-class Proposer:
-    """Appends entries. Each block has its own key, so a block whose answer was lost is not appended twice, and no proposer waits for
-    another. The order is that of etcd's revisions."""
-
-    def __init__(self, name: str, client: Etcd) -> None:
-        self.name, self.client, self.number = f"{name}.{secrets.token_hex(4)}", client, 0
-
-    def put_program(self, file: bytes) -> None:
-        key = PROGRAMS + sha256(file)
-        self.client.transact([is_absent(key)], [put(key, file)])
-
-    def begin(self, block: bytes, settings: Mapping[str, object]) -> bool:
-        """Puts the genesis and the settings. Returns whether none was there before."""
-        return self.put_block(GENESIS, block, [is_absent(SETTINGS)], [put(SETTINGS, json.dumps(settings))])[0]
-
-    def append(self, block: bytes, between: Callable[[], None] = lambda: None) -> int:
-        """Appends a block, and returns its revision."""
-        self.number += 1
-        key = f"{BLOCKS}{self.name}/{self.number:010d}"
-        while True:
-            done, reply = self.put_block(key, block, [is_there(GENESIS)], [], between)
-            if done:
-                return int(reply["header"]["revision"])
-            pair = self.client.get(key)
-            if pair:  # an answer was lost
-                return pair.made
-            if not self.client.get(GENESIS):
-                raise UserError("the log has no genesis: put one with propose --genesis")
-            # otherwise the time of the parts ran out: they are put again
-
-    def put_block(
-        self, key: str, block: bytes, compare: Sequence[Object], beside: Sequence[Object], between: Callable[[], None] = lambda: None
-    ) -> tuple[bool, Object]:
-        data = zlib.compress(block, 1)
-        parts = [data[start : start + LONGEST_PART] for start in range(0, len(data), LONGEST_PART)]
-        parts = parts if len(data) > LONGEST_INLINE else []
-        if len(parts) > MOST_PARTS:
-            raise UserError("the block is too long")
-        names = [f"{parts_of_key(key)}{number:03d}" for number in range(len(parts))]
-        lease = int(self.client.ask("lease/grant", {"TTL": SECONDS_OF_PARTS})["ID"]) if parts else 0
-        for name, part in zip(names, parts):
-            self.client.transact([is_absent(key)], [put(name, part, lease)])
-        between()
-        head = " ".join(["parts", *map(sha256, parts)]).encode() + b"\n"
-        success = [put(key, head + (b"" if parts else data)), *map(keep, names), *beside]
-        return self.client.transact([is_absent(key), *compare, *map(is_there, names)], success)
-
-
-# ---- readers
+def dump_in(path: Path) -> Dump:
+    """The dump of a file. One that was changed is refused."""
+    text = path.read_bytes()
+    place, (head, _, storage) = place_in(text), text.partition(b"\n")
+    dump = Dump(place, str(json.loads(head).get("digest")), storage)
+    if dump.text() != text or not DIGEST.fullmatch(dump.digest.encode()):
+        raise UserError(f"{path}: a head with another SHA-256, or without a digest")
+    return dump
 
 
 class Log:
-    """The entries after a revision, in their order, as they come."""
+    def __init__(self, client: Etcd) -> None:
+        self.client = client
 
-    def __init__(self, urls: str | Iterable[str], revision: int) -> None:
-        self.client, self.revision = etcd.Etcd(urls, math.inf), revision
-        self.say: Callable[[str], None] = print
-
-    def batches(self) -> Iterator[list[Pair]]:
-        """Lists of entries; an empty one if none came for a second."""
+    def append(self, block: bytes) -> int:
+        """Appends a block, and returns its revision. After a lost answer its key shows whether it is there."""
+        key = LOG + secrets.token_hex(16).encode()
         while True:
+            last = self.client.read(LAST)
+            compare = [etcd.is_at(LAST, last.changed if last else 0), etcd.is_at(key, 0)]
+            reply = self.client.transact(compare, [etcd.put(LAST, key), etcd.put(key, bounded(block))])
+            if reply.is_done:
+                return reply.revision
+            if found := self.client.read(key):
+                return found.made
+
+    def put_program(self, file: bytes) -> None:
+        key = PROGRAMS + frames.name_of(file).encode()
+        self.client.transact([etcd.is_at(key, 0)], [etcd.put(key, bounded(file))])
+
+    def programs(self, block: Pair, known: set[bytes]) -> Iterator[tuple[bytes, bytes]]:
+        """The names and files of programs that a block names, but for known ones. One that was put after the block is
+        none: all nodes find the same, whenever they run it. A block that names too many is refused without them."""
+        names = set(PROGRAM.findall(block.value))
+        for name in sorted(names - known) if len(names) <= MOST_PROGRAMS else ():
+            found = self.client.read(PROGRAMS + name)
+            if found and found.made < block.made and frames.name_of(found.value).encode() == name:
+                yield name, found.value
+
+    def after(self, height: int) -> tuple[int, Place, list[Place]]:
+        """Etcd's revision, the place at a height, and all after it. A height that is not in the log is an error."""
+        reply = self.client.transact([], [etcd.get(etcd.one(TRIMMED)), etcd.get(etcd.below(LOG), keys_only=True)])
+        trimmed, pairs = reply.read
+        begin = place_in(trimmed[0].value) if trimmed else Place()
+        later = sorted((pair.made, pair.key) for pair in pairs if (pair.made, pair.key) > (begin.revision, begin.key))
+        places = [begin, *(Place(number, *one) for number, one in enumerate(later, begin.height + 1))]
+        at, last = height - begin.height, places[-1].height
+        if not begin.height <= height <= last:
+            raise UserError(f"the session is at height {height}, and the log goes from {begin.height} to {last}")
+        return reply.revision, places[at], places[at + 1 :]
+
+    def read(self, places: Sequence[Place]) -> Iterator[list[Pair]]:
+        """The blocks at some places, which nobody may have removed or changed."""
+        for start in range(0, len(places), PAIRS_A_READ):
+            some = places[start : start + PAIRS_A_READ]
+            found = self.client.transact([], [etcd.get(etcd.one(place.key)) for place in some]).read
+            pairs = [pair for one in found for pair in one]
+            if [(pair.made, pair.changed) for pair in pairs] != [(place.revision, place.revision) for place in some]:
+                raise UserError(f"a block of the heights {some[0].height} to {some[-1].height} was removed or changed")
+            yield pairs
+
+    def batches(self, height: int, say: Callable[[str], None]) -> Iterator[list[Pair]]:
+        """The blocks after a height in their order, as they come; an empty list if none came for a second."""
+        while True:
+            revision, _, places = self.after(height)
+            height += len(places)
+            yield from self.read(places)
             try:
-                for pairs in self.client.watch(LOG, self.revision + 1, SECONDS_OF_QUIET):
-                    changed = [pair.key for pair in pairs if pair.made != pair.changed]
-                    if changed:
-                        self.say(f"uses the old value of {', '.join(changed)}, which was changed")
-                    yield self.checked([pair for pair in pairs if pair.made == pair.changed])
-                yield []
-            except etcd.Compacted as error:
-                self.say(f"watches from revision {self.revision + 1}, and etcd was compacted to {error}: reads the log again")
-                yield from self.read()
+                while True:
+                    for pairs in self.client.watch(LOG, revision + 1, SECONDS_OF_QUIET):
+                        new = [pair for pair in pairs if pair.made == pair.changed]
+                        revision, height = pairs[-1].changed, height + len(new)
+                        yield sorted(new, key=lambda pair: (pair.made, pair.key))
+                    yield []
+            except etcd.CompactedError as error:
+                say(f"{error}: reads the log again")
 
-    def read(self) -> Iterator[list[Pair]]:
-        """The entries that are there now."""
-        wanted = below(LOG, keys_only=True, min_create_revision=self.revision + 1, sort_target="CREATE", sort_order="ASCEND")
-        _, reply = self.client.transact([], [read(wanted), read(keys(PRUNED))])
-        now, (entries, marks) = int(reply["header"]["revision"]), etcd.pairs_read(reply)
-        if marks and int(marks[0].value.split()[1]) > self.revision:
-            raise Gone(f"the log begins after height {int(marks[0].value.split()[0])}")
-        for start in range(0, len(entries), PAIRS_A_READ):
-            names = [pair.key for pair in entries[start : start + PAIRS_A_READ]]
-            _, reply = self.client.transact([], [read(keys(name)) for name in names])
-            pairs = [pair for pairs in etcd.pairs_read(reply) for pair in pairs]
-            if len(pairs) != len(names):
-                raise Gone("blocks were pruned from the log while the node read them")
-            yield self.checked(pairs)
-        self.revision = now
-
-    def checked(self, pairs: list[Pair]) -> list[Pair]:
-        """The entries. Refuses one that was changed since it was made, or made at the revision of another."""
-        for pair in pairs:
-            if pair.made != pair.changed:
-                raise UserError(f"{pair.key} was changed at revision {pair.changed}, and made at {pair.made}")
-            if pair.made <= self.revision:
-                raise UserError(f"{pair.key} was made at revision {pair.made}, as another entry")
-            self.revision = pair.made
-        return pairs
+    def trim(self, dump: Dump) -> int:
+        """Removes the blocks up to a dump, compacts etcd, and returns how many were removed. It may be made again."""
+        place = dump.place
+        if self.after(place.height)[1] != place:
+            raise UserError(f"the log has another block at height {place.height} than the dump")
+        mark = etcd.put(TRIMMED, dump.text().partition(b"\n")[0])
+        reply = self.client.transact([], [mark, etcd.get(etcd.below(LOG), keys_only=True)])
+        gone = [pair.key for pair in reply.read[0] if (pair.made, pair.key) <= (place.revision, place.key)]
+        for start in range(0, len(gone), KEYS_A_DELETION):
+            some = gone[start : start + KEYS_A_DELETION]
+            reply = self.client.transact([], [etcd.delete(etcd.one(key)) for key in some])
+        self.client.ask("kv/compaction", {"revision": reply.revision})
+        return len(gone)
 
 
-def revision_at(client: Etcd, height: int, name: str) -> int | None:
-    """The revision of the block at a height, from the digests of a node and from the log; None if that part of the log is pruned."""
-    known, revision = pruned(client)
-    if height <= known:
-        return revision if height == known else None
-    wanted = keys(at(DIGESTS, name, known), at(DIGESTS, name, height + 1), sort_target="KEY", sort_order="DESCEND", limit=1)
-    _, own = client.range(wanted)
-    if own:
-        place = PLACE.fullmatch(own[0].key)
-        assert place is not None
-        known, revision = int(place[2]), int(own[0].value.split()[1])
-    elif not known:
-        known, revision = int(json.loads(client.need(SETTINGS).value)["as"] == "frame"), client.need(GENESIS).made
-    if height == known:
-        return revision
-    later: Object = {"min_create_revision": revision + 1, "sort_target": "CREATE", "sort_order": "ASCEND", "limit": height - known}
-    _, blocks = client.range(below(BLOCKS, keys_only=True, **later))
-    if len(blocks) < height - known:
-        raise UserError(f"the session is at height {height}, and the log ends at {known + len(blocks)}: it is another log, or an older one")
-    return blocks[-1].made
-
-
-def programs_until(client: Etcd, revision: int) -> list[bytes]:
-    """The files of all programs that were put up to a revision."""
-    _, pairs = client.range(below(PROGRAMS, keys_only=True, max_create_revision=revision, sort_target="CREATE", sort_order="ASCEND"))
-    return [client.need(pair.key).value for pair in pairs]
-
-
-def agreed_dumps(client: Etcd, agreeing: int, own: str = "") -> list[AgreedDump]:
-    """The dumps on which so many nodes agree, or that the node `own` made, the newest first."""
-    found = []
-    for height, made in by_height(client.range(below(DUMPS))[1]).items():
-        values = list(made.values())
-        value = made.get(own) or max(values, key=values.count)
-        names = sorted(name for name in made if made[name] == value)
-        if (len(names) >= agreeing or own in names) and 2 * len(names) > len(made):
-            content, digest, revision = value.split()
-            found.append(AgreedDump(Mark(height, digest, int(revision)), content, names))
-    return found[::-1]
-
-
-def prune(client: Etcd, kept: int, agreeing: int) -> tuple[int, int]:
-    """Keeps the newest dumps on which so many nodes agree, removes what is older, and compacts. Returns the height up to which the
-    log is pruned, and how many blocks were removed. The mark is put before anything is removed."""
-    dumps = agreed_dumps(client, agreeing)
-    if len(dumps) < kept:
-        return pruned(client)[0], 0
-    mark = dumps[kept - 1].mark
-    client.ask("kv/put", put(PRUNED, f"{mark.height} {mark.revision}")["request_put"])
-    _, blocks = client.range(below(BLOCKS, keys_only=True, max_create_revision=mark.revision))
-    gone = [delete(wanted) for pair in blocks for wanted in (keys(pair.key), below(parts_of_key(pair.key)))]
-    names = [pair.key.removeprefix(NODES) for pair in client.range(below(NODES, keys_only=True))[1]]
-    gone += [delete(keys(at(prefix, name, 0), at(prefix, name, mark.height))) for prefix in (DIGESTS, DUMPS) for name in names]
-    gone.append(delete(below(parts_of_key(GENESIS))))
-    for start in range(0, len(gone), MOST_IN_A_TRANSACTION):
-        client.transact([], gone[start : start + MOST_IN_A_TRANSACTION])
-    client.ask("kv/compaction", {"revision": client.range(keys(PRUNED))[0], "physical": True})
-    return mark.height, len(blocks)
+def bounded(data: bytes) -> bytes:
+    if len(data) > LONGEST:
+        raise UserError(f"a block or a program has at most {LONGEST:,} bytes, and this one has {len(data):,}")
+    return data

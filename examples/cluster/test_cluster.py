@@ -1,346 +1,221 @@
-"""Tests of a whole ledger, which need etcd and the program rvstm: python3 -m unittest, in this folder.
+"""Tests of a whole cluster, which need etcd and the program that RVSTM names: python3 -m unittest, in this folder."""
 
-The expected answers come from tools/rvstm_developers/models/sessions.py, which runs each block with `rvstm seq`, and from docs/formats.md.
-"""
-
-import hashlib
-import http.client
+import contextlib
 import os
 import random
-import re
 import shutil
 import signal
 import subprocess
 import sys
 import tempfile
-import time
 import unittest
-from collections.abc import Callable
 from pathlib import Path
 from typing import ClassVar
 
-import transfers  # first: it finds tools/
-import audits
-import clusters
-import engines
+import faults  # first: it finds tools/
 import etcd
 import ledger
+import node
+from faults import Cluster, block, wait
+from ledger import Log
 from rvstm_tools.errors import UserError
+from rvstm_tools.options import ProgramChoice
+from rvstm_tools.programs import finding
 from rvstm_tools.programs.running import Program
-from rvstm_tools.sessions import answers
 from rvstm_tools.sessions.processes import Settings
-from etcd import Object
 from rvstm_tools.sessions.requests import Request, Word
 
-CALLS, BLOCKS = 6, 45
+TOP = Path(__file__).resolve().parents[2]
+UNKNOWN = "1" * 64  # no program has this name
+
+
+def program() -> Path | None:
+    try:
+        return finding.find(ProgramChoice(), finding.home(), os.environ)
+    except UserError:
+        return None
 
 
 def missing() -> str:
-    """What the tests of this file lack; empty if nothing."""
     lacks = [] if shutil.which("etcd") else ["etcd (Debian's package etcd-server)"]
-    try:
-        engines.rvstm()
-    except UserError:
-        lacks.append("the program rvstm (RVSTM names it)")
-    return ", ".join(lacks)
-
-
-def setUpModule() -> None:
-    if missing():
-        print(f"skipped, for want of {missing()}: all tests of test_cluster.py", file=sys.stderr)
-        raise unittest.SkipTest(missing())
-    if "n4" not in clusters.engines_known():
-        print("skipped, for want of the library for C (`rvstm-tools library`): a node with it", file=sys.stderr)
-
-
-def wait(is_so: Callable[[], bool], seconds: float = 120) -> bool:
-    until = time.monotonic() + seconds
-    while not is_so() and time.monotonic() < until:
-        time.sleep(0.05)
-    return is_so()
-
-
-def is_running(pid: int) -> bool:
-    try:
-        return Path(f"/proc/{pid}/stat").read_text(encoding="utf-8").rpartition(")")[2].split()[0] != "Z"
-    except OSError:
-        return False
-
-
-class Forgetful(etcd.Etcd):
-    """A client that loses the first answer to a transaction, which etcd has carried out."""
-
-    has_lost = False
-
-    def ask_once(self, path: str, body: Object) -> Object:
-        reply = super().ask_once(path, body)
-        if path == "kv/txn" and not self.has_lost:
-            self.has_lost = True
-            raise OSError("the answer is lost")
-        return reply
+    return ", ".join(lacks + ([] if program() else ["the program rvstm (RVSTM names it)"]))
 
 
 class Engines(unittest.TestCase):
-    def test_an_engine_ends_with_its_node(self) -> None:
-        code = "import engines, time; from rvstm_tools.sessions.processes import Settings; e = engines.engine(Settings()); print(e.pid, flush=True); time.sleep(60)"
-        with subprocess.Popen([sys.executable, "-c", code], stdout=subprocess.PIPE, cwd=clusters.HERE) as node:
-            assert node.stdout is not None
-            pid = int(node.stdout.readline())
-            self.assertTrue(is_running(pid))
-            node.kill()
-        self.assertTrue(wait(lambda: not is_running(pid)))
+    """The process that runs a node's blocks."""
 
-    def test_an_engine_that_does_not_answer_is_killed(self) -> None:
-        engine = engines.Process(Settings())
-        engine.patience = 0.5
-        os.kill(engine.process.pid, signal.SIGSTOP)
-        self.assertRaises(engines.Ended, engine.ask, Request(Word.STATE))
-        engine.close()
+    def setUp(self) -> None:
+        if not program():
+            self.skipTest("the program rvstm is missing")
+        self.rvstm = str(program())
 
-    def test_a_dead_engine_gives_no_answer(self) -> None:
-        engine = engines.Process(Settings())
-        os.kill(engine.process.pid, signal.SIGKILL)
-        self.assertRaises(engines.Ended, engine.ask, Request(Word.DUMP))
-        engine.close()
+    def is_running(self, pid: int) -> bool:
+        with contextlib.suppress(OSError):
+            return Path(f"/proc/{pid}/stat").read_text(encoding="ascii").rpartition(")")[2].split()[0] != "Z"
+        return False
+
+    def test_it_ends_with_its_node(self) -> None:
+        code = "import node, sys, time; engine = node.Engine(sys.argv[1], node.Settings()); "
+        code += "print(engine.process.pid, flush=True); time.sleep(60)"
+        words = [sys.executable, "-c", code, self.rvstm]
+        with subprocess.Popen(words, stdout=subprocess.PIPE, cwd=faults.HERE) as parent:
+            assert parent.stdout is not None
+            pid = int(parent.stdout.readline())
+            self.assertTrue(self.is_running(pid))
+            parent.kill()
+        wait("its end", lambda: not self.is_running(pid))
+
+    def test_it_is_killed_if_it_does_not_answer(self) -> None:
+        with node.Engine(Path(self.rvstm), Settings()) as engine:
+            os.kill(engine.process.pid, signal.SIGSTOP)
+            before, node.PATIENCE = node.PATIENCE, 1
+            self.addCleanup(setattr, node, "PATIENCE", before)
+            self.assertIsNone(engine.ask(Request(Word.STATE)))
 
 
-class Ledger(unittest.TestCase):
-    """One ledger for all tests. They run in the order of their names, and each leaves the ledger whole."""
+class WholeCluster(unittest.TestCase):
+    """One cluster for all tests, which run in the order of their names."""
 
-    place: ClassVar[str]
-    cluster: ClassVar[clusters.Cluster]
-    names: ClassVar[list[str]]
-    blocks: ClassVar[list[bytes]]
+    cluster: ClassVar[Cluster]
+    blocks: ClassVar[list[bytes]] = []
 
     @classmethod
     def setUpClass(cls) -> None:
-        cls.place = tempfile.mkdtemp(prefix="cluster-")
-        cls.cluster = clusters.Cluster(Path(cls.place) / "all")
-        cls.addClassCleanup(shutil.rmtree, cls.place, ignore_errors=True)
-        cls.addClassCleanup(cls.cluster.__exit__)
-        cls.cluster.begin()
-        cls.names = list(cls.cluster.kinds)
-        for name in cls.names:
+        if missing():
+            print(f"skipped, for want of {missing()}: the tests of a whole cluster", file=sys.stderr)
+            raise unittest.SkipTest(missing())
+        place = tempfile.mkdtemp(prefix="cluster-")
+        cls.addClassCleanup(shutil.rmtree, place, ignore_errors=True)
+        rvstm = program()
+        assert rvstm is not None
+        cls.cluster = Cluster(Path(place) / "all", rvstm)
+        cls.addClassCleanup(cls.cluster.close)
+        for name in faults.NODES:
             cls.cluster.node(name)
-        cls.blocks = [transfers.genesis()]
-        cls.cluster.settle(cls.names)
 
-    def append(self, *blocks: str | bytes) -> None:
-        for block in blocks:
-            self.cluster.append(block)
-            self.blocks.append(block if isinstance(block, bytes) else block.encode())
+    def append(self, *blocks: bytes) -> None:
+        for one in blocks:
+            self.cluster.append(one)
+            self.blocks.append(one)
 
-    def transfers(self, count: int = 1) -> None:
-        self.append(*(transfers.transfers(self.cluster.random, CALLS) for _ in range(count)))
+    def command(self, *words: object) -> str:
+        """What node.py prints."""
+        line = [str(word) for word in (faults.HERE / "node.py", "--etcd", self.cluster.urls, *words)]
+        environment = {**os.environ, "RVSTM": str(self.cluster.rvstm)}
+        done = subprocess.run(line, capture_output=True, encoding="utf-8", env=environment, timeout=120)
+        return done.stdout + done.stderr
 
-    def settle(self, *names: str) -> float:
-        return self.cluster.settle(names or self.names)
+    def test_1_strange_blocks_are_refused_by_all_and_stop_nobody(self) -> None:
+        counter = block(random.Random(1))
+        strange = {
+            "": "block 1 BadHeader 1",
+            "hello\n": "block 1 BadHeader 1",
+            counter.decode() + "end\nq\nframe 0\ndump\n": "block 13 BadLine 2",
+            "rvblock 1\nprogram 0 /etc/passwd\n": "frame NoProgram 3",
+            f"rvblock 1\nprogram 0 {UNKNOWN}\n": "frame NoProgram 3",
+            counter.decode() + "call 0 10000000 -\n" * 201: "frame TooMuchGas 5",
+        }
+        self.append(*(text.encode() for text in strange), counter)
+        self.cluster.settle()
+        for height, refusal in enumerate(strange.values(), 1):
+            for name in faults.NODES:
+                self.assertIn(f"height {height}: refused {refusal}, b'/log/", self.cluster.log(name))
 
-    def page(self, name: str, path: str, seconds: float = 60) -> tuple[int, bytes]:
-        host, port = self.cluster.address(name).split(":")
-        line = http.client.HTTPConnection(host, int(port), timeout=seconds)
-        self.addCleanup(line.close)
-        line.request("GET", path)
-        answer = line.getresponse()
-        return answer.status, answer.read()
+    def test_2_two_keys_of_one_transaction_and_keys_of_no_form_stop_nobody(self) -> None:
+        faults.strange_keys(self.cluster, "n1")
+        places = Log(self.cluster.client).after(len(self.blocks))[2]
+        self.assertEqual(len(places), 4)
+        self.blocks.extend(pair.value for pairs in Log(self.cluster.client).read(places) for pair in pairs)
+        self.assertIn(b"hello", self.blocks)
+        self.cluster.settle()
+        self.cluster.wait_for("n1", "b'/newest/n3/x/n1' is no digest of a node")
 
-    def digest(self, height: int) -> set[str]:
-        return {value.split()[0] for value in self.cluster.digests(height).values()}
-
-    @unittest.skipUnless((engines.TOP / "tools/rvstm_developers").is_dir(), "only a checkout has the model of a session")
-    def test_1_answers_are_those_of_seq(self) -> None:
-        sys.path.append(str(engines.TOP / "tests"))
+    @unittest.skipUnless((TOP / "tools/rvstm_developers").is_dir(), "only a checkout has the model of a session")
+    def test_3_the_digest_is_that_of_the_answers_of_seq(self) -> None:
+        sys.path.append(str(TOP / "tests"))
         from rvstm_developers.models.sessions import SessionModel
 
-        for strange, _ in transfers.strange(random.Random(2)).values():
-            self.append(strange)
-        self.transfers(3)
-        self.settle()
-        settings = Settings(transfers.SETTINGS["frame_limit"], transfers.SETTINGS["frame_gas"], True, True)
-        model = SessionModel(Program(Path(engines.rvstm())), settings)
+        self.append(*(block(self.cluster.random) for _ in range(3)))
+        settings = Settings(frame_gas=node.FRAME_GAS, digest=True, brief=True)
+        model = SessionModel(Program(self.cluster.rvstm), settings)
         self.addCleanup(model.place.cleanup)
-        for file in transfers.FILES:
-            model.answer(Request(Word.PROGRAM, (), file))
-        digest = bytes(32)
-        for height, block in enumerate(self.blocks, 1):
-            body = b"" if ledger.is_refused(block, height == 1) or len(block) > settings.frame_limit else block
-            expected = model.answer(Request(Word.FRAME, (), body)).text()
-            digest = hashlib.sha256(digest + expected).digest()
-            for name in self.names:
-                self.assertEqual(self.page(name, f"/receipts/{height}"), (200, expected), f"{name}, height {height}")
-            self.assertEqual(self.digest(height), {digest.hex()}, height)
+        model.answer(Request(Word.PROGRAM, (), faults.COUNTER))
+        for one in self.blocks:
+            model.answer(Request(Word.FRAME, (), one))
+        assert model.digest is not None
+        self.assertEqual(self.cluster.settle(), model.digest.hex())
 
-    def test_2_strange_blocks_are_refused_as_the_page_says(self) -> None:
-        expected = [answer for _, answer in transfers.strange(random.Random(2)).values()]
-        for height, answer in enumerate(expected, 2):
-            self.assertEqual(self.page("n2", f"/receipts/{height}")[1].decode().strip(), answer)
+    def test_4_a_node_begins_with_a_dump_and_the_log_is_trimmed(self) -> None:
+        path, store = self.cluster.folder / "dump", self.cluster.folder / "n3.store"
+        self.cluster.kill("n3")
+        height = self.cluster.height
+        printed = self.command("--store", store, "--dump", path)
+        self.assertRegex(printed, f"dump: height {height}, digest [0-9a-f]{{64}}\n$")
+        self.append(block(self.cluster.random))
+        self.assertEqual(self.command("--trim", path), f"removed {height} blocks\n")
+        for file in self.cluster.folder.glob("n3.store*"):
+            file.unlink()
+        self.cluster.node("n3")
+        self.cluster.wait_for("n3", f"the session is at height 0, and the log goes from {height} to {height + 1}")
+        self.cluster.kill("n3")
+        self.cluster.node("n3", "--begin", path)
+        self.cluster.settle()
+        self.assertIn(f"n3 begins at height {height}\n", self.cluster.log("n3"))
+        self.assertEqual(self.command("--trim", path), "removed 0 blocks\n")
 
-    def test_3_pages(self) -> None:
-        state = answers.state_of(self.page("n1", "/state")[1])
-        self.assertEqual(state.height, len(self.blocks))
-        assert state.digest is not None
-        self.assertEqual(self.digest(len(self.blocks)), {state.digest.hex()})
-        status, value = self.page("n1", f"/get/{transfers.key_of(transfers.ACCOUNTS[0])}")
-        self.assertEqual((status, value[:6]), (200, b"value "))
-        self.assertEqual(self.page("n1", f"/get/{'0' * 64}"), (200, b"absent\n"))
-        self.assertIn(f"rvstm_height {len(self.blocks)}\n", self.page("n1", "/metrics")[1].decode())
-        self.assertIn("rvstm_lag_blocks 0\n", self.page("n1", "/metrics")[1].decode())
-        self.assertIn('rvstm_refused_total{name="OlderRules"} 1\n', self.page("n1", "/metrics")[1].decode())
-        self.assertEqual(self.page("n1", "/healthz")[0], 200)
-        self.assertIn(b"0 of 15 heights differ", self.page("n1", "/")[1])
-        for path in ("/get/0", "/other", "/receipts/9999", "/dump/../../etc/passwd", "/state/0"):
-            self.assertEqual(self.page("n1", path)[0], 404, path)
+    def test_5_a_node_that_is_killed_continues_from_its_file(self) -> None:
+        for name in faults.NODES:
+            self.cluster.kill(name)
+        self.append(block(self.cluster.random))
+        for name in faults.NODES:
+            self.cluster.node(name)
+        self.cluster.settle()
+        self.assertIn(f"n1 begins at height {self.cluster.height - 1}\n", self.cluster.log("n1"))
 
-    def is_busy(self) -> bool:
-        """Whether n1 answers no reader now. A reader that came before the block waits for the engine, and gets its answer."""
-        try:
-            return self.page("n1", f"/get/{transfers.key_of(transfers.ACCOUNTS[0])}", 2)[0] == 503
-        except TimeoutError:
-            return False
+    def test_6_a_file_has_one_node(self) -> None:
+        printed = self.command("--name", "twin", "--store", self.cluster.folder / "n1.store")
+        self.assertEqual(printed, "node.py: rvstm: store Busy 1\n")
 
-    def test_4_reads_wait_for_no_block(self) -> None:
-        engine = int(re.findall(r"engine (\d+)", self.cluster.log("n1"))[-1])
-        os.kill(engine, signal.SIGSTOP)
-        self.transfers()
-        self.assertTrue(wait(self.is_busy))
-        self.assertEqual(self.page("n1", "/healthz")[0], 200)
-        os.kill(engine, signal.SIGCONT)
-        self.settle()
+    def test_6_a_name_has_no_slash(self) -> None:
+        for name in ("n1/x", "", "N1", "n-1"):
+            self.assertIn("--name of [a-z0-9]+", self.command("--name", name, "--store", self.cluster.folder / "other"))
 
-    def test_5_killed_nodes_begin_with_their_dumps(self) -> None:
-        self.transfers(BLOCKS)
-        self.settle()
-        self.cluster.kill("n1")
-        self.transfers(2)
-        self.cluster.node("n1")
-        self.settle()
-        self.assertIn("takes the dump of height 60 from n1", self.cluster.log("n1"))
-        engine = int(re.findall(r"engine (\d+)", self.cluster.log("n1"))[-1])
-        os.kill(engine, signal.SIGKILL)
-        self.transfers(2)
-        self.settle()
-        self.assertEqual(audits.audit(self.cluster.client, self.names)[0], [])
+    def test_7_a_node_that_differs_stops_all_and_the_others_continue_without_it(self) -> None:
+        changed = self.cluster.folder / "rvstm"
+        changed.write_bytes(self.cluster.rvstm.read_bytes().replace(b"returned", b"Returned"))
+        changed.chmod(0o755)
+        self.cluster.node("n4", "--begin", self.cluster.folder / "dump", rvstm=changed)
+        self.append(block(self.cluster.random))
+        for name in ("n4", *faults.NODES):
+            self.cluster.wait_for(name, " has the digest ")
+            self.assertEqual(self.cluster.processes.pop(name).wait(60), 1)
+        self.assertRegex(self.cluster.log("n4"), r"height \d+: n\d has the digest \w{16}\.\., and n4 has \w{16}\.\.")
+        keys = etcd.one(ledger.NEWEST + b"n4"), etcd.below(ledger.DIGESTS + b"n4/")
+        self.cluster.client.transact([], [etcd.delete(wanted) for wanted in keys])
+        for name in faults.NODES:
+            self.cluster.node(name)
+        self.append(block(self.cluster.random))
+        self.cluster.settle()
 
-    def test_5_killed_nodes_continue_from_their_files(self) -> None:
-        height = len(self.blocks)
-        self.cluster.kill("n2")
-        shutil.rmtree(self.cluster.folder / "n2")
-        self.transfers(2)
-        self.cluster.node("n2")
-        self.settle()
-        self.assertIn(f"continues from its file at height {height}\n", self.cluster.log("n2"))
-        self.assertNotIn("takes the dump", self.cluster.log("n2"))
-        for _ in range(3):
-            os.kill(int(re.findall(r"engine (\d+)", self.cluster.log("n3"))[-1]), signal.SIGKILL)
-            self.transfers(2)
-            self.settle()
-        self.assertEqual(self.cluster.log("n3").count("continues from its file"), 3)
-        self.assertNotIn("takes the dump", self.cluster.log("n3"))
-        self.assertEqual(audits.audit(self.cluster.client, self.names)[0], [])
-
-    def test_5_what_was_not_published_is_published_from_the_file(self) -> None:
-        self.cluster.kill("n2")
-        self.cluster.client.transact([], [etcd.delete(etcd.keys(ledger.at(ledger.DIGESTS, "n2", len(self.blocks))))])
-        before = self.digest(len(self.blocks))
-        self.cluster.node("n2")
-        self.settle()
-        self.assertIn("n2", self.cluster.digests(len(self.blocks)))
-        self.assertEqual(self.digest(len(self.blocks)), before)
-        self.assertEqual(self.page("n2", f"/receipts/{len(self.blocks)}"), self.page("n1", f"/receipts/{len(self.blocks)}"))
-
-    def test_5_a_file_has_one_node(self) -> None:
-        self.cluster.node("second", "--store", self.cluster.folder / "n2.store")
-        self.assertRegex(self.cluster.wait_for("second", "STOPS"), "could not run block 1 three times: rvstm: store Busy 1$")
-
-    def test_5_a_file_is_kept_by_one_ledger(self) -> None:
-        path = self.cluster.folder / "other.store"
-        words = [engines.rvstm(), "chain", "--store", str(path)]
-        subprocess.run(words, input=b"state\nq\n", stdout=subprocess.DEVNULL, check=True)
-        self.cluster.node("other", "--store", path)
-        self.assertIn("rvstm: store OtherSettings 6", self.cluster.wait_for("other", "STOPS"))
-
-    def test_5_with_reset_a_node_renames_a_damaged_file(self) -> None:
-        path = self.cluster.folder / "spoilt.store"
-        path.write_bytes(b"x" * 4096)
-        self.cluster.node("spoilt", "--store", path)
-        self.assertRegex(self.cluster.wait_for("spoilt", "STOPS"), "is refused: rvstm: store NotASession 4; with --reset")
-        self.cluster.node("spoilt", "--store", path, "--reset")
-        self.settle("spoilt")
-        self.cluster.kill("spoilt")
-        self.assertIn("takes the dump of height", self.cluster.log("spoilt"))
-        self.assertEqual([file.read_bytes() for file in self.cluster.folder.glob("spoilt.store.refused-*")], [b"x" * 4096])
-        self.assertEqual(audits.audit(self.cluster.client, self.names)[0], [])
-
-    def test_5_a_folder_has_one_node(self) -> None:
-        self.cluster.node("twin", "--folder", self.cluster.folder / "n1")
-        self.assertIn("another node has the folder", self.cluster.wait_for("twin", "STOPS"))
-
-    def test_6_a_lost_answer_appends_nothing_twice(self) -> None:
-        before = self.cluster.client.count(ledger.BLOCKS)
-        client = Forgetful(self.cluster.urls)
-        proposer = ledger.Proposer("forgetful", client)
-        block = transfers.transfers(self.cluster.random, CALLS)
-        proposer.append(block)
-        proposer.client.turn()
-        self.blocks.append(block)
-        self.assertTrue(client.has_lost)
-        self.assertEqual(self.cluster.client.count(ledger.BLOCKS), before + 1)
-
-    def test_7_a_long_block_is_whole_and_a_dead_proposer_leaves_nothing(self) -> None:
-        ledger.SECONDS_OF_PARTS, before = 2, self.cluster.client.count(ledger.BLOCKS)
-        dying = ledger.Proposer("dying", self.cluster.client)
-        block = transfers.long_calls(self.cluster.random, 200, gas=100)
-
-        def die() -> None:
-            raise InterruptedError
-
-        self.assertRaises(InterruptedError, dying.append, block, die)
-        left = self.cluster.client.count(ledger.PARTS)
-        self.assertGreater(left, 0)
-        self.assertEqual(self.cluster.client.count(ledger.BLOCKS), before)
-        self.append(block)
-        kept = self.cluster.client.count(ledger.PARTS) - left
-        self.settle()
-        self.assertTrue(wait(lambda: self.cluster.client.count(ledger.PARTS) == kept))
-        _, receipts = self.page("n1", f"/receipts/{len(self.blocks)}")
-        self.assertEqual(receipts.count(b" out-of-gas gas 100 "), 200)
-
-    def test_8_a_lying_node_is_named(self) -> None:
-        height = len(self.blocks) + 3
-        self.cluster.node("liar", script="liar", env={**os.environ, "LIE_AT": str(height)})
-        self.settle("liar")
-        self.transfers(5)
-        line = self.cluster.wait_for("liar", "STOPS")
-        self.assertRegex(line, rf"height {height}: (n\d, )+n\d of \d nodes differ from this one; the answer of n\d is the same")
-        for name in self.names:
-            self.cluster.wait_for(name, f"height {height}: liar differs from this node")
-        self.settle()
-        wrong, _ = audits.audit(self.cluster.client, self.names)
-        self.assertEqual(len(wrong), 1)
-        self.assertRegex(wrong[0], f"^digests at height {height} differ: liar ffffffffffffffff, n1 ")
-
-    def test_9_a_changed_program_is_named(self) -> None:
-        changed = clusters.changed_program(Path(self.place) / "changed")
-        self.cluster.node("changed", "--agreeing", "2", env={**os.environ, "RVSTM": str(changed)})
-        self.cluster.wait_for("changed", "begins at")
-        self.transfers(2)
-        line = self.cluster.wait_for("changed", "STOPS")
-        self.assertRegex(line, r"line \d+ is 'call \d Returned gas .*' here and 'call \d returned gas .*' at n\d")
-        self.settle()
-
-    def test_z_an_old_log_is_pruned(self) -> None:
-        self.transfers(-len(self.blocks) % 20 + 41)
-        self.settle()
-        height, gone = ledger.prune(self.cluster.client, 2, 2)
-        self.assertEqual(height, (len(self.blocks) - 1) // 20 * 20 - 20)
-        self.assertEqual(gone, height - 1)
-        self.transfers()
-        self.cluster.node("late")
-        self.settle("late", *self.names)
-        self.assertRegex(self.cluster.log("late"), r"takes the dump of height \d+ from n\d")
-        self.cluster.node("alone", "--agreeing", "9")
-        self.assertIn(f"the log begins after height {height}, and there is no dump", self.cluster.wait_for("alone", "STOPS"))
-        self.assertEqual(audits.audit(self.cluster.client, self.names)[0], [])
+    def test_8_only_users_write(self) -> None:
+        ask = self.cluster.client.ask
+        for name in ("root", "team"):
+            ask("auth/role/add", {"name": name})
+            ask("auth/user/add", {"name": name, "password": f"{name}'s"})
+            ask("auth/user/grant", {"user": name, "role": name})
+        rights = {"permType": "READWRITE", "key": etcd.packed(b"/"), "range_end": etcd.packed(b"0")}
+        ask("auth/role/grant", {"name": "team", "perm": rights})
+        ask("auth/enable", {})
+        stranger = etcd.Etcd(self.cluster.urls)
+        self.assertRaisesRegex(UserError, "etcd: .*user name is empty", Log(stranger).append, b"")
+        stranger.turn()
+        os.environ["ETCDCTL_USER"] = "team:team's"
+        self.addCleanup(os.environ.pop, "ETCDCTL_USER")
+        for name in faults.NODES:
+            self.cluster.kill(name)
+            self.cluster.node(name)
+        self.append(block(self.cluster.random))
+        self.cluster.settle()
 
 
 if __name__ == "__main__":

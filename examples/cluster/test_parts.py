@@ -1,405 +1,360 @@
-"""Tests that need neither etcd nor rvstm: python3 -m unittest, in this folder."""
+"""Tests of the parts of a cluster, which need neither etcd nor rvstm: python3 -m unittest, in this folder."""
 
-import os
-import random
+import base64
+import http.server
+import json
+import math
 import tempfile
 import threading
 import unittest
-import unittest.mock
-import zlib
-from collections.abc import Sequence
+from collections.abc import Callable, Iterator
 from pathlib import Path
 from typing import Any
 
-import transfers  # first: it finds tools/
-import audits
-import engines
+import ledger  # first: it finds tools/
 import etcd
-import ledger
-import nodes
-from rvstm_tools.errors import UserError
-from rvstm_tools.sessions import answers
-from rvstm_tools.sessions.answers import Done, Kind
-from rvstm_tools.sessions.processes import Settings
-from rvstm_tools.sessions.requests import Request
-import status
-from engines import Engine
+import node
+import propose
 from etcd import Object, Pair
-from rvstm_tools.sessions.answers import Answer
-from rvstm_tools.sessions.requests import Word
+from ledger import Dump, Log, Place
+from rvstm_tools.errors import UserError
+from rvstm_tools.sessions import frames
 
 ONE, OTHER = "1" * 64, "2" * 64
+NAMED = b"rvblock 1\nprogram 0 %s\n"
+
+
+def unpacked(text: str) -> bytes:
+    return base64.b64decode(text)
 
 
 class Shelf(etcd.Etcd):
-    """A client whose pairs are in a dictionary; it only reads."""
+    """A client whose pairs are in a dictionary. Each transaction is one revision."""
 
     def __init__(self) -> None:
         super().__init__("http://127.0.0.1:1")
-        self.pairs: dict[str, Pair] = {}
+        self.pairs, self.revision = dict[bytes, Pair](), 1
+        self.compacted = self.refused = 0  # a revision; how many transactions were not done
+        self.before: Callable[[], None] | None = None  # runs once, before a transaction
+        self.is_lost = False  # the answer of the next transaction that writes
 
-    def put(self, key: str, value: str | bytes, made: int, changed: int | None = None, lease: int = 0) -> Pair:
-        data = value if isinstance(value, bytes) else value.encode()
-        self.pairs[key] = Pair(key, data, made, changed or made, lease)
-        return self.pairs[key]
+    def ask(self, path: str, body: Object) -> Object:
+        if path == "kv/compaction":
+            self.compacted = body["revision"]
+        if path == "lease/grant":
+            return {"ID": "7"}
+        if path != "kv/txn":
+            return {}
+        before, self.before = self.before, None
+        if before:
+            before()
+        is_done = all(self.holds(one) for one in body["compare"])
+        self.revision += 1
+        self.refused += not is_done
+        found = [self.does(one) for one in body["success"]] if is_done else []
+        if self.is_lost and is_done and any("request_put" in one for one in body["success"]):
+            self.is_lost = False
+            return self.ask(path, body)  # as a client does that lost the answer
+        return {"succeeded": is_done, "responses": found, "header": {"revision": self.revision}}
 
-    def get(self, key: str) -> Pair | None:
-        return self.pairs.get(key)
+    def holds(self, one: Object) -> bool:
+        pair = self.pairs.get(unpacked(one["key"]))
+        return (pair.changed if pair else 0) == int(one["mod_revision"])
 
-    def range(self, wanted: Object) -> tuple[int, list[Pair]]:
-        first, last = (etcd.unpack(wanted.get(word, "")).decode() for word in ("key", "range_end"))
-        found = [pair for key, pair in sorted(self.pairs.items()) if first <= key < last]
-        found = [pair for pair in found if pair.made >= wanted.get("min_create_revision", 0)]
-        if wanted.get("sort_target") == "CREATE":
-            found.sort(key=lambda pair: pair.made)
-        if wanted.get("sort_order") == "DESCEND":
-            found.reverse()
-        return 99, found[: wanted.get("limit", len(found))]
+    def does(self, one: Object) -> Object:
+        [(word, wanted)] = one.items()
+        key = unpacked(wanted["key"])
+        last = unpacked(wanted.get("range_end", "")) or key + b"\0"
+        if word == "request_put":
+            made = self.pairs[key].made if key in self.pairs else self.revision
+            self.pairs[key] = Pair(key, unpacked(wanted["value"]), made, self.revision)
+            return {}
+        found = [pair for pair in self.pairs.values() if key <= pair.key < last]
+        if word == "request_delete_range":
+            for pair in found:
+                del self.pairs[pair.key]
+            return {}
+        keys = ("key", "value", "create_revision", "mod_revision")
+        rows = [(etcd.packed(pair.key), etcd.packed(pair.value), pair.made, pair.changed) for pair in found]
+        return {"response_range": {"kvs": [dict(zip(keys, row)) for row in rows]}}
 
-
-def entry(block: bytes, key: str = "/log/blocks/p.1/0000000001") -> Pair:
-    return Pair(key, b"parts\n" + zlib.compress(block), 10, 10, 0)
-
-
-class Entries(unittest.TestCase):
-    def block(self, value: bytes, limit: int = 100, shelf: Shelf | None = None, made: int = 10) -> bytes | None:
-        return ledger.block_of(shelf or Shelf(), Pair("/log/blocks/p.1/0000000001", value, made, made, 0), limit)
-
-    def test_a_block_is_in_its_entry(self) -> None:
-        self.assertEqual(self.block(entry(b"rvblock 1\n").value), b"rvblock 1\n")
-        self.assertEqual(self.block(entry(b"").value), b"")
-
-    def test_other_values_have_no_block(self) -> None:
-        good = entry(b"rvblock 1\n").value
-        for value in (b"", b"hello", b"parts\n", b"parts \n" + good[6:], good[:-1], good + b"more", b"parts " + b"1" * 63 + b"\n"):
-            self.assertIsNone(self.block(value), value)
-
-    def test_a_block_has_a_limit_however_small_it_packs(self) -> None:
-        self.assertEqual(self.block(entry(b"0" * 100).value), b"0" * 100)
-        self.assertIsNone(self.block(entry(b"0" * 101).value))
-        self.assertIsNone(self.block(entry(b"0" * 50_000_000).value))
-        self.assertEqual(self.block(entry(b"0" * 5000).value, limit=0), b"0" * 5000)
-
-    def parted(self, **how: Any) -> tuple[Shelf, bytes]:
-        """A block in two parts. `how` changes what is put of the second."""
-        data, shelf = zlib.compress(bytes(range(256))), Shelf()
-        halves = data[:20], data[20:]
-        shelf.put("/parts/p.1/0000000001/000", halves[0], 5, 10)
-        second: dict[str, Any] = {"value": halves[1], "made": 6, "changed": 10, **how}
-        shelf.put("/parts/p.1/0000000001/001", **second)
-        return shelf, f"parts {' '.join(map(ledger.sha256, halves))}\n".encode()
-
-    def test_parts_are_put_together(self) -> None:
-        shelf, value = self.parted()
-        self.assertEqual(self.block(value, 256, shelf), bytes(range(256)))
-
-    def test_a_part_must_be_what_the_entry_kept(self) -> None:
-        hows: list[dict[str, Any]] = [{"value": b"other"}, {"lease": 7}, {"made": 11}]
-        for how in hows:
-            shelf, value = self.parted(**how)
-            self.assertIsNone(self.block(value, 256, shelf), how)
-
-    def test_missing_parts_are_no_block_unless_they_were_pruned(self) -> None:
-        shelf, value = self.parted()
-        del shelf.pairs["/parts/p.1/0000000001/001"]
-        self.assertIsNone(self.block(value, 256, shelf))
-        shelf.put(ledger.PRUNED, "3 9", 50)
-        self.assertIsNone(self.block(value, 256, shelf))
-        shelf.put(ledger.PRUNED, "4 10", 51)
-        self.assertRaises(ledger.Gone, self.block, value, 256, shelf)
-
-    def test_store_lines_are_for_the_genesis(self) -> None:
-        block = f"rvblock 1\nstore {ONE} 00\n".encode()
-        self.assertTrue(ledger.is_refused(block, False))
-        self.assertFalse(ledger.is_refused(block, True))
-        self.assertFalse(ledger.is_refused(b"rvblock 1\ncall 0 1 -\n", False))
-
-    def test_entries_come_once_and_unchanged(self) -> None:
-        log = ledger.Log("http://127.0.0.1:1", 5)
-        pairs = [Pair("/log/a", b"", 6, 6, 0), Pair("/log/b", b"", 8, 8, 0)]
-        self.assertEqual(log.checked(pairs), pairs)
-        self.assertEqual(log.revision, 8)
-        for pair in (Pair("/log/c", b"", 8, 8, 0), Pair("/log/c", b"", 9, 10, 0)):
-            self.assertRaises(UserError, log.checked, [pair])
+    def puts(self, **pairs: bytes) -> None:
+        """One transaction; a name begins with log or newest, and _ is for /."""
+        self.transact([], [etcd.put(b"/" + name.replace("_", "/").encode(), value) for name, value in pairs.items()])
 
 
-class Agreement(unittest.TestCase):
-    def test_most_nodes_are_more_than_half(self) -> None:
-        for published, expected in (
-            ("aaaa", ([], False)), ("ab", (["n1"], False)), ("aab", (["n2"], False)), ("abb", (["n1", "n2"], True)),
-            ("aabb", (["n2", "n3"], False)), ("abbb", (["n1", "n2", "n3"], True)), ("a", ([], False)),
-        ):
-            values = {f"n{number}": value for number, value in enumerate(published)}
-            self.assertEqual(ledger.different_from("n0", values), expected, published)
-
-    def dumps(self, published: Sequence[tuple[int, str, str]]) -> Shelf:
-        shelf = Shelf()
-        for number, (height, name, content) in enumerate(published):
-            shelf.put(ledger.at(ledger.DUMPS, name, height), f"{content} {ONE} {height + 100}", number + 1)
-        return shelf
-
-    def test_a_dump_is_taken_if_enough_nodes_agree(self) -> None:
-        shelf = self.dumps([(20, "a", ONE), (20, "b", ONE), (20, "c", OTHER), (40, "a", ONE), (60, "a", ONE), (60, "b", OTHER)])
-        found = ledger.agreed_dumps(shelf, 2)
-        self.assertEqual(found, [(ledger.Mark(20, ONE, 120), ONE, ["a", "b"])])
-        own = [mark.height for mark, _, _ in ledger.agreed_dumps(shelf, 2, "a")]
-        self.assertEqual(own, [40, 20])
-        self.assertEqual(ledger.agreed_dumps(shelf, 2, "c"), [])
+def keys_of(places: list[Place]) -> list[bytes]:
+    return [place.key.rpartition(b"/")[2] for place in places]
 
 
-class Revisions(unittest.TestCase):
-    """The revision of the last block of a session in a file."""
+class TheLog(unittest.TestCase):
+    """The order of blocks, and what is appended."""
 
-    def shelf(self, *own: tuple[int, int], kind: str = "frame") -> Shelf:
-        """A genesis and three blocks, whose names are not in their order, a block before the genesis, and what a node published."""
-        shelf = Shelf()
-        shelf.put(ledger.SETTINGS, f'{{"as": "{kind}"}}', 10)
-        for name, made in (("z", 5), ("p.1/0000000001", 20), ("a.1/0000000001", 30), ("b.1/0000000001", 45)):
-            shelf.put(ledger.BLOCKS + name, b"parts\n", made)
-        shelf.put(ledger.GENESIS, b"parts\n", 10)
-        for height, revision in own:
-            shelf.put(ledger.at(ledger.DIGESTS, "n1", height), f"{ONE} {revision}", 50)
-        return shelf
-
-    def at(self, shelf: Shelf, *heights: int) -> list[int | None]:
-        return [ledger.revision_at(shelf, height, "n1") for height in heights]
-
-    def test_it_is_found_in_the_log(self) -> None:
-        self.assertEqual(self.at(self.shelf(), 1, 2, 3, 4), [10, 20, 30, 45])
-        self.assertEqual(self.at(self.shelf(kind="begin"), 1, 2, 3), [20, 30, 45])
-
-    def test_it_is_found_by_the_digests(self) -> None:
-        self.assertEqual(self.at(self.shelf((1, 10), (2, 20), (3, 30)), 2, 3, 4), [20, 30, 45])
-
-    def test_other_nodes_digests_do_not_count(self) -> None:
-        shelf = self.shelf()
-        shelf.put(ledger.at(ledger.DIGESTS, "n2", 3), f"{OTHER} 31", 50)
-        self.assertEqual(self.at(shelf, 3), [30])
-
-    def test_in_a_pruned_log_it_is_found_from_its_start(self) -> None:
-        shelf = self.shelf((2, 20))
-        shelf.put(ledger.PRUNED, "3 30", 60)
-        del shelf.pairs[ledger.BLOCKS + "p.1/0000000001"]
-        self.assertEqual(self.at(shelf, 2, 3, 4), [None, 30, 45])
-
-    def test_a_file_above_the_log_is_refused(self) -> None:
-        self.assertRaisesRegex(UserError, "at height 5, and the log ends at 4", self.at, self.shelf(), 5)
-
-
-def answer_of(line: bytes) -> Answer:
-    kind, _, words = line.partition(b" ")
-    return Done() if kind == b"ok" else answers.refused(words, Kind(kind))
-
-
-class Answering:
-    """An engine that gives these answers."""
-
-    pid: int | None = None
-
-    def __init__(self, *lines: bytes) -> None:
-        self.answers = [answer_of(line) for line in lines]
-        self.asked: list[Request] = []
-
-    def ask(self, request: Request) -> Answer:
-        self.asked.append(request)
-        return self.answers.pop(0)
-
-    def close(self) -> None:
-        pass
-
-
-class Saying(nodes.Node):
-    """A node that keeps what it says, with an engine that gives these answers."""
-
-    def __init__(self, *lines: bytes) -> None:
-        self.answering, self.said = Answering(*lines), list[str]()
-        self.engine, self.busy, self.mark, self.store = self.answering, threading.Lock(), ledger.Mark(), "FILE"
-
-    def say(self, text: str) -> None:
-        self.said.append(text)
-
-
-class Files(unittest.TestCase):
     def setUp(self) -> None:
-        nodes.SECONDS_BETWEEN_TRIES = 0
+        self.shelf = Shelf()
+        self.log = Log(self.shelf)
 
-    def test_what_a_file_does_not_keep_is_sent_again(self) -> None:
-        node = Saying(b"failed store Full 8", b"failed store Memory 9", b"ok 0")
-        self.assertEqual(node.ask(Word.FRAME, body=b"block").kind, b"ok")
-        self.assertEqual([request.body for request in node.answering.asked], [b"block"] * 3)
-        self.assertEqual(len(node.said), 2)
+    def test_the_order_is_that_of_revisions_and_then_of_keys(self) -> None:
+        self.shelf.puts(log_z=b"1")
+        self.shelf.puts(log_c=b"4", log_a=b"2", log_b_n3_x=b"3")
+        self.shelf.puts(log_0=b"5")
+        _, begin, places = self.log.after(0)
+        self.assertEqual([place.key for place in places], [b"/log/z", b"/log/a", b"/log/b/n3/x", b"/log/c", b"/log/0"])
+        self.assertEqual(b"".join(pair.value for pairs in self.log.read(places) for pair in pairs), b"12345")
+        self.assertEqual((begin, [place.height for place in places]), (Place(), [1, 2, 3, 4, 5]))
 
-    def test_three_times_at_most(self) -> None:
-        node = Saying(*[b"failed store Full 8"] * 4)
-        self.assertRaisesRegex(nodes.Stop, "FILE does not keep what follows height 0: failed store Full 8", node.ask, Word.FRAME)
-        self.assertEqual(len(node.answering.answers), 1)
+    def test_a_session_continues_between_two_blocks_of_one_revision(self) -> None:
+        self.shelf.puts(log_b=b"", log_a=b"")
+        _, place, places = self.log.after(1)
+        self.assertEqual((place.key, keys_of(places)), (b"/log/a", [b"b"]))
 
-    def test_other_failures_take_another_engine(self) -> None:
-        node = Saying(b"failed seq Memory 1", b"ok 0")
-        self.assertRaises(engines.Ended, node.ask, Word.FRAME)
-        self.assertEqual(len(node.answering.asked), 1)
+    def test_a_height_above_the_log_is_an_error(self) -> None:
+        self.shelf.puts(log_a=b"")
+        self.assertRaisesRegex(UserError, "at height 2, and the log goes from 0 to 1", self.log.after, 2)
 
-    def test_an_engine_says_why_its_file_is_refused(self) -> None:
-        with tempfile.TemporaryDirectory() as place:
-            stub = Path(place) / "rvstm"
-            stub.write_text("#!/bin/sh\necho $* > $0.words\necho rvstm: store Busy 1 >&2\nexit 1\n", encoding="utf-8")
-            stub.chmod(0o755)
-            with unittest.mock.patch.dict(os.environ, {"RVSTM": str(stub)}):
-                engine = engines.Process(Settings(digest=True, store=f"{place}/FILE"))
-            self.assertRaisesRegex(engines.Ended, "rvstm: store Busy 1", engine.ask, Request(b"state"))
-            self.assertIn(f"--store {place}/FILE", Path(f"{stub}.words").read_text(encoding="utf-8"))
-            engine.close()
+    def test_a_changed_or_removed_block_is_named(self) -> None:
+        self.shelf.puts(log_a=b"1")
+        self.shelf.puts(log_a=b"2")
+        _, _, places = self.log.after(0)
+        self.assertRaisesRegex(UserError, "heights 1 to 1 was removed or changed", list, self.log.read(places))
+
+    def test_a_watch_gives_whole_revisions_in_order_and_reads_again_after_compaction(self) -> None:
+        self.shelf.puts(log_b=b"", log_a=b"")
+        told = [[Pair(b"/log/y", b"", 8, 8), Pair(b"/log/x", b"", 8, 8), Pair(b"/log/a", b"changed", 2, 9)]]
+
+        def watch(prefix: bytes, revision: int, quiet: float) -> Iterator[list[Pair]]:
+            self.assertEqual((prefix, revision), (b"/log/", 4 if told else 10))
+            if not told:
+                self.shelf.puts(log_x=b"", log_y=b"")
+                self.shelf.puts(log_new=b"")
+                raise etcd.CompactedError("compacted")
+            yield told.pop()
+
+        said = list[str]()
+        setattr(self.shelf, "watch", watch)
+        batches = self.log.batches(0, said.append)
+        keys = [[pair.key.rpartition(b"/")[2] for pair in next(batches)] for _ in range(4)]
+        self.assertEqual(keys, [[b"a", b"b"], [b"x", b"y"], [], [b"new"]])
+        self.assertEqual(said, ["compacted: reads the log again"])
+
+    def test_of_two_proposers_at_once_the_later_tries_again(self) -> None:
+        self.shelf.before = lambda: setattr(self.shelf, "before", lambda: self.log.append(b"other"))
+        self.log.append(b"mine")
+        self.assertEqual([self.shelf.pairs[place.key].value for place in self.log.after(0)[2]], [b"other", b"mine"])
+        self.assertEqual(self.shelf.refused, 1)
+
+    def test_a_lost_answer_appends_nothing_twice(self) -> None:
+        self.shelf.is_lost = True
+        revision = self.log.append(b"mine")
+        self.assertFalse(self.shelf.is_lost)
+        self.assertEqual([(place.height, place.revision) for place in self.log.after(0)[2]], [(1, revision)])
+
+    def test_a_block_has_at_most_a_million_bytes(self) -> None:
+        self.log.append(bytes(1_000_000))
+        self.assertRaisesRegex(UserError, "at most 1,000,000 bytes", self.log.append, bytes(1_000_001))
+
+    def test_a_program_counts_if_it_was_put_before_the_block(self) -> None:
+        files = {frames.name_of(file).encode(): file for file in (b"one", b"two", b"late")}
+        one, two, late = files
+        self.log.put_program(b"one")
+        self.shelf.transact([], [etcd.put(ledger.PROGRAMS + two, b"of another name")])
+        self.log.append(NAMED % one + b"program 1 %s\nprogram 2 %s\nprogram 3 /etc/passwd\n" % (two, late))
+        self.log.put_program(b"late")
+        [[pair]] = self.log.read(self.log.after(0)[2])
+        self.assertEqual(list(self.log.programs(pair, set())), [(one, b"one")])
+        self.assertEqual(list(self.log.programs(pair, {one})), [])
+        many = pair._replace(value=pair.value + b"".join(b"program 4 %064x\n" % number for number in range(62)))
+        self.assertEqual(list(self.log.programs(many, set())), [])
 
 
-class Refusing:
-    """An engine whose file is refused."""
+class Dumps(unittest.TestCase):
+    def setUp(self) -> None:
+        self.shelf, self.place = Shelf(), tempfile.TemporaryDirectory()
+        self.addCleanup(self.place.cleanup)
+        self.log, self.path = Log(self.shelf), Path(self.place.name) / "dump"
+        for number in range(3):
+            self.shelf.puts(**{f"log_{number}": b"", f"log_{number}_": b""})
+        self.dump = Dump(self.log.after(3)[1], ONE, b"rvblock 2\ngas 1\n")
 
-    pid: int | None = None
+    def test_a_changed_dump_is_refused(self) -> None:
+        text = self.dump.text()
+        self.path.write_bytes(text)
+        self.assertEqual(ledger.dump_in(self.path), self.dump)
+        head = json.loads(text.split(b"\n")[0])
+        self.assertEqual((head["height"], head["digest"]), (3, ONE))
+        changes = (b'"sha256": "', b'"sha256": "0'), (b"gas 1", b"gas 2"), (b" 1\n", b" 1\n\n"), (ONE.encode(), b"1")
+        for changed in (text.replace(*change) for change in changes):
+            self.path.write_bytes(changed)
+            self.assertRaisesRegex(UserError, "SHA-256", ledger.dump_in, self.path)
+        for other in (b"", b"rvblock 2\n", b"[]", b'{"height": 3}', b'{"height": 3, "revision": 1, "key": "no hex"}'):
+            self.path.write_bytes(other)
+            self.assertRaisesRegex(UserError, "not the head of a dump", ledger.dump_in, self.path)
 
-    def __init__(self, why: str) -> None:
-        self.why = why
+    def test_a_trim_leaves_what_comes_after_the_dump(self) -> None:
+        later = self.log.after(3)[2]
+        for _ in range(2):
+            gone = self.log.trim(self.dump)
+            self.assertEqual(self.log.after(3)[1:], (self.dump.place, later))
+        self.assertEqual((gone, [place.height for place in later]), (0, [4, 5, 6]))
+        self.assertRaisesRegex(UserError, "at height 2, and the log goes from 3 to 6", self.log.after, 2)
+        self.assertEqual(self.shelf.compacted, self.shelf.revision - 2)  # two more transactions have read
 
-    def ask(self, request: Request) -> Answer:
-        raise engines.Ended(f"rvstm: store {self.why}")
+    def test_a_trim_that_was_cut_counts_no_block_twice(self) -> None:
+        self.shelf.transact([], [etcd.put(ledger.TRIMMED, self.dump.text().split(b"\n")[0])])
+        self.assertEqual([place.height for place in self.log.after(3)[2]], [4, 5, 6])
+        self.assertEqual(self.log.trim(self.dump), 3)
 
-    def close(self) -> None:
-        pass
+    def test_a_dump_of_another_log_trims_nothing(self) -> None:
+        other = Dump(self.dump.place._replace(key=b"/log/other"), ONE, b"")
+        self.assertRaisesRegex(UserError, "another block at height 3", self.log.trim, other)
+        self.assertEqual(len(self.log.after(0)[2]), 6)
 
 
-class Resets(unittest.TestCase):
-    """What a node does if its file is refused, or the log after it is pruned."""
+class Said(unittest.TestCase):
+    """What nodes say of their digests. A node at height 200 compares it with its own."""
+
+    def setUp(self) -> None:
+        self.shelf = Shelf()
+        self.node = node.Node("n1", self.shelf, Path("rvstm"), Path("FILE"))
+        self.lines = list[str]()
+        setattr(self.node, "say", self.lines.append)
+        self.node.height, self.node.digest = 200, ONE
+        self.node.digests = {198: ONE, 200: ONE}
+
+    def said(self, key: bytes, value: bytes) -> None:
+        self.shelf.transact([], [etcd.put(key, value)])
+
+    def test_equal_digests_and_unknown_heights_stop_nobody(self) -> None:
+        for name, height, digest in (("n2", 200, ONE), ("n3", 198, ONE), ("n4", 201, OTHER), ("n5", 7, OTHER)):
+            self.said(b"/newest/" + name.encode(), f"{height} {digest}".encode())
+        self.node.look()
+        self.assertEqual(self.shelf.pairs[b"/newest/n1"].value, f"200 {ONE}".encode())
+        self.assertEqual(self.shelf.pairs[b"/digests/n1/0000000200"].value, ONE.encode())
+        self.assertEqual(self.lines, [])
+
+    def test_another_newest_digest_stops_the_node(self) -> None:
+        self.said(b"/newest/n2", f"198 {OTHER}".encode())
+        self.assertRaisesRegex(UserError, "height 198: n2 has the digest 2{16}.., and n1 has 1{16}..", self.node.look)
+
+    def test_another_hundredth_digest_stops_the_node(self) -> None:
+        self.said(b"/newest/n2", f"1000 {OTHER}".encode())
+        self.said(b"/digests/n2/0000000200", OTHER.encode())
+        self.assertRaisesRegex(UserError, "height 200: n2 has", self.node.look)
+
+    def test_what_a_node_said_before_binds_it(self) -> None:
+        self.said(b"/digests/n1/0000000200", OTHER.encode())
+        self.assertRaisesRegex(UserError, "height 200: n1 has the digest 2{16}.., and n1 has 1{16}", self.node.look)
+
+    def test_a_hundredth_height_is_compared_after_a_restart(self) -> None:
+        self.said(b"/digests/n1/0000000100", ONE.encode())
+        self.said(b"/newest/n2", f"100 {OTHER}".encode())
+        self.assertRaisesRegex(UserError, "height 100: n2 has", self.node.look)
+
+    def test_malformed_keys_and_values_are_named_once_and_stop_nobody(self) -> None:
+        strange = [b"/newest/n3/x/n2", b"/newest/N2", b"/newest/", b"/newest/n\xff", b"/newest/n-2"]
+        for key in strange:
+            self.said(key, f"200 {OTHER}".encode())
+        values = [b"", b"\xff", b"200", b"9" * 99, *(sign + OTHER.encode() for sign in (b"200  ", b"+200 ", b"0200 "))]
+        for number, value in enumerate(values):
+            self.said(b"/newest/v%d" % number, value)
+            self.said(b"/digests/n%d/0000000200" % number, value)
+            self.said(b"/newest/n%d" % number, f"200 {ONE}".encode())
+        for _ in range(2):
+            self.node.looked = -math.inf
+            self.node.look()
+        self.assertEqual(len(self.lines), len(strange) + len(values))
+        self.assertTrue(all("is no digest of a node" in line for line in self.lines))
+
+
+class Proposed(unittest.TestCase):
+    """What a file of a block may make `propose.py` read."""
 
     def setUp(self) -> None:
         place = tempfile.TemporaryDirectory()
         self.addCleanup(place.cleanup)
-        self.folder = Path(place.name)
-        for end in ("", "-wal"):
-            (self.folder / f"FILE{end}").write_text(f"old{end}", encoding="utf-8")
+        self.path = Path(place.name) / "a.block"
+        self.programs = {b"a.elf": ONE.encode(), b"x/a.elf": ONE.encode()}
 
-    def begin(self, reset: bool, *started: Engine) -> list[str]:
-        """What a node prints that begins with these engines, one after the other."""
-        node = nodes.Node("n1", "http://127.0.0.1:1", self.folder / "n1", store=str(self.folder / "FILE"), reset=reset)
-        said, left, shelf = list[str](), list(started), Shelf()
-        shelf.put(ledger.GENESIS, b"parts\n", 10)
-        shelf.put(ledger.PRUNED, "3 30", 60)
-        node.client = shelf
-        with (
-            unittest.mock.patch.object(node, "say", said.append),
-            unittest.mock.patch.object(node, "begin_as_new", lambda: said.append("takes a dump")),
-            unittest.mock.patch.object(engines, "engine", lambda *_: left.pop(0)),
-        ):
-            node.begin()
-        self.assertEqual(left, [])
-        return said
+    def named(self, text: str, *, with_store: bool = False) -> bytes:
+        self.path.write_text(text, encoding="ascii")
+        return propose.named(self.path, self.programs, with_store=with_store)
 
-    def at_height(self, height: int) -> Answering:
-        engine = Answering(b"ok", b"refused frame NoFrame 7")
-        engine.answers[0] = Done(answers.state_text(answers.State(1, height, 0, 0, 100, None, False, bytes.fromhex(ONE))))
-        return engine
+    def test_programs_are_named_by_their_hashes(self) -> None:
+        text = f"rvblock 1\nprogram 0 a.elf\nprogram 1 x/a.elf\nprogram 2 {OTHER}\ncall 0 1 -\n"
+        expected = f"rvblock 1\nprogram 0 {ONE}\nprogram 1 {ONE}\nprogram 2 {OTHER}\ncall 0 1 -\n"
+        self.assertEqual(self.named(text).decode(), expected)
 
-    def files(self) -> dict[str, str]:
-        return {path.name: path.read_text(encoding="utf-8") for path in self.folder.glob("FILE*")}
+    def test_no_other_file_is_read(self) -> None:
+        for name in ("/etc/passwd", "a.block", "../a.elf", "/dev/stdin", ONE[:-1]):
+            self.assertRaisesRegex(UserError, f"no --program is {name}$", self.named, f"rvblock 1\nprogram 0 {name}\n")
 
-    def test_a_damaged_file_stops_a_node_and_stays(self) -> None:
-        before = self.files()
-        for why in ("Damaged 7", "NotASession 4"):
-            self.assertRaisesRegex(nodes.Stop, f"FILE is refused: rvstm: store {why}; with --reset", self.begin, False, Refusing(why))
-        self.assertEqual(self.files(), before)
-
-    def test_with_reset_a_node_renames_a_damaged_file_and_begins_with_a_dump(self) -> None:
-        said = self.begin(True, Refusing("Damaged 7"), Answering())
-        self.assertIn("takes a dump", said)
-        self.assertEqual(sorted(path.read_text(encoding="utf-8") for path in self.folder.glob("FILE.refused-*")), ["old", "old-wal"])
-        self.assertFalse((self.folder / "FILE").exists() or (self.folder / "FILE-wal").exists())
-
-    def test_no_other_refusal_renames_a_file(self) -> None:
-        before = self.files()
-        for why in ("Busy 1", "HotJournal 2", "Unreadable 3", "OtherVersion 5", "OtherSettings 6", "Memory 9"):
-            self.assertRaisesRegex(engines.Ended, why, self.begin, True, Refusing(why))
-        self.assertEqual(self.files(), before)
-
-    def test_a_file_stops_a_node_if_the_log_after_it_is_pruned(self) -> None:
-        self.assertRaisesRegex(nodes.Stop, "FILE is at height 2, and the log after that is pruned; .*--reset", self.begin, False, self.at_height(2))
-
-    def test_with_reset_a_node_begins_with_a_dump_in_that_file(self) -> None:
-        before = self.files()
-        self.assertIn("takes a dump", self.begin(True, self.at_height(2)))
-        self.assertEqual(self.files(), before)
-
-    def test_a_new_file_begins_with_a_dump_without_reset(self) -> None:
-        self.assertIn("takes a dump", self.begin(False, self.at_height(0)))
+    def test_store_lines_are_asked_for(self) -> None:
+        text = f"rvblock 1\nstore {ONE} 00\n"
+        self.assertRaisesRegex(UserError, "lines `store`", self.named, text)
+        self.assertEqual(self.named(text, with_store=True).decode(), text)
 
 
-class Audits(unittest.TestCase):
-    def ledger_of(self, digests: Sequence[tuple[int, str, str]]) -> Shelf:
-        """A genesis and two blocks at revisions 10, 20 and 30, and what nodes published of them."""
-        shelf = Shelf()
-        shelf.put(ledger.SETTINGS, '{"as": "frame"}', 10)
-        for key, made in ((ledger.GENESIS, 10), (ledger.BLOCKS + "p.1/0000000001", 20), (ledger.BLOCKS + "a.1/0000000001", 30)):
-            shelf.put(key, b"parts\n", made)
-        for number, (height, name, value) in enumerate(digests):
-            shelf.put(ledger.at(ledger.DIGESTS, name, height), value, 40 + number)
-        return shelf
+class Gateway(unittest.TestCase):
+    """The client, over a server that answers as told."""
 
-    def of(self, name: str = "a", **other: str) -> list[tuple[int, str, str]]:
-        return [(height, name, other.get(f"at{height}", f"{ONE} {10 * height}")) for height in (1, 2, 3)]
+    def setUp(self) -> None:
+        self.lines = list[Object]()
+        test = self
 
-    def test_equal_digests_are_right(self) -> None:
-        wrong, seen = audits.audit(self.ledger_of([*self.of("a"), *self.of("b")]), ["a", "b"])
-        self.assertEqual(wrong, [])
-        self.assertIn("3 heights, 3 of them with 6 digests of 2 nodes, 0 dumps", seen)
+        class Handler(http.server.BaseHTTPRequestHandler):
+            def do_POST(self) -> None:
+                test.asked.append(json.loads(self.rfile.read(int(self.headers["Content-Length"]))))
+                self.send_response(test.statuses.pop(0))
+                self.end_headers()
+                self.wfile.write(b"".join(json.dumps(line).encode() + b"\n" for line in test.lines)[: test.cut])
 
-    def test_a_height_is_named_where_digests_differ(self) -> None:
-        wrong, _ = audits.audit(self.ledger_of([*self.of("a"), *self.of("b", at2=f"{OTHER} 20")]))
-        self.assertEqual(wrong, [f"digests at height 2 differ: a {ONE[:16]}, b {OTHER[:16]}"])
+            def log_message(self, *_: object) -> None:
+                pass
 
-    def test_a_digest_of_another_block_is_named(self) -> None:
-        wrong, _ = audits.audit(self.ledger_of(self.of("a", at3=f"{ONE} 20")))
-        self.assertEqual(wrong, ["height 3: a ran another block than the one in the log"])
+        self.asked, self.statuses, self.cut = list[Any](), [200] * 9, 1 << 20
+        server = http.server.ThreadingHTTPServer(("127.0.0.1", 0), Handler)
+        threading.Thread(target=server.serve_forever, daemon=True).start()
+        self.addCleanup(server.server_close)
+        self.addCleanup(server.shutdown)
+        self.client = etcd.Etcd(f"http://127.0.0.1:1,http://127.0.0.1:{server.server_port}", 5)
 
-    def test_a_missing_digest_is_named(self) -> None:
-        wrong, _ = audits.audit(self.ledger_of(self.of("a")[:2]), ["a", "b"])
-        self.assertEqual(wrong, ["a has no digest at the last height, 3", "b has no digest at the last height, 3"])
+    def event(self, key: bytes, revision: int) -> Object:
+        return {"kv": {"key": etcd.packed(key), "create_revision": str(revision), "mod_revision": str(revision)}}
 
-    def test_a_changed_entry_is_named(self) -> None:
-        shelf = self.ledger_of(self.of("a"))
-        shelf.put(ledger.BLOCKS + "p.1/0000000001", b"parts\n", 20, 77)
-        self.assertEqual(audits.audit(shelf)[0], [f"{ledger.BLOCKS}p.1/0000000001 was changed"])
+    def watched(self, *results: Object) -> list[list[bytes]]:
+        self.lines = [{"result": result} for result in results]
+        self.client.urls.sort(key=lambda url: not url.endswith(":1"))
+        return [[pair.key for pair in pairs] for pairs in self.client.watch(b"/log/", 5, 2)]
 
+    def test_the_next_member_is_asked(self) -> None:
+        self.lines = [{"x": 1}]
+        self.assertEqual(self.client.ask("kv/range", {"a": 2}), {"x": 1})
+        self.assertEqual(self.asked, [{"a": 2}])
 
-class Pages(unittest.TestCase):
-    def test_differing_digests_are_marked(self) -> None:
-        names, rows, wrong = status.rows_of({7: {"a": "1", "b": "1", "c": "2"}, 8: {"a": "3", "b": "3"}})
-        self.assertEqual((names, wrong), (["a", "b", "c"], 1))
-        self.assertEqual(rows[0], '<tr><td>8</td><td>3</td><td>3</td><td class="absent">-</td></tr>')
-        self.assertEqual(rows[1], '<tr><td>7</td><td>1</td><td>1</td><td class="differs">2</td></tr>')
+    def test_no_member_answers(self) -> None:
+        self.client.urls, self.client.patience = ["http://127.0.0.1:1"], 0.2
+        self.assertRaisesRegex(UserError, "no member of etcd answers", self.client.ask, "kv/range", {})
 
-    def test_text_from_etcd_is_no_markup(self) -> None:
-        _, rows, _ = status.rows_of({1: {"a": "<script>"}})
-        self.assertIn("&lt;script&gt;", rows[0])
+    def test_a_refusal_is_an_error_unless_it_may_pass(self) -> None:
+        self.lines, self.statuses = [{"code": 14, "error": "no leader"}], [503, 200]
+        self.assertEqual(self.client.ask("kv/range", {})["code"], 14)
+        self.lines, self.statuses = [{"code": 3, "error": "too large"}], [400]
+        self.assertRaisesRegex(etcd.RefusedError, r"etcd: too large \(3\)", self.client.ask, "kv/put", {})
 
+    def test_a_revision_in_fragments_comes_whole(self) -> None:
+        one, two, three = self.event(b"/log/b", 5), self.event(b"/log/a", 5), self.event(b"/log/c", 6)
+        told = {"created": True}, {"events": [one], "fragment": True}, {"events": [two]}, {"events": [three]}
+        self.assertEqual(self.watched(*told), [[b"/log/b", b"/log/a"], [b"/log/c"]])
 
-class Texts(unittest.TestCase):
-    def test_the_key_after_a_prefix(self) -> None:
-        self.assertEqual(etcd.after("/log/"), "/log0")
+    def test_a_watch_that_is_cut_ends(self) -> None:
+        one, two = self.event(b"/log/b", 5), self.event(b"/log/a", 5)
+        self.assertEqual(self.watched({"events": [one], "fragment": True}), [])
+        self.cut = 30
+        self.assertEqual(self.watched({"events": [two]}), [])
 
-    def test_a_refusal_of_the_library_is_a_line_of_a_session(self) -> None:
-        parts = engines.Parts(7, 2, b"block", b"BadLine")
-        library = object.__new__(engines.Library)
-        library.handle = engines.Handle()
-
-        def tell(_: object, to: Any) -> None:
-            to._obj.line, to._obj.number, to._obj.area, to._obj.name = parts.line, parts.number, parts.area, parts.name
-
-        setattr(library, "library", type("Stub", (), {"rvstm_refusal": staticmethod(tell)}))
-        self.assertEqual(library.reason(), b"block 7 BadLine 2")
-        parts = engines.Parts(0, 5, b"frame", b"TooMuchGas")
-        self.assertEqual(library.reason(), b"frame TooMuchGas 5")
-
-    def test_answers_to_strange_blocks_have_the_form_of_a_session(self) -> None:
-        for what, (block, answer) in transfers.strange(random.Random(1)).items():
-            self.assertTrue(answers.ANSWER.fullmatch(answer.encode() + b"\n"), what)
-
+    def test_a_compacted_revision_is_an_error(self) -> None:
+        told = {"compact_revision": "9"}
+        self.assertRaisesRegex(etcd.CompactedError, "revision 5 is compacted, up to 9", self.watched, told)
 
 if __name__ == "__main__":
     unittest.main()

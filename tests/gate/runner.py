@@ -41,6 +41,7 @@ class Tool(enum.Enum):
     CARGO = ("cargo", ("/usr/bin/cargo", "--version"), "")
     RUSTC = ("rustc", ("/usr/bin/rustc", "--version"), "")
     VALGRIND = ("valgrind", ("valgrind", "--version"), "")
+    ETCDCTL = ("etcdctl", ("etcdctl", "version"), "")
     CRYPTOGRAPHY = ("python3-cryptography", ("/usr/bin/python3", "-c", "import cryptography"), "")
     GCC = ("riscv64-unknown-elf-gcc 12.2.0", ("riscv64-unknown-elf-gcc", "--version"), "12.2.0")
 

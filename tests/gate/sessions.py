@@ -422,18 +422,17 @@ def cluster_tests(run: Run, module: str) -> None:
         raise Lacks(f"{skipped[1]} (the others passed)")
 
 
-def demonstration(run: Run) -> None:
-    """The ledger over etcd, with its kills: at the end no digest is wrong."""
-    done = command([TOP / "examples/cluster/cluster", run.place / "ledger"], more=over(run))
+def cluster_faults(run: Run) -> None:
+    """20 heights with each fault once: no block is lost or doubled, and all nodes have one digest."""
+    done = command([TOP / "examples/cluster/faults", run.place / "ledger", "--heights", "20", "--faults", "9"], more=over(run))
     last = last_lines(done.out, 1)
-    holds(done.status == 0 and last.endswith("; 0 wrong"), last or last_lines(done.errors), "an audit with 0 wrong")
+    holds(done.status == 0 and last.endswith(" heights, 9 faults, 0 wrong"), last_lines(done.errors) or last, "0 wrong")
     run.note(last)
 
 
 def over(run: Run) -> dict[str, str]:
-    """What names the program and the library."""
-    library = {"RVSTM_LIBRARY": str(run.setting.library / "librvstm.so")} if run.setting.library else {}
-    return {"RVSTM": str(run.program), "PYTHONDONTWRITEBYTECODE": "1", **library}
+    """What names the program."""
+    return {"RVSTM": str(run.program), "PYTHONDONTWRITEBYTECODE": "1"}
 
 
 def cases() -> list[Case]:
@@ -452,7 +451,7 @@ def cases() -> list[Case]:
         Case("session over a file: faults of files and disks", faults, cost=18),
         Case("session over a file: two syncs before an answer", synced, (Tool.STRACE,)),
         Case("three nodes have one digest", nodes, cost=5),
-        Case("cluster: tests of its parts", lambda run: cluster_tests(run, "test_parts"), cost=2),
-        Case("cluster: tests over etcd", lambda run: cluster_tests(run, "test_cluster"), (Tool.ETCD,), seconds=240, cost=90),
-        Case("cluster: its demonstration", demonstration, (Tool.ETCD,), seconds=240, cost=60),
+        Case("cluster: tests of its parts", lambda run: cluster_tests(run, "test_parts"), cost=4),
+        Case("cluster: tests over etcd", lambda run: cluster_tests(run, "test_cluster"), (Tool.ETCD,), seconds=240, cost=35),
+        Case("cluster: 20 heights with faults", cluster_faults, (Tool.ETCD,), seconds=240, cost=35),
     ]
