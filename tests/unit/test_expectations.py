@@ -72,6 +72,8 @@ class AfterACall(unittest.TestCase):
             "gas at most": "gas: it is `gas at most N` or `same by N workers`",
             "gas 5": "gas: it is `gas at most N` or `same by N workers`",
             "same by 8": "same: it is `gas at most N` or `same by N workers`",
+            "same by 8 gas": "same: it is `gas at most N` or `same by N workers`",
+            "key:1 00 00 worker": f"worker: {words_of_lists}",
             "same by 0 workers": "0: the count of workers is a number of 1 to 32",
             "same by 33 workers": "33: the count of workers is a number of 1 to 32",
             "no other": "no other: here it is `no other write`",
