@@ -10,7 +10,7 @@ const CALL_COST: u64 = 1_500;
 const READ_COST: u64 = 300;
 
 /// What an addition costs by threads, in gas, besides its call. It was chosen so that the frames of
-/// bench/sums run no slower by threads than in order; it is not a time that was measured by itself.
+/// rvstm-developers sums run no slower by threads than in order; it is not a time that was measured by itself.
 const SUM_COST: u64 = 600;
 
 /// What a worker costs, in gas: its thread.
