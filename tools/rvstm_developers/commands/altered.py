@@ -17,7 +17,7 @@ ALTERATIONS = {
 WRAPPER = """\
 #!{python} -S
 import os, subprocess, sys
-with open({log!r}, "a") as log:
+with open({log!r}, "a", encoding="utf-8") as log:
     log.write("ran\\n")
 with subprocess.Popen([{program!r}, *sys.argv[1:]], stdout=subprocess.PIPE) as program:
     while chunk := os.read(program.stdout.fileno(), 1 << 16):
@@ -33,7 +33,7 @@ sys.exit({status})
 def passing(words: list[str], log: Path) -> Iterator[str]:
     """The cases that pass although the program ran in them, one after another."""
     seen = 0
-    with subprocess.Popen(words, stdout=subprocess.PIPE, text=True) as cases:
+    with subprocess.Popen(words, stdout=subprocess.PIPE, encoding="utf-8") as cases:
         assert cases.stdout
         failed = ""
         for line in cases.stdout:

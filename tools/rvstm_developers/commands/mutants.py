@@ -217,7 +217,7 @@ def killer(copy: Path, mutant: Mutant, tests: Sequence[str]) -> str:
     path.write_bytes(mutant.applied(source))
     try:
         words = [sys.executable, "-B", "-m", "unittest", "-f", *tests]
-        ended = subprocess.run(words, cwd=copy / "tests", capture_output=True, text=True, timeout=LONGEST, check=False)
+        ended = subprocess.run(words, cwd=copy / "tests", capture_output=True, encoding="utf-8", timeout=LONGEST, check=False)
     except subprocess.TimeoutExpired:
         return "none ended in time"
     finally:
