@@ -424,7 +424,7 @@ def cluster_tests(run: Run, module: str) -> None:
 
 def cluster_faults(run: Run) -> None:
     """20 heights with each fault once: no block is lost or doubled, and all nodes have one digest."""
-    done = command([TOP / "examples/cluster/faults", run.place / "ledger", "--heights", "20", "--faults", "9"], more=over(run))
+    done = command([TOP / "examples/cluster/faults.py", run.place / "ledger", "--heights", "20", "--faults", "9"], more=over(run))
     last = last_lines(done.out, 1)
     holds(done.status == 0 and last.endswith(" heights, 9 faults, 0 wrong"), last_lines(done.errors) or last, "0 wrong")
     run.note(last)
