@@ -2,6 +2,7 @@
 random sessions beside `rvstm chain`, and the crates in Rust."""
 
 import ctypes
+import hashlib
 import re
 from collections.abc import Sequence
 from functools import partial
@@ -13,6 +14,7 @@ from gate.runner import TOP, Case, Run, Tool, holds, same
 from gate.texts import written
 
 EMBED, TOKEN, INCLUDE = TOP / "examples/embed", TOP / "examples/token", TOP / "include"
+COUNTER = TOP / "examples/counter/counter.elf"
 STRICT = ("-Wall", "-Wextra", "-Wpedantic", "-Werror", f"-I{INCLUDE}")
 VALGRIND = "valgrind -q --error-exitcode=9 --leak-check=full --errors-for-leak-kinds=definite,indirect,possible"
 CARGO_TEST = ("/usr/bin/cargo", "test", "--offline", "--locked")
@@ -85,6 +87,17 @@ def beside_chain(run: Run) -> None:
     run.note(last_lines(done.out, 1))
 
 
+def nothing_left(run: Run) -> None:
+    """41 sessions of 100 frames, some of them wrong, while allocations are refused: each frees all that it took."""
+    made, wraps = run.place / "memory", [f"-Wl,--wrap={name}" for name in ("malloc", "realloc", "free")]
+    command(["cc", *STRICT, TOP / "tests/gate/session_memory.c", *wraps, folder(run) / "librvstm.a", "-o", made]).done()
+    head = f"rvblock 1\nprogram 0 {hashlib.sha256(COUNTER.read_bytes()).hexdigest()}\n"
+    frame, wrong = written(run.place / "frame", head + f"call 0 1000 {1:064x}\n" * 3), written(run.place / "wrong", f"{head}call\n")
+    found = re.fullmatch(r"done (\d+), refused (\d+), failed (\d+)\n", command([made, COUNTER, frame, wrong]).done())
+    done, refused, failed = map(int, found.groups()) if found else (0, 0, 0)
+    same((done + refused + failed, done > 0, refused > 0, failed > 0), (41 * 100, True, True, True))
+
+
 def crates_in_rust(run: Run) -> None:
     """The crates are built with Debian's compiler, offline and with nothing written into the checkout. Their tests pass, some also
     under valgrind. Sessions need no library; blocks without one are refused."""
@@ -120,5 +133,6 @@ def cases() -> list[Case]:
         Case("library: the names that it shows", shown_names, (Tool.NM,), needs_library=True),
         Case("library: two copies in one program", two_copies, (Tool.CC, Tool.NM), needs_library=True),
         Case("library: random sessions beside chain", beside_chain, (Tool.CC, Tool.NM), needs_library=True, cost=8),
+        Case("library: sessions leave no memory", nothing_left, (Tool.CC,), needs_library=True),
         Case("library: the crates in Rust", crates_in_rust, (Tool.CARGO, Tool.RUSTC, Tool.VALGRIND, Tool.CC), needs_library=True, cost=20),
     ]

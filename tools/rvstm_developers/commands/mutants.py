@@ -3,12 +3,10 @@ import ast
 import contextlib
 import io
 import os
-import queue
 import re
 import shutil
 import subprocess
 import sys
-import tempfile
 import threading
 import unittest
 from collections import Counter, defaultdict
@@ -19,27 +17,23 @@ from pathlib import Path
 from types import FrameType
 from typing import Any
 
-from rvstm_developers.texts import TOP
-from rvstm_tools import options
+from rvstm_developers.texts import TOP, new_folder
 from rvstm_tools.errors import UserError
-from rvstm_tools.options import Command, argument
+from rvstm_tools.options import JOBS, Command, argument
 
 TOOLS, TESTS = TOP / "tools", TOP / "tests"
-SOURCES = TOOLS / "rvstm_developers" / "sources"
-REASONS, TELLING = SOURCES / "equal_mutants.txt", SOURCES / "telling_mutants.txt"
-FIRST_RING = (
+EQUAL, TELLING = (TESTS / "unit" / f"{kind}_mutants.txt" for kind in ("equal", "telling"))
+VERDICTS = (
     "texts/expectations.py", "testing", "sessions/replays.py", "sessions/kept.py", "exploring/runs.py", "exploring/models.py",
     "releases/verifying.py", "releases/archives.py",
 )
-SEPARATOR = " | "
 FAILED = re.compile(r"^(?:FAIL|ERROR): \S+ \(([\w.]+)\)", re.MULTILINE)
 LONGEST = 120  # seconds that the tests of a mutant may take
-
 TURNED: dict[type[ast.cmpop], type[ast.cmpop]] = {
     ast.Eq: ast.NotEq, ast.NotEq: ast.Eq, ast.Lt: ast.LtE, ast.LtE: ast.Lt, ast.Gt: ast.GtE, ast.GtE: ast.Gt, ast.In: ast.NotIn,
     ast.NotIn: ast.In, ast.Is: ast.IsNot, ast.IsNot: ast.Is,
 }
-SEQUENCES = ("list", "str", "bytes", "tuple")
+Places = Mapping[tuple[str, int], Sequence[str]]  # for each line of the tools, by module, the tests that reach it
 
 
 @dataclass(frozen=True)
@@ -59,66 +53,59 @@ class Mutant:
         number = f" ({self.number + 1})" if self.number else ""
         return f"{self.module} {self.function}{number}: {' '.join(self.was.split())} -> {' '.join(self.text.split())}"
 
-    def applied(self, source: bytes) -> bytes:
-        return source[: self.start] + self.text.encode() + source[self.end :]
+    def tests(self, places: Places) -> list[str]:
+        """The tests that reach the place. What runs as the module is imported is reached by each test of the module."""
+        reach = {test for line in self.lines for test in places.get((self.module, line), ())}
+        return sorted(reach or {test for (module, _), tests in places.items() if module == self.module for test in tests})
 
 
 def written(node: ast.expr) -> str:
     return f"({ast.unparse(node)})"
 
 
-def changed_comparison(node: ast.Compare) -> Iterator[str]:
-    for index, operator in enumerate(node.ops):
-        others = [*node.ops[:index], TURNED[type(operator)](), *node.ops[index + 1 :]]
-        yield written(ast.Compare(node.left, others, node.comparators))
-    if len(node.ops) > 1:
-        yield written(ast.Compare(node.left, node.ops[:-1], node.comparators[:-1]))
-
-
-def changed_connection(node: ast.BoolOp) -> Iterator[str]:
-    yield written(ast.BoolOp(ast.And() if isinstance(node.op, ast.Or) else ast.Or(), node.values))
-    for index in range(len(node.values)):
-        kept = [*node.values[:index], *node.values[index + 1 :]]
-        yield written(kept[0] if len(kept) == 1 else ast.BoolOp(node.op, kept))
-
-
 def changes(node: ast.AST, returned: str) -> Iterator[tuple[ast.AST, str]]:
     """The changes of a node: the part that is replaced, and the text in its place. `returned` is the annotation of the function."""
     match node:
-        case ast.Compare():
-            yield from ((node, text) for text in changed_comparison(node))
-        case ast.BoolOp():
-            yield from ((node, text) for text in changed_connection(node))
+        case ast.Compare(left=left, ops=operators, comparators=others):
+            for index, operator in enumerate(operators):
+                yield node, written(ast.Compare(left, [*operators[:index], TURNED[type(operator)](), *operators[index + 1 :]], others))
+            if len(operators) > 1:
+                yield node, written(ast.Compare(left, operators[:-1], others[:-1]))
+        case ast.BoolOp(op=connection, values=parts):
+            yield node, written(ast.BoolOp(ast.And() if isinstance(connection, ast.Or) else ast.Or(), parts))
+            for index in range(len(parts)):
+                kept = [*parts[:index], *parts[index + 1 :]]
+                yield node, written(kept[0] if len(kept) == 1 else ast.BoolOp(connection, kept))
         case ast.UnaryOp(op=ast.Not(), operand=operand):
             yield node, written(operand)
         case ast.If(test=test) | ast.IfExp(test=test):
             yield from ((test, text) for text in ("True", "False"))
         case ast.For(iter=items) | ast.comprehension(iter=items):
             yield items, f"list({ast.unparse(items)})[:-1]"
-        case ast.Return(value=ast.expr() as value) if returned.startswith(SEQUENCES):
+        case ast.Return(value=ast.Constant(value="")):
+            pass  # it has no end to leave out
+        case ast.Return(value=ast.expr() as value) if returned.startswith(("list", "str", "bytes", "tuple")):
             yield value, f"({ast.unparse(value)})[:-1]"
         case ast.Raise():
             yield node, "pass"
-        case ast.Constant(value=bool() as value):
-            yield node, str(not value)
-        case ast.Constant(value=int() as value):
-            yield node, str(value + 1)
+        case ast.Constant(value=bool() | int() as value):
+            yield node, f"{value + 1 if type(value) is int else not value}"
 
 
 class Finder(ast.NodeVisitor):
     """Collects the mutants of a module, function by function. Texts with braces are left out: their parts have no places."""
 
     def __init__(self, module: str, source: bytes) -> None:
-        self.module, self.source = module, source
+        self.module, self.source, self.names, self.returned = module, source, list[str](), ""
         self.starts = [0]
         for line in source.splitlines(keepends=True):
             self.starts.append(self.starts[-1] + len(line))
-        self.names: list[str] = []
-        self.returned = ""
         self.counts = Counter[tuple[str, str, str]]()
         self.found: list[Mutant] = []
 
     def generic_visit(self, node: ast.AST) -> None:
+        if isinstance(node, ast.JoinedStr):
+            return
         for part, text in changes(node, self.returned):
             self.add(part, text)
         super().generic_visit(node)
@@ -126,15 +113,12 @@ class Finder(ast.NodeVisitor):
     def add(self, part: Any, text: str) -> None:
         start = self.starts[part.lineno - 1] + part.col_offset
         end = self.starts[part.end_lineno - 1] + part.end_col_offset
-        was, function = self.source[start:end].decode(), ".".join(self.names) or "-"
-        number = self.counts[function, was, text]
-        self.counts[function, was, text] += 1
-        self.found.append(Mutant(self.module, function, range(part.lineno, part.end_lineno + 1), start, end, was, text, number))
+        same = function, was, _ = ".".join(self.names) or "-", self.source[start:end].decode(), text
+        lines = range(part.lineno, part.end_lineno + 1)
+        self.found.append(Mutant(self.module, function, lines, start, end, was, text, self.counts[same]))
+        self.counts[same] += 1
 
-    def visit_JoinedStr(self, node: ast.JoinedStr) -> None:
-        pass
-
-    def visit_ClassDef(self, node: ast.ClassDef) -> None:
+    def visit_ClassDef(self, node: ast.ClassDef | ast.FunctionDef) -> None:
         node.decorator_list.clear()  # whether a class is frozen, say, no test has to find
         self.names.append(node.name)
         super().generic_visit(node)
@@ -142,7 +126,7 @@ class Finder(ast.NodeVisitor):
 
     def visit_FunctionDef(self, node: ast.FunctionDef) -> None:
         before, self.returned = self.returned, ast.unparse(node.returns) if node.returns else ""
-        self.visit_ClassDef(node)  # type: ignore[arg-type]  # both have a name and a body
+        self.visit_ClassDef(node)
         self.returned = before
 
 
@@ -158,19 +142,15 @@ def mutants_of(modules: Iterable[str]) -> Iterator[Mutant]:
             yield from finder.found
 
 
-# ---- the tests
-
-
 def all_tests(suite: unittest.TestSuite) -> Iterator[unittest.TestCase]:
     for test in suite:
         yield from all_tests(test) if isinstance(test, unittest.TestSuite) else [test]
 
 
-def reaching_tests() -> dict[tuple[str, int], list[str]]:
-    """For each line of the tools, by module, the tests that reach it in their own process. All tests run once, each traced."""
+def reaching_tests() -> Places:
+    """Runs all tests once, each traced in its own threads."""
     root = str(TOOLS / "rvstm_tools") + os.sep
-    found: defaultdict[tuple[str, int], list[str]] = defaultdict(list)
-    seen = set[tuple[str, int]]()
+    found, seen = defaultdict[tuple[str, int], list[str]](list), set[tuple[str, int]]()
 
     def trace(frame: FrameType, event: str, value: object) -> Any:
         if not frame.f_code.co_filename.startswith(root):
@@ -180,8 +160,7 @@ def reaching_tests() -> dict[tuple[str, int], list[str]]:
 
     sys.path.insert(0, str(TESTS))
     with contextlib.chdir(TESTS):
-        tests = list(all_tests(unittest.defaultTestLoader.discover("unit", top_level_dir=".")))
-        for test in tests:
+        for test in all_tests(unittest.defaultTestLoader.discover("unit", top_level_dir=".")):
             seen.clear()
             nothing = io.TextIOWrapper(io.BytesIO(), encoding="utf-8")  # one for each test, since a test may detach it
             with contextlib.redirect_stdout(nothing), contextlib.redirect_stderr(nothing):
@@ -192,29 +171,14 @@ def reaching_tests() -> dict[tuple[str, int], list[str]]:
                 threading.settrace(None)  # type: ignore[arg-type]  # as sys.settrace takes it
             for place in seen:
                 found[place].append(test.id())
-    return dict(found)
-
-
-def tests_of(mutant: Mutant, places: dict[tuple[str, int], list[str]]) -> set[str]:
-    """The tests that reach the place. What runs as the module is imported is reached by each test of the module."""
-    reach = {test for line in mutant.lines for test in places.get((mutant.module, line), [])}
-    return reach or {test for (module, _), tests in places.items() if module == mutant.module for test in tests}
-
-
-def new_copy(folder: Path) -> None:
-    """A checkout in which only the tools and the tests are copied."""
-    for path in TOP.iterdir():
-        if path in (TOOLS, TESTS):
-            shutil.copytree(path, folder / path.name, symlinks=True, ignore=shutil.ignore_patterns("__pycache__", ".mypy_cache"))
-        else:
-            (folder / path.name).symlink_to(path)
+    return found
 
 
 def killer(copy: Path, mutant: Mutant, tests: Sequence[str]) -> str:
-    """The first of some tests that fails over a mutant; empty if none does."""
+    """The first of some tests that fails over a mutant in a copy of the checkout; empty if none does, or there is none."""
     path = copy / "tools" / "rvstm_tools" / mutant.module
     source = path.read_bytes()
-    path.write_bytes(mutant.applied(source))
+    path.write_bytes(source[: mutant.start] + mutant.text.encode() + source[mutant.end :])
     try:
         words = [sys.executable, "-B", "-m", "unittest", "-f", *tests]
         ended = subprocess.run(words, cwd=copy / "tests", capture_output=True, encoding="utf-8", timeout=LONGEST, check=False)
@@ -227,68 +191,53 @@ def killer(copy: Path, mutant: Mutant, tests: Sequence[str]) -> str:
 
 
 def killers(tried: Sequence[tuple[Mutant, Sequence[str]]], jobs: int) -> list[str]:
-    """The killer of each mutant, of the tests that reach it."""
-    copies = queue.Queue[Path]()
+    """The killer of each mutant, of the tests that reach it. A job has a copy of the tools and the tests, and links to the rest."""
 
-    def killer_of(case: tuple[Mutant, Sequence[str]]) -> str:
-        copy = copies.get()
-        try:
-            return killer(copy, *case) if case[1] else ""
-        finally:
-            copies.put(copy)
+    def of_part(part: Sequence[tuple[Mutant, Sequence[str]]]) -> list[str]:
+        with new_folder("mutants-") as copy:
+            for path in TOP.iterdir():
+                if path in (TOOLS, TESTS):
+                    shutil.copytree(path, copy / path.name, symlinks=True, ignore=shutil.ignore_patterns("__pycache__", ".mypy_cache"))
+                else:
+                    (copy / path.name).symlink_to(path)
+            return [killer(copy, mutant, tests) if tests else "" for mutant, tests in part]
 
-    with tempfile.TemporaryDirectory(prefix="mutants-") as place, ThreadPoolExecutor(jobs) as pool:
-        for number in range(jobs):
-            folder = Path(place) / str(number)
-            folder.mkdir()
-            new_copy(folder)
-            copies.put(folder)
-        return list(pool.map(killer_of, tried))
+    with ThreadPoolExecutor(jobs) as pool:
+        parts = list(pool.map(of_part, [tried[number::jobs] for number in range(jobs)]))
+    return [parts[index % jobs][index // jobs] for index in range(len(tried))]
 
 
 def rows_of(path: Path) -> dict[str, str]:
-    """The mutants that a file lists, each with what stands after it."""
-    lines = path.read_text(encoding="utf-8").splitlines() if path.exists() else []
-    return {mutant: text for mutant, _, text in (line.rpartition(SEPARATOR) for line in lines if not line.startswith("#"))}
+    """The mutants that a file lists, each with what it has after it."""
+    lines = path.read_text(encoding="utf-8").splitlines()
+    return {mutant: text for mutant, _, text in (line.rpartition(" | ") for line in lines if not line.startswith("#"))}
 
 
-def print_table(found: Sequence[Mutant], same: Mapping[str, str], left: Sequence[Mutant]) -> None:
-    counts, equal, lives = (Counter(m.module for m in mutants) for mutants in (found, [m for m in found if str(m) in same], left))
-    print("| module | mutants | killed | mean the same | left |", "|---|---|---|---|---|", sep="\n")
-    for module in counts:
-        print(f"| {module} | {counts[module]} | {counts[module] - equal[module] - lives[module]} | {equal[module]} | {lives[module]} |")
-
-
-def try_modules(modules: Sequence[str], jobs: int, *, shows_killers: bool) -> list[Mutant]:
-    found, same, places = list(mutants_of(modules)), rows_of(REASONS), reaching_tests()
-    tried = [(mutant, sorted(tests_of(mutant, places))) for mutant in found if str(mutant) not in same]
+def try_modules(modules: Sequence[str], jobs: int) -> list[Mutant]:
+    found, equal, places = list(mutants_of(modules)), rows_of(EQUAL), reaching_tests()
+    tried = [(mutant, mutant.tests(places)) for mutant in found if str(mutant) not in equal]
     by = killers(tried, jobs)
     left = [mutant for (mutant, _), test in zip(tried, by) if not test]
-    print_table(found, same, left)
-    if shows_killers:
-        print(*(f"{mutant}{SEPARATOR}{test}" for (mutant, _), test in zip(tried, by) if test), sep="\n")
+    counts, same, lives = (Counter(m.module for m in some) for some in (found, (m for m in found if str(m) in equal), left))
+    print("| module | mutants | killed | mean the same | left |", "|---|---|---|---|---|", sep="\n")
+    for module in counts:
+        print(f"| {module} | {counts[module]} | {counts[module] - same[module] - lives[module]} | {same[module]} | {lives[module]} |")
     return left
 
 
 def try_telling(jobs: int) -> list[Mutant]:
-    """The telling mutants that the test which is listed for each does not find. One that is not there any more is refused."""
-    rows = rows_of(TELLING)
-    found = {str(mutant): mutant for mutant in mutants_of(FIRST_RING)}
+    """The telling mutants that the test beside each does not find. A change that no place has any more is refused."""
+    rows, found = rows_of(TELLING), {str(mutant): mutant for mutant in mutants_of(VERDICTS)}
     if missing := [name for name in rows if name not in found]:
         raise UserError(f"{TELLING}: no place of the tools changes so: {missing[0]}")
-    tried = [(found[name], [test]) for name, test in rows.items()]
-    by = killers(tried, jobs)
+    by = killers([(found[name], [test]) for name, test in rows.items()], jobs)
     print(f"{sum(map(bool, by))} of {len(by)} telling mutants are found, each by its test")
-    return [mutant for (mutant, _), test in zip(tried, by) if not test]
+    return [found[name] for name, test in zip(rows, by) if not test]
 
 
 def run(given: argparse.Namespace) -> int:
-    if given.telling:
-        left = try_telling(given.jobs)
-    else:
-        left = try_modules(given.modules or FIRST_RING, given.jobs, shows_killers=given.killers)
-    for mutant in left:
-        print(f"left: {mutant}")
+    left = try_telling(given.jobs) if given.telling else try_modules(given.modules or VERDICTS, given.jobs)
+    print("".join(f"left: {mutant}\n" for mutant in left), end="")
     return 1 if left else 0
 
 
@@ -296,16 +245,14 @@ COMMAND = Command(
     "Changes one place of the tools at a time, and runs the tests that reach it: at least one of them has to fail.",
     """
 A comparison is turned or cut, a condition dropped, a number moved by one, `and` and `or` exchanged, a loop ended one early, a list
-returned without its end, a refusal left out. Which tests reach a line is found by running all of them once. It prints a table by
-module, and each mutant that no test found. A mutant that means the same as the source stands with its reason in equal_mutants.txt.
-The status is 1 if mutants are left.
+returned without its end, a refusal left out. It prints a table by module, and each mutant that no test found. A mutant that means
+the same as the source is in equal_mutants.txt with its reason. The status is 1 if mutants are left.
 """,
     "texts/expectations.py testing",
     run,
     (
         argument("modules", nargs="*", metavar="MODULE", help="modules or packages below rvstm_tools (what decides on `passed`)"),
         argument("--telling", action="store_true", help="the mutants of telling_mutants.txt alone, each by the test beside it"),
-        argument("--killers", action="store_true", help="print each mutant that was found, with the test that found it"),
-        options.JOBS,
+        JOBS,
     ),
 )
