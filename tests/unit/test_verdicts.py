@@ -11,7 +11,7 @@ from unittest import mock
 from xml.etree import ElementTree
 
 from rvstm_tools.programs.running import Printed, Program
-from rvstm_tools.testing import causes, junit, listed, reports
+from rvstm_tools.testing import causes, junit, listed, reports, testers
 from rvstm_tools.testing.gastables import Gas, GasDifference, GasOfInput, GasTable, OfCall
 from rvstm_tools.testing.listed import ListedTest
 from rvstm_tools.testing.runs import Run
@@ -111,6 +111,16 @@ class Runs(InFolderWithProgram):
         self.assertEqual(said[1:4], ["    storage", "        line 6: expect same by 2 workers", f"        wanted  `rvstm seq` prints  call 0 {NO}"])
         of_call = f"{BEGIN}expect same by 2 workers\nblock\ncall a 8\n"
         self.assertEqual(len(self.lines(of_call, [result(SEVEN), result(NO)], workers=result(SEVEN))), 1)
+
+
+    def test_gas_counts_unless_it_is_updated(self) -> None:
+        (tried,) = self.tried(f"{BEGIN}expect gas at most 4\n", result(SEVEN))
+        self.assertEqual(tried.missed, 1)
+
+    def test_a_comment_of_an_updated_line_stays(self) -> None:
+        test = self.read(f"{BEGIN}expect gas at most 4 # gas at most 3 once\n")
+        self.assertTrue(testers.update(test, {3: 5}))
+        self.assertEqual(test.path.read_text(encoding="utf-8"), f"{BEGIN}expect gas at most 5 # gas at most 3 once\n")
 
 
 class Reports(InFolderWithProgram):

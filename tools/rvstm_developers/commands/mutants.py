@@ -28,7 +28,7 @@ VERDICTS = (
     "releases/verifying.py", "releases/archives.py",
 )
 FAILED = re.compile(r"^(?:FAIL|ERROR): \S+ \(([\w.]+)\)", re.MULTILINE)
-LONGEST = 120  # seconds that the tests of a mutant may take
+LONGEST = 20  # seconds that the tests of a mutant may take
 TURNED: dict[type[ast.cmpop], type[ast.cmpop]] = {
     ast.Eq: ast.NotEq, ast.NotEq: ast.Eq, ast.Lt: ast.LtE, ast.LtE: ast.Lt, ast.Gt: ast.GtE, ast.GtE: ast.Gt, ast.In: ast.NotIn,
     ast.NotIn: ast.In, ast.Is: ast.IsNot, ast.IsNot: ast.Is,
