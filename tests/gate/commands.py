@@ -448,9 +448,15 @@ def names_of_tools(run: Run) -> None:
         holds("usage: " in command([launcher, name, "--help"]).done(), name, "a line of usage")
 
 
+def mistakes(_: Run) -> None:
+    """Each of 60 changes of what decides on `passed` fails a test."""
+    same(command([*tool_words("mutants"), "--telling", "--jobs", "1"]).done(), "60 of 60 telling mutants are found, each by its test\n")
+
+
 def cases() -> list[Case]:
     found = [Case(f"rvstm {name}", call, cost=0.5) for name, call in COMMANDS.items()]
     found += [Case(f"tool {name}", call, needs, cost=2) for name, (call, needs) in TOOLS.items()]
     found += [Case("rvstm help and version", help_and_version), Case("rvstm refusals", refusals)]
     found.append(Case("tool session: typed blocks", typed_blocks, cost=2))
+    found.append(Case("tools: mistakes in verdicts are found", mistakes, cost=20))
     return [*found, Case("tools: each has a case", names_of_tools)]
