@@ -2,7 +2,7 @@
 
 use crate::slot::Slot;
 use rv_ledger::{Key, key_hash};
-use std::alloc::{AllocError, Global};
+use std::alloc::Global;
 
 /// There are at least this many places for each key. So few keys lose their place to another one.
 const PLACES_PER_KEY: usize = 4;
@@ -42,7 +42,7 @@ impl Hints {
     /// the old ones stay.
     pub(crate) fn note(&mut self, list: &[(Key, Slot)]) {
         let mut first = list.len().saturating_sub(1);
-        if self.places.len() / PLACES_PER_KEY < list.len() && self.make_places().is_ok() {
+        if self.places.len() / PLACES_PER_KEY < list.len() && self.make_places() {
             first = 0;
         }
         for position in first..list.len() {
@@ -50,16 +50,18 @@ impl Hints {
         }
     }
 
-    /// Makes twice as many places, unless there are the most; refused if memory ran out.
-    fn make_places(&mut self) -> Result<(), AllocError> {
+    /// Makes twice as many places. Returns whether it did: not if there are the most, or if memory ran out.
+    fn make_places(&mut self) -> bool {
         let count = self.places.len().saturating_mul(2);
         if count > MOST_PLACES {
-            return Err(AllocError);
+            return false;
         }
         let mut places = Vec::new(*self.places.allocator());
-        places.resize(count.max(FEWEST_PLACES), 0)?;
+        if places.resize(count.max(FEWEST_PLACES), 0).is_err() {
+            return false;
+        }
         self.places = places;
-        Ok(())
+        true
     }
 
     /// Notes the position of a key.
