@@ -181,7 +181,7 @@ fn chain_of_numbers<'a>(alloc: Global) -> Result<Command<'a>, AllocError>
     let about =
         "Answers the requests of the standard input in one session, whose frames run on one storage";
     let help =
-        "How many workers run the calls of a block if that pays, 1 to 32; without it all run in order";
+        "Number of threads for blocks that gain by them, 1 to 32; without it, calls run in order";
     Command::new(alloc, "chain")
         .about(about)
         .after_help(REQUESTS)
@@ -224,13 +224,9 @@ fn workers<'a>(alloc: Global) -> Arg<'a>
     ensures rule { rule_of result ≡ workers_rule }
     ensures local { result.global ≡ false }
 {
-    option(
-        alloc,
-        "workers",
-        "N",
-        "How many workers make the steps, 1 to 32",
-    )
-    .value_parser(value_parser!(usize).range(1..=WORKER_LIMIT))
+    option(alloc, "workers", "N", "Number of threads, 1 to 32").value_parser(value_parser!(
+        usize
+    ).range(1..=WORKER_LIMIT))
 }
 
 /// The option `--call N`.

@@ -294,7 +294,7 @@ impl Replay {
         self.machine().pc
     }
 
-    /// The registers.
+    /// The 32 registers at the replay's present moment, x0 first.
     pub fn regs(&self) -> &Regs
         ensures { result.now ≡ (standing_machine self.now).regs }
     {

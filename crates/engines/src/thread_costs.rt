@@ -3,7 +3,7 @@
 use rv_ledger::{Change, Receipt, Writes};
 
 /// What a call costs by threads besides its own steps, in gas: its steps under the lock, one after the other. A transfer's gas,
-/// some 1,270, goes into storage calls, which are no faster by threads; so by this cost such calls run in order.
+/// at most 1,828, goes into storage calls, which are no faster by threads; so by this cost such calls run in order.
 const CALL_COST: u64 = 1_500;
 
 /// What a read costs by threads, in gas: it is made and checked under the lock.

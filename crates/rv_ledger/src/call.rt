@@ -95,7 +95,7 @@ impl Call {
         self.rules
     }
 
-    /// The program.
+    /// The loaded program that the call runs.
     pub fn image(&self) -> &Image
         ensures { result.now ≡ self.now.image }
     {

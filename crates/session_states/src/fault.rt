@@ -20,9 +20,9 @@ pub enum StoreFault {
     /// what was written; or a new FILE has no room. In a commit, after each of its two syncs: FILE or FILE-wal no longer
     /// leads to the session's file. After the first sync the request is not kept.
     Unreadable,
-    /// FILE is no database, has a page that is not well formed, lacks one of the four tables, or has another table or
-    /// index; FILE is missing or empty, and FILE-wal has a commit; or FILE has one byte, and FILE-wal has a commit, but
-    /// not every page.
+    /// FILE is not a session's database: it is no database, has a page that is not well formed, lacks one of the four
+    /// tables, or has another table or index. Or FILE is missing or empty, and FILE-wal has a commit. Or FILE has one
+    /// byte, and FILE-wal has a commit, but not every page.
     NotASession,
     /// The first row of `session` has a whole number other than 1 as its `version`.
     OtherVersion,

@@ -40,7 +40,7 @@ impl KeptBytes {
         }
     }
 
-    /// The bytes.
+    /// All bytes of the answer that is kept, lent.
     pub fn as_slice(&self) -> &[u8]
         ensures { result.now ≡ self.now }
     {

@@ -28,7 +28,7 @@ impl RecordFault {
         self as u8
     }
 
-    /// Its name.
+    /// The name that a refusal prints, such as `ArenaFull`.
     pub fn name(self) -> &'static str
         ensures { result.now ≡ record_name self }
     {

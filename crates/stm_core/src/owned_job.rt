@@ -35,7 +35,7 @@ impl Core {
         Core::of(alloc, arena, job, workers)
     }
 
-    /// The job.
+    /// The block and the storage before it, as the core was made.
     pub fn job(&self) -> &Job
         ensures { result.now ≡ self.now.job }
     {

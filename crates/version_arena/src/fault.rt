@@ -25,7 +25,7 @@ impl ReserveFault {
         self as u8
     }
 
-    /// Its name.
+    /// The name that a refusal prints: `ArenaFull` or `Memory`.
     pub fn name(self) -> &'static str
         ensures { result.now ≡ name_of self }
     {

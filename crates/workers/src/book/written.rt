@@ -34,7 +34,7 @@ impl WrittenFault {
         WrittenFault { fault }
     }
 
-    /// The fault.
+    /// Why the write was refused.
     pub fn fault(self) -> RunFault
         ensures { result ≡ self }
     {
