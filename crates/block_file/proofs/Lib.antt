@@ -1,6 +1,7 @@
 pub mod Cuts
 pub mod FieldLemmas
 pub mod HexText
+pub mod HexLanes
 pub mod Places
 pub mod Lines
 pub mod Blocks

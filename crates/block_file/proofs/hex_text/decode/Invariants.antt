@@ -1,12 +1,13 @@
-use Rattle.std.proofs.Common.{◌≡◌, ℕ, ◌<◌, ◌*◌, true, slice_index, take, drop}
-use Rattle.hex.specs.Hex.{decode_pairs}
-use Rattle.hex.proofs.Pairs.{prepend}
-use Rattle.block_file.specs.Line.{is_lower_digit}
+use Rattle.std.proofs.Common.{◌≡◌, ◌*◌, ◌-◌, ◌≤◌, length, take, Ok}
+use Rattle.block_file.specs.Line.{hex_of}
 use Rattle.block_file.proofs.hex_text.decode.Given as goal
 
--- the digits so far are in lower case, and their bytes are written
-abbrev pub invariant-loop-i : goal.invariant-loop-i
-invariant-loop-i l = record {
-  lower : (k : ℕ) → k < 2 * l.i → is_lower_digit (slice_index l.text k) ≡ true;
-  decoded : decode_pairs 0 l.text ≡ prepend (take l.i l.out) (decode_pairs (2 * l.i) (drop (2 * l.i) l.text));
+-- the digits so far are read, and their bytes are written
+abbrev pub invariant-loop-out : goal.invariant-loop-out
+invariant-loop-out l = record {
+  within : l.at ≤ length l.out;
+  read : hex_of (take (2 * l.at) l.text) ≡ Ok (take l.at l.out);
 }
+
+abbrev pub decreases-loop-out : goal.decreases-loop-out
+decreases-loop-out l = length l.out - l.at
