@@ -1,8 +1,8 @@
 -- Hex digits, sixteen bytes at a time.
-use Rattle.std.proofs.Common.{◌≡◌, ℕ, ◌/◌, ◌%◌, ◌^◌, ◌<◌, ap₂, List, [], ◌∷◌, ◌++◌, length, map, take, drop, get_or, replicate, slice_index, bit_and, refl, sym, ap, ◌∙◌, arith, w8, Fits}
+use Rattle.std.proofs.Common.{◌≡◌, ℕ, ◌/◌, ◌%◌, ◌^◌, ◌<◌, ap₂, List, [], ◌∷◌, ◌++◌, length, map, take, drop, get_or, replicate, slice_index, bit_and, refl, sym, ap, subst, ◌∙◌, arith, w8, Fits}
 use Rattle.std.proofs.lemmas.List.{get_or-map, length-map, ext_get_or, take-append-drop, take_all}
 use Rattle.std.proofs.lemmas.Nat.{and_le_r, and_mask}
-use Rattle.std.proofs.lemmas.Simd.{Each1-all, Each1-weaker, Each1-get_or, Each1-zip2, Each2-splat, below_from_Fits, length-zip2, swz_l, SwzOk, SwzOk-from_below, length-swz_l, get_or-swz_l_below, zip2_splat, map-map}
+use Rattle.std.proofs.lemmas.Simd.{Each1-all, Each1-weaker, Each1-get_or, Each1-zip2, Each2-splat, below_from_Fits, length-zip2, swz_l, SwzOk, SwzOk-from_below, length-swz_l, get_or-swz_l_below, zip2_splat, map-map, pick_l_whole}
 use lib.Lanes.{zip2, chunk, pick_l, Each1}
 use Rattle.hex.specs.Hex.{encode_lower, encode_with, lower_digits}
 
@@ -91,24 +91,9 @@ in_turn_back l = pick_l 0 l (8 ∷ 24 ∷ 9 ∷ 25 ∷ 10 ∷ 26 ∷ 11 ∷ 27 �
 -- high and low digits in turn are hex
 woven : (v : List ℕ) → length v ≡ 16 → in_turn_front (map high v ++ map low v) ++ in_turn_back (map high v ++ map low v) ≡ encode_lower v
 unfolding encode_with
-woven [] long = absurd (omega arith)
-woven (a ∷ []) long = absurd (omega arith)
-woven (a ∷ b ∷ []) long = absurd (omega arith)
-woven (a ∷ b ∷ c ∷ []) long = absurd (omega arith)
-woven (a ∷ b ∷ c ∷ d ∷ []) long = absurd (omega arith)
-woven (a ∷ b ∷ c ∷ d ∷ e ∷ []) long = absurd (omega arith)
-woven (a ∷ b ∷ c ∷ d ∷ e ∷ f ∷ []) long = absurd (omega arith)
-woven (a ∷ b ∷ c ∷ d ∷ e ∷ f ∷ g ∷ []) long = absurd (omega arith)
-woven (a ∷ b ∷ c ∷ d ∷ e ∷ f ∷ g ∷ h ∷ []) long = absurd (omega arith)
-woven (a ∷ b ∷ c ∷ d ∷ e ∷ f ∷ g ∷ h ∷ i ∷ []) long = absurd (omega arith)
-woven (a ∷ b ∷ c ∷ d ∷ e ∷ f ∷ g ∷ h ∷ i ∷ j ∷ []) long = absurd (omega arith)
-woven (a ∷ b ∷ c ∷ d ∷ e ∷ f ∷ g ∷ h ∷ i ∷ j ∷ k ∷ []) long = absurd (omega arith)
-woven (a ∷ b ∷ c ∷ d ∷ e ∷ f ∷ g ∷ h ∷ i ∷ j ∷ k ∷ l ∷ []) long = absurd (omega arith)
-woven (a ∷ b ∷ c ∷ d ∷ e ∷ f ∷ g ∷ h ∷ i ∷ j ∷ k ∷ l ∷ m ∷ []) long = absurd (omega arith)
-woven (a ∷ b ∷ c ∷ d ∷ e ∷ f ∷ g ∷ h ∷ i ∷ j ∷ k ∷ l ∷ m ∷ n ∷ []) long = absurd (omega arith)
-woven (a ∷ b ∷ c ∷ d ∷ e ∷ f ∷ g ∷ h ∷ i ∷ j ∷ k ∷ l ∷ m ∷ n ∷ o ∷ []) long = absurd (omega arith)
-woven (a ∷ b ∷ c ∷ d ∷ e ∷ f ∷ g ∷ h ∷ i ∷ j ∷ k ∷ l ∷ m ∷ n ∷ o ∷ p ∷ []) long = refl
-woven (a ∷ b ∷ c ∷ d ∷ e ∷ f ∷ g ∷ h ∷ i ∷ j ∷ k ∷ l ∷ m ∷ n ∷ o ∷ p ∷ z ∷ more) long = absurd (omega arith)
+woven v long =
+    subst (λ (d : List ℕ). in_turn_front (map high d ++ map low d) ++ in_turn_back (map high d ++ map low d) ≡ encode_lower d)
+    (pick_l_whole 0 v 16 long) refl
 
 -- the first sixteen digits
 pub woven_front : (v : List ℕ) → length v ≡ 16 → in_turn_front (map high v ++ map low v) ≡ take 16 (encode_lower v)
@@ -132,9 +117,16 @@ pub first_eight : (a b c d : ℕ) → take 8 (four a b c d) ≡ encode_lower (a 
 unfolding encode_with
 first_eight a b c d = refl
 
--- the digits after a space
-pub spaced : (a b c d : ℕ)
-    → take 9 (pick_l 0 (four a b c d ++ replicate 16 32) (16 ∷ 0 ∷ 1 ∷ 2 ∷ 3 ∷ 4 ∷ 5 ∷ 6 ∷ 7 ∷ 8 ∷ 9 ∷ 10 ∷ 11 ∷ 12 ∷ 13 ∷ 14 ∷ []))
-    ≡ 32 ∷ encode_lower (a ∷ b ∷ c ∷ d ∷ [])
-unfolding encode_with
-spaced a b c d = refl
+-- a space, and the first eight of sixteen digits
+abbrev with_front : List ℕ → List ℕ
+with_front v = pick_l 0 (v ++ replicate 16 32) (16 ∷ 0 ∷ 1 ∷ 2 ∷ 3 ∷ 4 ∷ 5 ∷ 6 ∷ 7 ∷ 8 ∷ 9 ∷ 10 ∷ 11 ∷ 12 ∷ 13 ∷ 14 ∷ [])
+
+pub front_spaced : (v : List ℕ) → length v ≡ 16 → take 9 (with_front v) ≡ 32 ∷ take 8 v
+front_spaced v long = subst (λ (d : List ℕ). take 9 (with_front d) ≡ 32 ∷ take 8 d) (pick_l_whole 0 v 16 long) refl
+
+-- a space, and the last eight
+abbrev with_back : List ℕ → List ℕ
+with_back v = pick_l 0 (v ++ replicate 16 32) (16 ∷ 8 ∷ 9 ∷ 10 ∷ 11 ∷ 12 ∷ 13 ∷ 14 ∷ 15 ∷ 16 ∷ 16 ∷ 16 ∷ 16 ∷ 16 ∷ 16 ∷ 16 ∷ [])
+
+pub back_spaced : (v : List ℕ) → length v ≡ 16 → take 9 (with_back v) ≡ 32 ∷ drop 8 v
+back_spaced v long = subst (λ (d : List ℕ). take 9 (with_back d) ≡ 32 ∷ drop 8 d) (pick_l_whole 0 v 16 long) refl

@@ -4,3 +4,4 @@ pub mod Fields
 pub mod OneText
 pub mod Hexed
 pub mod Lanes
+pub mod Words

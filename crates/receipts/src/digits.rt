@@ -1,7 +1,9 @@
 //! Numbers and bytes in digits, at the end of a text.
 
-ghost use Rattle.std.specs.Prelude.{◌≡◌, ◌/◌, ◌%◌, ◌∷◌, [], drop, length, map, replicate, slice_index, take};
+ghost use Rattle.std.specs.Prelude.{◌≡◌, ◌≤◌, ◌+◌, ◌/◌, ◌%◌, ◌∷◌, ◌++◌, [], drop, length, map, replicate, slice_index, take};
 ghost use Rattle.std.specs.Fmt.{decimal};
+ghost use Rattle.std.specs.Int.{to_be_bytes, w32};
+ghost use Rattle.std.specs.List.{flat_map};
 ghost use Rattle.hex.specs.Hex.{encode_lower, lower_digits};
 ghost use Rattle.receipts.specs.Buffer.{Appended};
 ghost use Rattle.receipts.specs.Text.{bytes_text, word_text};
@@ -75,16 +77,78 @@ fn digits_of_four(a: u8, b: u8, c: u8, d: u8) -> u8x16
     digits_of(u8x16::from_array(bytes)).0
 }
 
+/// A space and the first eight of sixteen digits; what follows them has no meaning.
+#[inline(always)]
+fn front_field(digits: u8x16) -> u8x16
+    ensures { take 9 result ≡ 32 ∷ take 8 digits }
+{
+    digits.shuffle(
+        u8x16::splat(b' '),
+        [16, 0, 1, 2, 3, 4, 5, 6, 7, 8, 9, 10, 11, 12, 13, 14],
+    )
+}
+
+/// A space and the last eight of sixteen digits; what follows them has no meaning.
+#[inline(always)]
+fn back_field(digits: u8x16) -> u8x16
+    ensures { take 9 result ≡ 32 ∷ drop 8 digits }
+{
+    digits.shuffle(
+        u8x16::splat(b' '),
+        [16, 8, 9, 10, 11, 12, 13, 14, 15, 16, 16, 16, 16, 16, 16, 16],
+    )
+}
+
 /// A space and a word in eight hex digits, the highest first; what follows them has no meaning.
 fn word_field(word: u32) -> [u8; 16]
     ensures { take 9 result ≡ 32 ∷ word_text word }
 {
     let [a, b, c, d] = word.to_be_bytes();
-    let spaced = digits_of_four(a, b, c, d).shuffle(
-        u8x16::splat(b' '),
-        [16, 0, 1, 2, 3, 4, 5, 6, 7, 8, 9, 10, 11, 12, 13, 14],
-    );
-    spaced.to_array()
+    front_field(digits_of_four(a, b, c, d)).to_array()
+}
+
+/// The bytes of four words, the highest byte of each word first.
+#[inline(always)]
+fn word_bytes(words: &[u32]) -> u8x16
+    requires { length words.now ≡ 4 }
+    ensures { result ≡ flat_map (to_be_bytes w32) words.now }
+{
+    u32x4::from_slice(words)
+        .to_le_bytes()
+        .swizzle([3, 2, 1, 0, 7, 6, 5, 4, 11, 10, 9, 8, 15, 14, 13, 12])
+}
+
+/// Puts a field of nine bytes into a line, at a place that has room for sixteen.
+#[inline(always)]
+fn put_field(line: &mut [u8], at: usize, field: u8x16)
+    requires { at + 16 ≤ length line.old }
+    ensures { take (at + 9) line.new ≡ take at line.old ++ take 9 field }
+{
+    field.copy_to_slice(&mut line[at..]);
+}
+
+/// Puts four words into a line, each after a space, at a place that has room for 43 bytes.
+#[inline(always)]
+fn put_four_words(line: &mut [u8], at: usize, words: &[u32])
+    requires words { length words.now ≡ 4 }
+    requires room { at + 43 ≤ length line.old }
+    ensures { take (at + 36) line.new ≡ take at line.old ++ flat_map (λ word. 32 ∷ word_text word) words.now }
+{
+    let (front, back) = digits_of(word_bytes(words));
+    put_field(line, at, front_field(front));
+    put_field(line, at + 9, back_field(front));
+    put_field(line, at + 18, front_field(back));
+    put_field(line, at + 27, back_field(back));
+}
+
+/// Puts 32 words into a line that has room for 300 bytes, each after a space: 288 bytes after the first four.
+pub(crate) fn put_words(line: &mut [u8], words: &[u32; 32])
+    requires { 300 ≤ length line.old }
+    ensures { take 292 line.new ≡ take 4 line.old ++ flat_map (λ word. 32 ∷ word_text word) words.now }
+{
+    for i in 0..8 {
+        put_four_words(line, 4 + 36 * i, &words[4 * i..4 * i + 4]);
+    }
 }
 
 /// Appends a space and a word in eight hex digits.

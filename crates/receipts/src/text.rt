@@ -1,15 +1,15 @@
 //! The whole text.
 
-ghost use Rattle.std.specs.Prelude.{◌≡◌, IfOk, ◌++◌, ◌∷◌, map, codes};
+ghost use Rattle.std.specs.Prelude.{◌≡◌, IfOk, ◌++◌, ◌∷◌, map, codes, take};
 ghost use Rattle.std.specs.Fmt.{decimal};
 ghost use Rattle.std.specs.FinMap.{entries};
 ghost use Rattle.std.specs.List.{enumerate_from, flat_map};
 ghost use Rattle.hex.specs.Hex.{encode_lower};
 ghost use Rattle.receipts.specs.Buffer.{Appended};
-ghost use Rattle.receipts.specs.Text.{end_name, more_fields, word_text, call_line, regs_line, write_line, store_line, call_lines, result_text};
+ghost use Rattle.receipts.specs.Text.{end_name, word_text, call_line, regs_line, write_line, store_line, call_lines, result_text};
 
 use crate::buffer::TextBuffer;
-use crate::digits::{push_bytes, push_decimal, push_key, push_word_field};
+use crate::digits::{push_bytes, push_decimal, push_key, push_word_field, put_words};
 use crate::lines::end_name;
 use byte_streams::{Destination, WriteFault};
 use rv_isa::Regs;
@@ -106,18 +106,19 @@ fn push_gas_and_pc<W: Destination>(text: &mut TextBuffer, gas: u32, pc: u32, out
 pub(crate) fn push_regs<W: Destination>(text: &mut TextBuffer, regs: &Regs, out: &mut W)
     ensures { Appended W.Destination text.old out.old text.new out.new (regs_line regs.now) }
 {
-    text.push(b"regs", out);
-    push_words(text, regs.values(), out);
+    text.push(&regs_bytes(regs)[..293], out);
 }
 
-/// Appends words, each after a space, and ends the line.
-fn push_words<W: Destination>(text: &mut TextBuffer, words: &[u32; 32], out: &mut W)
-    ensures { Appended W.Destination text.old out.old text.new out.new (more_fields (map word_text words.now)) }
+/// The line of the 32 registers, x0 first; what follows its 293 bytes has no meaning.
+#[inline(always)]
+fn regs_bytes(regs: &Regs) -> [u8; 304]
+    ensures { take 293 result ≡ regs_line regs.now }
 {
-    for word in words {
-        push_word_field(text, *word, out);
-    }
-    text.push(b"\n", out);
+    let mut line = [0; 304];
+    line[..4].copy_from_slice(b"regs");
+    put_words(&mut line, regs.values());
+    line[292] = b'\n';
+    line
 }
 
 /// Appends the lines of the writes of the call at an index.
