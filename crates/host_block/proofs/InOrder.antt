@@ -1,6 +1,6 @@
 -- Each step of a block's run keeps its calls in order.
 use Rattle.std.proofs.Common.{◌≡◌, ◌<◌, ◌≤◌, ◌+◌, ◌⊎◌, inl, inr, ℕ, suc, Bool, true, false, cond, is_some, List, [], ◌∷◌, ◌++◌, length, drop, slice_get, Option, Some, None, Result, Ok, Err, OnOk, OnErr, IfSome, IsSome, refl, sym, ap, subst, ◌∙◌, arith}
-use Rattle.std.specs.FinMap.{contains_key, empty, get, get-empty, get-insert, insert}
+use Rattle.std.specs.FinMap.{contains_key, empty, entries, get, get-empty, get-insert, insert}
 use Rattle.std.specs.Cmp.Lexicographic.{nat_list_cmp_total}
 use Rattle.std.specs.Global.{Vec}
 use Rattle.std.specs.List.{Contains}
@@ -29,7 +29,7 @@ use Rattle.rv_step.specs.declared.spare_run.SpareRun.{SpareRun}
 use Rattle.stm_state.proofs.Writes.{applied_get, content_after}
 use Rattle.host_block.specs.Changes.{Agrees, listed_changes}
 use Rattle.host_block.specs.Known.{KeepsAnswers}
-use Rattle.host_block.specs.Ordered.{AreSums, AreSumsKnown, HasAllWrites, IsInOrder, IsListed, IsRestOf, IsResult, AreCallsSerial, IsUnderWay, IsWritten, KeepsReceipts, OrderedView, now_with, receipts_with, ordered_view}
+use Rattle.host_block.specs.Ordered.{AreSums, AreSumsKnown, IsInOrder, IsListed, IsRestOf, IsResult, AreCallsSerial, IsUnderWay, IsWritten, KeepsReceipts, OrderedView, now_with, receipts_with, ordered_view}
 use Rattle.host_block.specs.Slots.{TouchedView}
 use Rattle.host_block.specs.declared.parts.Current.{Current}
 use Rattle.host_block.specs.declared.parts.Current.TheVariants as current
@@ -155,11 +155,15 @@ writes_join p receipts receipt count after touched h is same bases now written =
     subst (λ (bs : Changes). IsInOrder (record p { receipts = receipts; current = current.Ended receipt after; touched = record { bases = bs; changes = touched.changes } })) (sym bases)
     (changes_join p receipts receipt count after touched.changes h is same now written)
 
-pub receipt_kept : (p : Parts) (receipts : Vec Receipt) (receipt : Receipt) (count : ℕ) → IsInOrder p → p.current ≡ current.Ended receipt count → HasAllWrites p.current
+-- only the room of the receipts changes
+pub room_made : (p : Parts) (receipts : Vec Receipt) (receipt : Receipt) (count : ℕ) → IsInOrder p → p.current ≡ current.Ended receipt count
+    → receipts.items ≡ p.receipts.items → IsInOrder (record p { receipts = receipts; current = current.Ended receipt count })
+room_made p receipts receipt count h is same = writes_join p receipts receipt count count p.touched h is same refl (λ store. refl) (λ key has. inl has)
+
+pub receipt_kept : (p : Parts) (receipts : Vec Receipt) (receipt : Receipt) (count : ℕ) → IsInOrder p → p.current ≡ current.Ended receipt count → drop count (entries receipt.writes) ≡ []
     → receipts.items ≡ p.receipts.items ++ receipt ∷ [] → IsInOrder (record p { receipts = receipts; current = current.Next })
-receipt_kept p receipts receipt count h is all more =
+receipt_kept p receipts receipt count h is none more =
     let less : length p.receipts.items < length p.calls.items = subst (λ (k : Current). IsUnderWay p.calls.items p.receipts.items k p.touched.changes p.touched.bases) is h.under_way in
-    let none : HasAllWrites (current.Ended receipt count) = subst HasAllWrites is all in
     record {
       serial = λ store agrees. subst (λ (rs : List Receipt). IsRestOf p.calls.items store rs (drop (length rs) p.calls.items) (apply_writes store p.touched.changes)) (sym more)
           (one_kept p.calls.items store p.receipts.items p.touched.changes receipt count none (subst (λ (k : Current). AreCallsSerial p.calls.items p.receipts.items k p.touched.changes store) is (h.serial store agrees)));

@@ -1,5 +1,6 @@
 -- The parts of slots: what is found of each, what an edit changes, and how they are listed.
-use Rattle.std.proofs.Common.{◌≡◌, ℕ, Bool, true, false, cond, T, List, [], ◌∷◌, Option, None, Some, refl, sym, ap, ◌∙◌}
+use Rattle.std.proofs.Common.{◌≡◌, ℕ, Bool, true, false, cond, T, List, [], ◌∷◌, Option, None, Some, Result, Ok, Err, OnOk, OnErr, refl, sym, ap, ◌∙◌}
+use Rattle.std.specs.declared.alloc.AllocError.{AllocError}
 use Rattle.std.specs.FinMap.{empty, entries, entries-from_sorted, entries_sorted, find, from_entries, from_sorted, get, get-empty, get-entries, get-from_entries, get-from_sorted, get-insert, insert, is_sorted, same_map}
 use Rattle.std.specs.FinMap.Entries.{below_all}
 use Rattle.std.specs.Cmp.{eq_by_cmp_equiv}
@@ -65,7 +66,7 @@ module _ {X : Type 0} (part : Option Slot → Option X) (none : part None ≡ No
       by rest (Some x) is false same = ap (λ b. cond b (Some x) (find key_cmp q (slot_parts part es))) same ∙ rest
 
   -- what the part of slots has at a key
-  pub get_part : (m : SlotMap) (q : List ℕ) → get (part_map part m) q ≡ part (get m q)
+  get_part : (m : SlotMap) (q : List ℕ) → get (part_map part m) q ≡ part (get m q)
   get_part m q = get-from_entries nat_list_cmp_total (slot_parts part (entries m)) q ∙ find_part (entries m) (entries_sorted m) q ∙ ap part (sym (get-entries m q))
 
   -- its entries are those of the slots that have it
@@ -123,11 +124,25 @@ views bases bases' changes changes' b c = ap (λ (m : Changes). view_of m change
 pub none_touched : (es : SlotList) → es ≡ [] → touched_view (from_entries es) ≡ view_of empty empty
 none_touched es is = ap (λ (xs : SlotList). touched_view (from_entries xs)) is ∙ views _ _ _ _ (part_of_none slot_base refl) (part_of_none slot_change refl)
 
-pub placed_same : (es fs : SlotList) (key : List ℕ) → IsSlotPlaced es fs key → touched_view (from_entries fs) ≡ touched_view (from_entries es)
+placed_same : (es fs : SlotList) (key : List ℕ) → IsSlotPlaced es fs key → touched_view (from_entries fs) ≡ touched_view (from_entries es)
 placed_same es fs key h =
     let slot : Slot = slot_or_none (slot_at_key es key) in
     ap touched_view (one_set es fs key slot h)
     ∙ views _ _ _ _ (part_kept slot_base refl (from_entries es) key slot (same_base es key)) (part_kept slot_change refl (from_entries es) key slot (same_change es key))
+
+-- the slot of a key has what is known of it
+pub base_found : (es : SlotList) (touched : TouchedView) (key : List ℕ) (found : Option Slot) → found ≡ slot_at_key es key → touched_view (from_entries es) ≡ touched → slot_base found ≡ get touched.bases key
+base_found es touched key found is view = ap slot_base (is ∙ sym (get_value es key)) ∙ sym (get_part slot_base refl (from_entries es) key) ∙ ap (λ (t : TouchedView). get t.bases key) view
+
+-- and its change
+pub change_found : (es : SlotList) (touched : TouchedView) (key : List ℕ) (found : Option Slot) → found ≡ slot_at_key es key → touched_view (from_entries es) ≡ touched → slot_change found ≡ get touched.changes key
+change_found es touched key found is view = ap slot_change (is ∙ sym (get_value es key)) ∙ sym (get_part slot_change refl (from_entries es) key) ∙ ap (λ (t : TouchedView). get t.changes key) view
+
+-- a key got no slot or its first one, if memory ran out or not
+pub placed_or_same : (tried : Result ℕ AllocError) (es fs : SlotList) (key : List ℕ) → OnOk tried (IsSlotPlaced es fs key) → OnErr tried (fs ≡ es)
+    → touched_view (from_entries fs) ≡ touched_view (from_entries es)
+placed_or_same (Ok position) es fs key placed same = placed_same es fs key placed
+placed_or_same (Err refused) es fs key placed same = ap (λ (xs : SlotList). touched_view (from_entries xs)) same
 
 pub base_set : (es fs : SlotList) (key : List ℕ) (content : Content) → IsSlotSetAt es fs key (with_base content (slot_at_key es key))
     → touched_view (from_entries fs) ≡ view_of (insert (part_map slot_base (from_entries es)) key content) (part_map slot_change (from_entries es))

@@ -147,28 +147,16 @@ IsCallStop None before p = length p.receipts.items ≡ suc before
 abbrev pub HasBegun : Parts → Type 0
 HasBegun p = p.current ≡ current.Next → ⊥
 
--- the run of the call under way has ended
-abbrev pub HasEndedRun : Current → Type 0
-HasEndedRun (current.Run run) = IsEnded run.stage
-HasEndedRun under_way = ⊥
+-- the call under way has ended: its run, or all of it but some of its writes
+abbrev pub IsCallOver : Current → Type 0
+IsCallOver (current.Run run) = IsEnded run.stage
+IsCallOver (current.Ended receipt count) = ⊤
+IsCallOver current.Next = ⊥
 
--- the call under way has ended
-abbrev pub IsCallEnded : Current → Type 0
-IsCallEnded (current.Ended receipt count) = ⊤
-IsCallEnded under_way = ⊥
-
-abbrev pub IsCallOver : Parts → Type 0
-IsCallOver p = IsCallEnded p.current
-
--- the call under way has ended, and all its writes are among the changes
-abbrev pub HasAllWrites : Current → Type 0
-HasAllWrites (current.Ended receipt count) = drop count (map.entries receipt.writes) ≡ []
-HasAllWrites under_way = ⊥
-
--- a call stopped at a key, or its run has ended
+-- a call stopped at a key, or it has ended
 abbrev pub IsRunStop : Option (List ℕ) → Parts → Type 0
 IsRunStop (Some key) p = Wants p key
-IsRunStop None p = IsCallOver p
+IsRunStop None p = IsCallOver p.current
 
 -- a storage with these changes, and with the writes of a call from an index on
 abbrev pub now_with : WriteMap → WriteMap → ℕ → Storage → Storage

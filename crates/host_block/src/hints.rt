@@ -38,11 +38,16 @@ impl Hints {
         }
     }
 
+    /// Makes places for this many keys before the first is noted. If memory for them is refused, there are none.
+    pub(crate) fn reserve(&mut self, keys: usize) {
+        let _ = self.make_places(keys);
+    }
+
     /// Notes the last key of a list. If there are too few places, it makes more, and notes all keys. If memory for them is refused,
     /// the old ones stay.
     pub(crate) fn note(&mut self, list: &[(Key, Slot)]) {
         let mut first = list.len().saturating_sub(1);
-        if self.places.len() / PLACES_PER_KEY < list.len() && self.make_places() {
+        if self.places.len() / PLACES_PER_KEY < list.len() && self.make_places(list.len()) {
             first = 0;
         }
         for position in first..list.len() {
@@ -50,14 +55,15 @@ impl Hints {
         }
     }
 
-    /// Makes twice as many places. Returns whether it did: not if there are the most, or if memory ran out.
-    fn make_places(&mut self) -> bool {
-        let count = self.places.len().saturating_mul(2);
-        if count > MOST_PLACES {
+    /// Makes places for this many keys. Returns whether it did: not if there are as many or the most, or if memory ran out.
+    fn make_places(&mut self, keys: usize) -> bool {
+        let wanted = keys.saturating_mul(PLACES_PER_KEY);
+        let count = wanted.clamp(FEWEST_PLACES, MOST_PLACES).next_power_of_two();
+        if count <= self.places.len() {
             return false;
         }
         let mut places = Vec::new(*self.places.allocator());
-        if places.resize(count.max(FEWEST_PLACES), 0).is_err() {
+        if places.resize(count, 0).is_err() {
             return false;
         }
         self.places = places;

@@ -20,11 +20,12 @@ pub(crate) enum Known<'a> {
 }
 
 /// Looks up what a call of the block reads at a key: what earlier calls left there. Only a key with a value or a removal among the changes
-/// needs no answer of the host. Takes no memory.
-pub(crate) fn look_up<'a>(touched: &'a TouchedKeys, key: &Key) -> Known<'a>
+/// needs no answer of the host. The key is soonest found if it is at `position`. Takes no memory.
+#[inline(always)]
+pub(crate) fn look_up<'a>(touched: &'a TouchedKeys, key: &Key, position: usize) -> Known<'a>
     ensures { known_content result ≡ known_after (map.get touched.now.changes key.now) (map.get touched.now.bases key.now) }
 {
-    match touched.get(key) {
+    match touched.get_at(key, position) {
         Some(slot) => known_of(slot),
         None => Known::Nothing,
     }

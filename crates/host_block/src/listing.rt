@@ -29,7 +29,7 @@ pub(crate) fn listed(touched: &TouchedKeys) -> Result<Vec<(Key, Option<StoredVal
     ensures { IfOk result (λ list. list.items ≡ listed_changes touched.now.bases touched.now.changes) }
 {
     let alloc = touched.allocator();
-    let mut list = Vec::new(alloc);
+    let mut list = Vec::with_capacity(alloc, touched.len())?;
     for (key, slot) in touched.iter() {
         if let Some(change) = &slot.change {
             list.push((*key, resolved(alloc, change, slot.base.as_ref())?))?;

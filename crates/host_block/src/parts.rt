@@ -2,8 +2,9 @@
 
 ghost use Rattle.std.specs.Prelude.{◌≡◌, ◌⊎◌, ◌<◌, ◌≤◌, ◌+◌, ℕ, List, [], drop, true, IfOk, IsSome, OnErr, OnOk, None, Some, is_some, length, slice_get, vec_capacity, vec_len};
 ghost use Rattle.std.specs.FinMap as map;
-ghost use Rattle.host_block.specs.Ordered.{HasAllWrites, HasBegun, IsCallOver, HasEndedRun, IsCallStop, IsInOrder, IsNextSum, IsRunStop, IsStop, KeepsReceipts, SameParts, now_with};
+ghost use Rattle.host_block.specs.Ordered.{HasBegun, IsCallOver, IsCallStop, IsInOrder, IsNextSum, IsRunStop, IsStop, KeepsReceipts, SameParts, now_with};
 ghost use Rattle.rv_ledger.specs.Key.{Storage};
+ghost use Rattle.host_block.specs.declared.parts.Current.TheVariants.{Ended};
 
 use crate::listing::{listed, sum_keys};
 use crate::run_call::run_call;
@@ -84,7 +85,7 @@ fn go_call(p: &mut Parts) -> Result<Option<Key>, AllocError>
     if let Some(key) = run_on(p)? {
         return Ok(Some(key));
     }
-    keep(p)?;
+    end_call(p)?;
     Ok(None)
 }
 
@@ -113,7 +114,7 @@ fn make_room(p: &mut Parts) -> Result<(), AllocError>
 {
     if p.receipts.is_empty() {
         let count = p.calls.len().saturating_mul(KEYS_PER_CALL);
-        p.touched.reserve(count)?;
+        p.touched.reserve_first(count)?;
     }
     Ok(())
 }
@@ -129,26 +130,30 @@ fn run_on(p: &mut Parts) -> Result<Option<Key>, AllocError>
     ensures receipts { p.new.receipts ≡ p.old.receipts }
     ensures stop { IfOk result (λ asked. IsRunStop asked p.new) }
 {
-    if let Current::Run(run) = &mut p.current {
-        if let Some(key) = run_call(run, &mut p.touched)? {
-            return Ok(Some(key));
+    match &mut p.current {
+        Current::Run(run) => {
+            if let Some(key) = run_call(run, &mut p.touched)? {
+                return Ok(Some(key));
+            }
+            Ok(None)
         }
-        end_call(p);
+        _ => Ok(None),
     }
-    Ok(None)
 }
 
-/// Takes the receipt of the call under way, whose run has ended.
-fn end_call(p: &mut Parts)
+/// Adds the writes of the call that has ended to the changes, and keeps its receipt. Refused if memory ran out; then some of the
+/// writes may be among the changes, and it may continue.
+fn end_call(p: &mut Parts) -> Result<(), AllocError>
     requires in_order { IsInOrder p.old }
-    requires ended { HasEndedRun p.old.current }
+    requires ended { IsCallOver p.old.current }
     requires more { length p.old.receipts.items < length p.old.calls.items }
     ensures in_order { IsInOrder p.new }
     ensures leaves { SameParts p.old p.new }
     ensures listed { p.new.listed ≡ p.old.listed }
-    ensures receipts { p.new.receipts ≡ p.old.receipts }
-    ensures ended { IsCallOver p.new }
+    ensures keeps { KeepsReceipts p.old.receipts.items p.new.receipts.items }
+    ensures receipts { OnOk result (length p.new.receipts.items ≡ length p.old.receipts.items + 1) }
 {
+    p.receipts.reserve(p.calls.len() - p.receipts.len())?;
     match replace(&mut p.current, Current::Next) {
         Current::Run(run) => {
             one_receipt();
@@ -158,30 +163,37 @@ fn end_call(p: &mut Parts)
                 ..
             } = run.finish_in(&mut p.spare);
             p.spare.keep_answers(answers);
-            p.current = Current::Ended(receipt, 0);
+            keep(p, receipt, 0)
         }
-        _ => unreachable!(),
+        Current::Ended(receipt, count) => keep(p, receipt, count),
+        Current::Next => unreachable!(),
     }
 }
 
-/// Adds the writes of the call that has ended to the changes, and keeps its receipt. Refused if memory ran out; then some of the
-/// writes may be among the changes, and it may continue.
-fn keep(p: &mut Parts) -> Result<(), AllocError>
-    requires in_order { IsInOrder p.old }
-    requires ended { IsCallOver p.old }
+/// Adds the writes of a call from an index on to the changes, and keeps its receipt, in room that is there. Refused if memory ran
+/// out; then some of the writes may be among the changes, and it may continue.
+#[inline(always)]
+fn keep(p: &mut Parts, receipt: Receipt, count: usize) -> Result<(), AllocError>
+    requires in_order { IsInOrder (record p.old { current = Ended receipt count }) }
+    requires room { vec_len p.old.receipts < vec_capacity p.old.receipts }
     ensures in_order { IsInOrder p.new }
     ensures leaves { SameParts p.old p.new }
     ensures listed { p.new.listed ≡ p.old.listed }
     ensures keeps { KeepsReceipts p.old.receipts.items p.new.receipts.items }
     ensures receipts { OnOk result (length p.new.receipts.items ≡ length p.old.receipts.items + 1) }
 {
-    p.receipts.reserve(1)?;
-    match &mut p.current {
-        Current::Ended(receipt, count) => add_writes(&mut p.touched, &receipt.writes, count)?,
-        _ => unreachable!(),
+    let mut added = count;
+    match add_writes(&mut p.touched, &receipt.writes, &mut added) {
+        Ok(()) => {
+            p.receipts.push_reserved(receipt);
+            p.current = Current::Next;
+            Ok(())
+        }
+        Err(refused) => {
+            p.current = Current::Ended(receipt, added);
+            Err(refused)
+        }
     }
-    keep_receipt(p);
-    Ok(())
 }
 
 /// Adds writes of a call to the changes, from the one of an index on. Refused if memory ran out; then the index is that of the first
@@ -203,23 +215,6 @@ fn add_writes(
         *count += 1;
     }
     Ok(())
-}
-
-/// Keeps the receipt of the call that has ended, whose writes are all among the changes, in room that is there.
-fn keep_receipt(p: &mut Parts)
-    requires in_order { IsInOrder p.old }
-    requires ended { HasAllWrites p.old.current }
-    requires room { vec_len p.old.receipts < vec_capacity p.old.receipts }
-    ensures in_order { IsInOrder p.new }
-    ensures leaves { SameParts p.old p.new }
-    ensures listed { p.new.listed ≡ p.old.listed }
-    ensures keeps { KeepsReceipts p.old.receipts.items p.new.receipts.items }
-    ensures receipts { length p.new.receipts.items ≡ length p.old.receipts.items + 1 }
-{
-    match replace(&mut p.current, Current::Next) {
-        Current::Ended(receipt, _) => p.receipts.push_reserved(receipt),
-        _ => unreachable!(),
-    }
 }
 
 /// After the last call: continues until a key to which the calls only added is not known, which is returned, or until the changes

@@ -38,8 +38,8 @@ fn answer_known(run: &mut Run, touched: &mut TouchedKeys, key: &Key) -> Result<b
     ensures err { OnErr result (run.new ≡ run.old) }
     ensures fewer { IfOk result (λ is_known. is_known ≡ true → steps_left run.new < steps_left run.old) }
 {
-    touched.touch(key)?;
-    match look_up(touched, key) {
+    let position = touched.touch(key)?;
+    match look_up(touched, key, position) {
         Known::Content(content) => {
             run.answer_lent(LentValue::of_stored(content), Origin::plain(None))?;
             Ok(true)

@@ -21,7 +21,7 @@ pub(crate) struct SlotTable {
     /// The position of each key in the list.
     tree: BTreeMap<Key, usize>,
     /// For most keys, a hint of the same.
-    hints: Hints,
+    pub(crate) hints: Hints,
 }
 
 impl SlotTable {
@@ -46,6 +46,18 @@ impl SlotTable {
             Some(position) => Some(&self.list[position].1),
             None => None,
         }
+    }
+
+    /// The same, soonest found if the key is at this position.
+    #[inline(always)]
+    pub(crate) fn get_at(&self, key: &Key, position: usize) -> Option<&Slot>
+        requires { IsTableIndexed self.now }
+        ensures { option_copied result ≡ slot_at_key (table_slots self.now) key.now }
+    {
+        if self.stands_at(key, position) {
+            return Some(&self.list[position].1);
+        }
+        self.get(key)
     }
 
     /// The position of a key.

@@ -60,19 +60,38 @@ impl TouchedKeys {
         self.table.get(key)
     }
 
-    /// Makes room for what will be kept of a key, which changes nothing that is seen. Refused if memory ran out.
-    pub(crate) fn touch(&mut self, key: &Key) -> Result<(), AllocError>
+    /// The same, soonest found if the key is at this position.
+    #[inline(always)]
+    pub(crate) fn get_at(&self, key: &Key, position: usize) -> Option<&Slot>
+        ensures base { slot_base (option_copied result) ≡ map.get self.now.bases key.now }
+        ensures change { slot_change (option_copied result) ≡ map.get self.now.changes key.now }
+    {
+        self.table.get_at(key, position)
+    }
+
+    /// Makes room for what will be kept of a key, which changes nothing that is seen. Returns the position of that room. Refused if
+    /// memory ran out.
+    #[inline(always)]
+    pub(crate) fn touch(&mut self, key: &Key) -> Result<usize, AllocError>
         ensures { self.new ≡ self.old }
     {
-        let _position = self.table.place(key)?;
+        self.table.place(key)
+    }
+
+    /// Makes room for this many keys if there are none yet, which changes nothing that is seen. Refused if memory ran out.
+    pub(crate) fn reserve_first(&mut self, count: usize) -> Result<(), AllocError>
+        ensures { self.new ≡ self.old }
+    {
+        if self.table.list.is_empty() {
+            self.table.list.reserve(count)?;
+            self.table.hints.reserve(count);
+        }
         Ok(())
     }
 
-    /// Makes room for this many keys more, which changes nothing that is seen. Refused if memory ran out.
-    pub(crate) fn reserve(&mut self, count: usize) -> Result<(), AllocError>
-        ensures { self.new ≡ self.old }
-    {
-        Ok(self.table.list.reserve(count)?)
+    /// How many keys there are.
+    pub(crate) fn len(&self) -> usize {
+        self.table.list.len()
     }
 
     /// The keys, ascending, each with what is kept of it.
