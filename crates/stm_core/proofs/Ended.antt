@@ -1,5 +1,5 @@
 -- What a run of a job leaves, once workers are done.
-use Rattle.std.proofs.Common.{◌≡◌, ◌≤◌, ℕ, true, List, [], ◌∷◌, length, map, None, Some, refl, ap, ◌∙◌}
+use Rattle.std.proofs.Common.{◌≡◌, ◌≤◌, ℕ, zero, suc, true, slice_get, option_and_then, List, [], ◌∷◌, length, map, None, Some, refl, ap, ◌∙◌}
 use Rattle.std.specs.List.{filter_map}
 use Rattle.std.specs.FinMap.{get, same_map, slice_cmp-IsAntisymmetric, nat_cmp-IsAntisymmetric}
 use Rattle.std.specs.Cmp.Lexicographic.{nat_list_cmp_total}
@@ -26,6 +26,14 @@ all_receipts (call ∷ calls) (r ∷ receipts) h =
     let rest : map last_receipt calls ≡ map Some receipts = cc in
     rw first (ap (λ xs. r ∷ xs) (all_receipts calls receipts rest))
 
+-- so the receipt of the call at an index is the one at that index
+receipt_there : (calls : List CallState) (receipts : List Receipt) → map last_receipt calls ≡ map Some receipts → (i : ℕ) → option_and_then last_receipt (slice_get calls i) ≡ slice_get receipts i
+receipt_there [] [] h i = refl
+receipt_there [] (r ∷ receipts) h i = cc
+receipt_there (call ∷ calls) [] h i = cc
+receipt_there (call ∷ calls) (r ∷ receipts) h zero = cc
+receipt_there (call ∷ calls) (r ∷ receipts) h (suc i) = let rest : map last_receipt calls ≡ map Some receipts = cc in receipt_there calls receipts rest i
+
 module _ (job : Job) (table : Table) (promised : ℕ) (schedule : Schedule) (h : IsReached job table promised schedule) (done : is_done (state_in table promised schedule) ≡ true) where
   -- no entry is an estimate, and no call past the last one has an entry
   pub versions_alone : DoneHasVersionsAlone → HasVersionsAlone (block_of job.block job.store) (state_in table promised schedule)
@@ -34,6 +42,9 @@ module _ (job : Job) (table : Table) (promised : ℕ) (schedule : Schedule) (h :
   -- the receipts are those of running the calls in order
   pub receipts_are : DoneIsInOrder → filter_map last_receipt schedule.calls ≡ receipts_of job.block job.store
   receipts_are law = all_receipts schedule.calls (receipts_of job.block job.store) (law job.block job.store (length schedule.tasks) (state_in table promised schedule) h.reached done).0
+
+  pub receipt_is : DoneIsInOrder → (i : ℕ) → option_and_then last_receipt (slice_get schedule.calls i) ≡ slice_get (receipts_of job.block job.store) i
+  receipt_is law = receipt_there schedule.calls (receipts_of job.block job.store) (law job.block job.store (length schedule.tasks) (state_in table promised schedule) h.reached done).0
 
   -- so is the storage
   pub store_is : DoneIsInOrder → DoneHasVersionsAlone → (store : Storage)

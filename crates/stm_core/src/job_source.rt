@@ -7,7 +7,7 @@ ghost use Rattle.rv_ledger.specs.declared.job.Job.{Job};
 
 use rv_ledger::{Call, Contents, Job, Key, LentBlock, StoredValue};
 
-/// What holds a job: its calls, and its storage or what stands for one.
+/// What holds the calls of a job. Its storage may be elsewhere.
 pub trait JobSource: Drop {
     ghost job: { Self → Job };
 
@@ -15,10 +15,13 @@ pub trait JobSource: Drop {
     fn calls(&self) -> &[Call]
         ensures value { result.now ≡ (job self.now).block }
         ensures count { length (job self.now).block ≤ 1024 };
+}
 
+/// What holds a job with its storage, or with what stands for one.
+pub trait StoredJob: JobSource {
     /// What the storage before the first call has at a key, or None if the key is absent.
     fn content(&self, key: &Key) -> Option<&StoredValue>
-        ensures { option_copied result ≡ map.get (job self.now).store key.now };
+        ensures { option_copied result ≡ map.get (Self.job self.now).store key.now };
 }
 
 impl JobSource for Job {
@@ -27,7 +30,9 @@ impl JobSource for Job {
     fn calls(&self) -> &[Call] {
         self.block.calls()
     }
+}
 
+impl StoredJob for Job {
     fn content(&self, key: &Key) -> Option<&StoredValue> {
         self.store.get(key)
     }
@@ -49,7 +54,9 @@ impl<S: Contents> JobSource for LentJob<'_, S> {
     fn calls(&self) -> &[Call] {
         self.block.calls()
     }
+}
 
+impl<S: Contents> StoredJob for LentJob<'_, S> {
     fn content(&self, key: &Key) -> Option<&StoredValue> {
         self.contents.get(key)
     }

@@ -22,7 +22,7 @@ mod versions;
 
 pub use driving::{DriveFault, WORKER_LIMIT, drive};
 pub use fault::{IncarnationLimit, RecordFault, Refused};
-pub use job_source::{JobSource, LentJob};
+pub use job_source::{JobSource, LentJob, StoredJob};
 pub use next_step::{AskResult, NextStep, ReadResult, StepKind};
 pub use outcome::Finished;
 pub use ready_record::{ReadyRecord, reads_made};

@@ -1,6 +1,7 @@
 //! What the run of a job leaves.
 
-ghost use Rattle.std.specs.Prelude.{◌≡◌, ◌≤◌, ℕ, List, None, length, IfOk};
+ghost use Rattle.std.specs.Option.{option_copied};
+ghost use Rattle.std.specs.Prelude.{◌≡◌, ◌≤◌, ℕ, List, None, length, option_and_then, slice_get, IfOk};
 ghost use Rattle.std.specs.List.{filter_map};
 ghost use Rattle.std.specs.FinMap.{get};
 ghost use Rattle.mvmap.specs.Versions.{HasNoEstimate, entry_at};
@@ -96,6 +97,19 @@ fn moved_receipts(alloc: Global, calls: Vec<CallState>) -> Result<Vec<Receipt>, 
         }
     }
     Ok(receipts)
+}
+
+/// The receipt of the last recorded run of the call at an index; None if there is none.
+pub(crate) fn receipt_at(calls: &[CallState], index: usize) -> Option<&Receipt>
+    ensures { option_copied result ≡ option_and_then last_receipt (slice_get calls.now index) }
+{
+    match calls.get(index) {
+        Some(call) => match &call.last {
+            Some(run) => Some(&run.receipt),
+            None => None,
+        },
+        None => None,
+    }
 }
 
 /// The receipts of the calls' last recorded runs; refused if memory ran out.

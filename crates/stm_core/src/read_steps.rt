@@ -1,6 +1,6 @@
 //! A read of a worker's run, as a step of the core, and the room for it.
 
-use crate::job_source::JobSource;
+use crate::job_source::{JobSource, StoredJob};
 use crate::next_step::ReadResult;
 use crate::state::Core;
 use rv_ledger::{Key, LentValue, StoredValue};
@@ -36,19 +36,6 @@ impl<H: JobSource> Core<H> {
             return Ok(());
         }
         self.read_room.grow(&mut self.scheduler, worker)
-    }
-
-    /// A worker's run reads the key that it asks for, in room that `room_for_read` made. Takes no memory.
-    pub fn read(&mut self, worker: usize, key: &Key) -> ReadResult
-        requires due { IsDue worker (steps.ReadKey key.now) self.old }
-        requires room { HasReadRoom worker self.old }
-        ensures makes { Makes worker (steps.ReadKey key.now) self.old self.new }
-        ensures answers { (i : ℕ) → runs (task_at self.old.state worker) i ≡ true → result ≡ read_result_of self.old.job.store key.now (reading self.old.state.versions key.now i) }
-        ensures passed { (i : ℕ) → runs (task_at self.old.state worker) i ≡ true → passed_in (reading self.old.state.versions key.now i) ≡ [] → self.new.room.passed ≡ self.old.room.passed }
-        ensures values { GivesInPlace result → self.new.room.values ≡ self.old.room.values }
-    {
-        let base = StoredValue::value_of(self.job.content(key));
-        self.read_over(worker, key, base.as_ref().map(|base| base.lend()))
     }
 
     /// Like `read`, but the caller lends what the storage before the block has at the key.
@@ -89,5 +76,26 @@ impl<H: JobSource> Core<H> {
         self.read_room
             .share(&mut self.scheduler, worker, key, &mut read);
         read
+    }
+}
+
+impl<H: StoredJob> Core<H> {
+    ghost use Rattle.std.specs.Prelude.{◌≡◌, ℕ, true, []};
+    ghost use Rattle.mvmap.specs.Reading.{passed_in, reading};
+    ghost use Rattle.stm_state.specs.State.{task_at};
+    ghost use Rattle.stm_state.specs.Steps as steps;
+    ghost use Rattle.stm_core.specs.CoreState.{GivesInPlace, HasReadRoom, IsDue, Makes, read_result_of, runs};
+
+    /// A worker's run reads the key that it asks for, in room that `room_for_read` made. Takes no memory.
+    pub fn read(&mut self, worker: usize, key: &Key) -> ReadResult
+        requires due { IsDue worker (steps.ReadKey key.now) self.old }
+        requires room { HasReadRoom worker self.old }
+        ensures makes { Makes worker (steps.ReadKey key.now) self.old self.new }
+        ensures answers { (i : ℕ) → runs (task_at self.old.state worker) i ≡ true → result ≡ read_result_of self.old.job.store key.now (reading self.old.state.versions key.now i) }
+        ensures passed { (i : ℕ) → runs (task_at self.old.state worker) i ≡ true → passed_in (reading self.old.state.versions key.now i) ≡ [] → self.new.room.passed ≡ self.old.room.passed }
+        ensures values { GivesInPlace result → self.new.room.values ≡ self.old.room.values }
+    {
+        let base = StoredValue::value_of(self.job.content(key));
+        self.read_over(worker, key, base.as_ref().map(|base| base.lend()))
     }
 }

@@ -20,7 +20,7 @@ use crate::same::same_answers;
 use crate::versions::{recorded_count, written_count};
 use mvmap::MvMap;
 use rv_ledger::{Call, VALUE_LIMIT, Writes, same_call};
-use rv_step::{EndedRun, StorageAnswer};
+use rv_step::StorageAnswer;
 use scheduler::{INCARNATION_LIMIT, Scheduler};
 use std::alloc::AllocError;
 use version_arena::{RECORD_LIMIT, ReserveFault};
@@ -32,12 +32,12 @@ pub struct SpentRun {
     pub(crate) left: ReadyRecord,
 }
 
-/// Whether a run is a run of the call at an index among these. Takes no memory.
-pub(crate) fn is_run_of(calls: &[Call], call: u16, run: &EndedRun) -> bool
-    ensures { (result ≡ true) ↔ (slice_get calls.now call ≡ Some run.now.call) }
+/// Whether a call is the one at an index among these. Takes no memory.
+pub(crate) fn is_call_at(calls: &[Call], index: u16, call: &Call) -> bool
+    ensures { (result ≡ true) ↔ (slice_get calls.now index ≡ Some call.now) }
 {
-    match calls.get(usize::from(call)) {
-        Some(own) => same_call(own, &run.call),
+    match calls.get(usize::from(index)) {
+        Some(own) => same_call(own, call),
         None => false,
     }
 }

@@ -8,15 +8,15 @@ ghost use Rattle.stm_core.specs.CoreState.{ask_result_of};
 use crate::fault::{IncarnationLimit, RecordFault, Refused};
 use crate::job_source::JobSource;
 use crate::next_step::{AskResult, NextStep, StepKind};
-use crate::outcome::{Finished, finished_of};
+use crate::outcome::{Finished, finished_of, receipt_at};
 use crate::owed_step::{check_of, next_step_of};
 use crate::read_room::ReadRoom;
 use crate::reads::{next_passed, next_stands};
 use crate::ready_record::{ReadyRecord, reads_made};
-use crate::recording::{SpentRun, check_limits, has_own_answers, is_run_of, record_run};
+use crate::recording::{SpentRun, check_limits, has_own_answers, is_call_at, record_run};
 use crate::versions::{mark_key, move_key};
 use mvmap::MvMap;
-use rv_ledger::{Counts, Job};
+use rv_ledger::{Counts, Job, Receipt};
 use rv_step::EndedRun;
 use scheduler::{INCARNATION_LIMIT, Scheduler, TaskKind};
 use std::alloc::{AllocError, Global};
@@ -58,6 +58,7 @@ impl<H: JobSource> Model for Core<H> {
 }
 
 impl<H: JobSource> Core<H> {
+    ghost use Rattle.std.specs.Option.{option_copied};
     ghost use Rattle.std.specs.Prelude.{◌≡◌, ◌≢◌, ◌<◌, ◌≤◌, ◌↔◌, ℕ, Some, true, length, get_or, slice_get, [], IfOk, IfErr, OnOk, OnErr, Ok};
     ghost use Rattle.version_arena.specs.ArenaState.{emptied};
     ghost use Rattle.rv_step.specs.Fold.{receipts_of, store_after};
@@ -236,7 +237,7 @@ impl<H: JobSource> Core<H> {
         let TaskKind::Running { call, .. } = self.scheduler.task_kind(worker) else {
             unreachable!();
         };
-        if !is_run_of(self.job.calls(), call, &run)
+        if !is_call_at(self.job.calls(), call, &run.call)
             || !has_own_answers(&self.scheduler, worker, &run.answers)
         {
             return Err(Refused {
@@ -299,6 +300,32 @@ impl<H: JobSource> Core<H> {
             call,
             ready,
         )
+    }
+
+    /// Like `record_ready`, for a run of any call. It is refused as Foreign, too, if its call is not the job's call at that
+    /// index.
+    pub fn record_checked(
+        &mut self,
+        worker: usize,
+        ready: &mut ReadyRecord,
+    ) -> Result<(), RecordFault>
+        requires due { IsDue worker steps.Record self.old }
+        requires ready { (run : EndedRun) × IsReadyOf run ready.old }
+        ensures makes { OnOk result (Makes worker steps.Record self.old self.new) }
+        ensures own { (run : EndedRun) → IsReadyOf run ready.old → (IfErr result (λ e. e ≢ fault.Foreign)) ↔ IsOwn worker run self.old }
+        ensures full { IfErr result (λ e. e ≡ fault.ArenaFull → IsRefused worker steps.Record steps.ArenaFull self.old) }
+        ensures limit { IfErr result (λ e. e ≡ fault.IncarnationLimit → IsRefused worker steps.Record steps.IncarnationLimit self.old) }
+        ensures memory { IfErr result (λ e. e ≡ fault.Memory → IsTaken worker steps.Record self.old) }
+        ensures back { OnErr result (self.new ≡ self.old) }
+        ensures kept { (run : EndedRun) → IsReadyOf run ready.old → OnErr result (IsReadyOf run ready.new) }
+    {
+        let TaskKind::Running { call, .. } = self.scheduler.task_kind(worker) else {
+            unreachable!();
+        };
+        if !is_call_at(self.job.calls(), call, &ready.call) {
+            return Err(RecordFault::Foreign);
+        }
+        self.record_ready(worker, ready)
     }
 
     /// A worker moves the next key of the run that it handed in. What the run wrote there is published. A
@@ -402,6 +429,14 @@ impl<H: JobSource> Core<H> {
             unreachable!();
         };
         self.scheduler.finish_abort(worker, call);
+    }
+
+    /// The receipt of the call at an index, once all is done; None past the last call. Takes no memory.
+    pub fn receipt(&self, index: usize) -> Option<&Receipt>
+        requires { is_done self.now.state ≡ true }
+        ensures { option_copied result ≡ slice_get (receipts_of self.now.job.block self.now.job.store) index }
+    {
+        receipt_at(self.scheduler.calls(), index)
     }
 
     /// What the run of the job leaves beside the storage, once all is done, moved out; and the arena, without records.

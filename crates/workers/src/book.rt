@@ -19,7 +19,7 @@ use rv_ledger::{Job, Key, LentValue, StoredValue};
 pub use share::Share;
 use share::counts_are_spent;
 use std::marker::{Brand, Model, PhantomData};
-use stm_core::{AskResult, Core, JobSource, NextStep, ReadResult, StepKind};
+use stm_core::{AskResult, Core, JobSource, NextStep, ReadResult, StepKind, StoredJob};
 pub(crate) use written::MetFault;
 pub use written::WrittenFault;
 
@@ -204,28 +204,7 @@ impl<J: JobName, H: JobSource> Book<J, H> {
         })
     }
 
-    /// The run of a call at an incarnation reads the key that it asks for. Refused as `ask` is, as StepLimit also if there is a
-    /// limit and the worker has made as many steps, not counting asks; and as Memory if memory ran out.
-    pub fn read(
-        &mut self,
-        share: &mut Share,
-        call: u16,
-        incarnation: u16,
-        key: &Key,
-    ) -> Result<ReadResult, WrittenFault>
-        ensures { IsReadCall key.now call incarnation self.old self.new share.old share.new result }
-    {
-        let base = StoredValue::value_of(self.core.source().content(key));
-        self.read_with_base(
-            share,
-            call,
-            incarnation,
-            key,
-            base.as_ref().map(|base| base.lend()),
-        )
-    }
-
-    /// The same for a caller that has looked up what the storage before the block has at the key, and lends it.
+    /// `read` for a caller that has looked up what the storage before the block has at the key, and lends it.
     #[tactic(auto, using(crate::proofs::Stays::stays, crate::proofs::Causes::unready_cause))]
     pub(crate) fn read_with_base(
         &mut self,
@@ -453,6 +432,31 @@ impl<J: JobName, H: JobSource> Book<J, H> {
         share.counts = self.core.counts(share.worker);
         share.dones = self.core.dones(share.worker);
         self.passed = self.passed.saturating_add(passed as u64);
+    }
+}
+
+impl<J: JobName, H: StoredJob> Book<J, H> {
+    ghost use Rattle.workers.specs.Book.{IsReadCall};
+
+    /// The run of a call at an incarnation reads the key that it asks for. Refused as `ask` is, as StepLimit also if there is a
+    /// limit and the worker has made as many steps, not counting asks; and as Memory if memory ran out.
+    pub fn read(
+        &mut self,
+        share: &mut Share,
+        call: u16,
+        incarnation: u16,
+        key: &Key,
+    ) -> Result<ReadResult, WrittenFault>
+        ensures { IsReadCall key.now call incarnation self.old self.new share.old share.new result }
+    {
+        let base = StoredValue::value_of(self.core.source().content(key));
+        self.read_with_base(
+            share,
+            call,
+            incarnation,
+            key,
+            base.as_ref().map(|base| base.lend()),
+        )
     }
 }
 

@@ -23,7 +23,7 @@ use std::marker::{Brand, Model, PhantomData};
 use std::sync::Wait;
 use std::thread::{Promise, PromisedHandle, Scope, SpawnError, Threads};
 use std::{mem, thread};
-use stm_core::{Core, Finished, JobSource, LentJob, WORKER_LIMIT};
+use stm_core::{Core, Finished, JobSource, LentJob, StoredJob, WORKER_LIMIT};
 use version_arena::Arena;
 
 /// Runs blocks one after another over one arena. The arena has no records between two blocks. The shares are
@@ -280,7 +280,7 @@ type Thread<J> = PromisedHandle<Result<Share, WrittenFault>, GivesBack<J>>;
 #[tactic(auto, using(crate::proofs::GivenBack::none_left, crate::proofs::GivenBack::all_left, crate::proofs::GivenBack::all_keep))]
 fn shares_back<
     J: JobName + Send + Sync,
-    H: JobSource + Send + Sync,
+    H: StoredJob + Send + Sync,
     R: Threads + Wait + Sync,
     G: Gate + Sync,
 >(rt: &R, alloc: Global, shared: &Shared<J, H>, shares: Vec<Share>, gate: &G) -> Vec<Share>
@@ -331,7 +331,7 @@ fn start_threads<
     's,
     E,
     J: JobName + Send + Sync,
-    H: JobSource + Send + Sync,
+    H: StoredJob + Send + Sync,
     R: Threads + Wait + Sync,
     G: Gate + Sync,
 >(
@@ -363,7 +363,7 @@ fn start_thread<
     's,
     E,
     J: JobName + Send + Sync,
-    H: JobSource + Send + Sync,
+    H: StoredJob + Send + Sync,
     R: Threads + Wait + Sync,
     G: Gate + Sync,
 >(

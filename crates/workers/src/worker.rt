@@ -18,13 +18,13 @@ use ended::WorkFault;
 use rv_step::SpareRun;
 use std::alloc::Global;
 use std::sync::Wait;
-use stm_core::{JobSource, NextStep, StepKind};
+use stm_core::{JobSource, NextStep, StepKind, StoredJob};
 
 /// The work of one thread. It makes the steps of its share's worker until an ask is answered Done, and then returns the share;
 /// the cell shows done then. It is refused as the call for its next step was refused, or as Memory if memory ran out outside the
 /// lock. The fault is written, and the steps that were made stay made. If the share kept the limit before, the worker has made no
 /// more steps, not counting asks, than the limit.
-pub fn work<J: JobName, H: JobSource, R: Wait, G: Gate>(
+pub fn work<J: JobName, H: StoredJob, R: Wait, G: Gate>(
     rt: &R,
     alloc: Global,
     shared: &Shared<J, H>,
@@ -43,7 +43,7 @@ pub fn work<J: JobName, H: JobSource, R: Wait, G: Gate>(
 }
 
 /// `work`, with `spin` deciding how long a worker without a task stays away from the lock.
-pub fn work_spinning<J: JobName, H: JobSource, R: Wait, G: Gate, S: Spin + Drop>(
+pub fn work_spinning<J: JobName, H: StoredJob, R: Wait, G: Gate, S: Spin + Drop>(
     rt: &R,
     alloc: Global,
     shared: &Shared<J, H>,
@@ -89,7 +89,7 @@ struct Worker<'a, J: JobName, H: JobSource, R, G, S: Drop> {
     ghost has_pass: { IsPassOf shared.now.cell share.pass },
 }
 
-impl<J: JobName, H: JobSource, R: Wait, G: Gate, S: Spin + Drop> Worker<'_, J, H, R, G, S> {
+impl<J: JobName, H: StoredJob, R: Wait, G: Gate, S: Spin + Drop> Worker<'_, J, H, R, G, S> {
     ghost use Rattle.std.specs.Prelude.{◌≡◌, ◌+◌, None, Ok, length, IfErr, IfOk, IfSome, OnOk};
     ghost use Rattle.crossbeam_utils.specs.Seq.{cell_view};
     ghost use Rattle.stm_core.specs.CoreState.{IsWithin};

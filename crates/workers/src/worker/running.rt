@@ -10,9 +10,9 @@ use rv_step::{EndedRun, Pause, Run, SpareRun};
 use std::alloc::AllocError;
 use std::mem::replace;
 use std::sync::Wait;
-use stm_core::{JobSource, NextStep, ReadResult, ReadyRecord, StepKind, reads_made};
+use stm_core::{NextStep, ReadResult, ReadyRecord, StepKind, StoredJob, reads_made};
 
-impl<J: JobName, H: JobSource, R: Wait, G: Gate, S: Spin + Drop> Worker<'_, J, H, R, G, S> {
+impl<J: JobName, H: StoredJob, R: Wait, G: Gate, S: Spin + Drop> Worker<'_, J, H, R, G, S> {
     ghost use Rattle.std.specs.FinMap as finite;
     ghost use Rattle.std.specs.Prelude.{◌≡◌, ◌≢◌, ◌<◌, Ok, Some, false, true, length, slice_get, IfErr, IfOk};
     ghost use Rattle.rv_ledger.specs.Lent.{lent_content};

@@ -19,7 +19,7 @@ returns-in_default-reads_made-clause-memory g c =
     let s = state_in c.self.inside.map c.self.inside.promised c.self.inside.scheduler in
     let within = c.in_default-check_limits.ensures.within in
     let low = within.1 in
-    let own = subst (λ (calls : List Invocation). slice_get calls c.in-Running.call ≡ Some c.args.run.call) c.calls.ensures.value (c.is_run_of.ensures.0 c.if-not-is_run_of.false) in
+    let own = subst (λ (calls : List Invocation). slice_get calls c.in-Running.call ≡ Some c.args.run.call) c.calls.ensures.value (c.is_call_at.ensures.0 c.if-not-is_call_at.false) in
     let incarnation = ap (λ (call : CallState). call.incarnation) c.call.ensures in
     λ _. subst (IsTaken c.args.worker Record) c.self.view_is (
       _,
