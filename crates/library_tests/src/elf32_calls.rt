@@ -165,18 +165,3 @@ fn four_lines(rt: HostRuntime) -> Result<(), Fail> {
     assert!(rt; loads_four_lines(rt.alloc(), file.as_slice())?);
     Ok(())
 }
-
-// Why `write` refuses a program, if it does.
-fn write_refusal(alloc: Global, program: &Program) -> Option<ElfError> {
-    match write(alloc, program) {
-        Ok(_) => None,
-        Err(error) => Some(error),
-    }
-}
-
-#[test]
-fn no_text(rt: HostRuntime) -> Result<(), Fail> {
-    let program = program(rt.alloc(), &[], &[1])?;
-    assert!(rt; write_refusal(rt.alloc(), &program) == Some(ElfError::BadEntry));
-    Ok(())
-}
