@@ -48,6 +48,8 @@ HOSTILE = (
     b"\xff\xfe" * 50,
 )
 SETTINGS = ("--digest", "--brief")
+FILE_OF_0_2_0 = TOP / "tests/fixtures/session-0.2.0"
+"""What 0.2.0 left of a session with brief receipts: the program of the counter, and the frame of its block."""
 SYNC = re.compile(rb"(?:fdatasync|fsync)\(\d+\) += 0")
 
 
@@ -269,6 +271,20 @@ def refused_files(run: Run) -> None:
         session.expect(asks("state"), state(1, 1, 1, 1, DIGEST))
 
 
+def older_file(run: Run) -> None:
+    """A session continues from the file that an older version wrote."""
+    path, (program, frame) = run.place / "file", counter()
+    put(path, FILE_OF_0_2_0.read_bytes())
+    with ClientSession(run.program, "--brief", "--store", path) as session:
+        session.expect(asks("state"), state(1, 1, 1, 1, DIGEST))
+        session.expect(asks("last"), done(OUTCOME))
+        session.expect(asks("programs"), done(name_of(program) + b"\n"))
+        session.expect(asks("dump"), done(DUMP))
+        session.ask(asks("frame", frame))
+        session.expect(asks("get", None, KEY), done(b"value 06000000\n"))
+        same(session.ended(), (b"", "", 0))
+
+
 def put(path: Path, data: bytes) -> None:
     path.write_bytes(data)
     Path(f"{path}-wal").unlink(missing_ok=True)
@@ -445,6 +461,7 @@ def cases() -> list[Case]:
         Case("session over a file: each request, with restarts", over_a_file, cost=2),
         Case("session over a file: tables", tables, (Tool.SQLITE,)),
         Case("session over a file: refused files", refused_files, cost=2),
+        Case("session over a file: the file of an older version", older_file),
         Case("session over a file: damage", damaged, cost=2),
         Case("session over a file: a start takes no more memory", restarted, needs_speed=True, cost=2),
         Case("session over a file: a dozen kills", killed, cost=6),
