@@ -1,5 +1,6 @@
 """Releases: archives as Debian's tools read them, damaged packages, comparisons, man pages and completions."""
 
+import json
 import lzma
 import os
 import re
@@ -15,7 +16,7 @@ from unittest import mock
 from rvstm_tools import commandline
 from rvstm_tools.errors import UserError
 from rvstm_tools.programs import checkouts
-from rvstm_tools.releases import archives, helps, packing, page_links, parsers, parts, products, roff, verifying
+from rvstm_tools.releases import archives, bills, helps, kit_crates, packing, page_links, parsers, parts, products, roff, verifying
 from rvstm_tools.releases.archives import Entries, File, Link, Member
 from rvstm_tools.releases.helps import Item
 from rvstm_tools.releases.products import Product
@@ -264,6 +265,25 @@ Options:
       --workers <N>  How many
   -h, --help         Print help
 """
+
+
+class OfBills(InFolder):
+    def test_crates_of_the_kit(self) -> None:
+        """Two crates, of which one is a port with a notice."""
+        for path, text in {
+            "crates.txt": "base: port\n", "rlibs/port.rlib/format": "crate port\ndep std\n", "rlibs/std.rlib/format": "crate std\n",
+            "rattle/port/README.md": "A port of the Rust crate `the-port` 1.2.3.\n", "rattle/port/LICENSE-MIT": "Permission ..\n",
+        }.items():
+            (self.folder / path).parent.mkdir(parents=True, exist_ok=True)
+            self.write(path, text)
+        crates = kit_crates.crates_below(checkouts.Checkout(self.folder), self.folder, "base")
+        bill = json.loads(bills.bill_of(bills.Released("0.1.2", "c0ffee", 86400, "kit", {"rvstm": "00"}, "2.34"), crates))
+        self.assertEqual(bill["metadata"]["timestamp"], "1970-01-02T00:00:00Z")
+        self.assertEqual([part["name"] for part in bill["components"]], ["port", "std", "glibc"])
+        port, std, _ = bill["components"]
+        self.assertEqual(port["pedigree"]["ancestors"], [{"type": "library", "name": "the-port", "version": "1.2.3"}])
+        self.assertEqual(port["licenses"][0]["license"]["text"]["content"], "Permission ..\n")
+        self.assertEqual(std["properties"], [{"name": "rvstm:licence", "value": "the kit has no notice"}])
 
 
 class OfPages(unittest.TestCase):

@@ -9,6 +9,7 @@ from rvstm_tools.errors import Status, UserError
 from rvstm_tools.options import Command, argument
 from rvstm_tools.programs import checkouts
 from rvstm_tools.programs.checkouts import Checkout
+from rvstm_tools.releases import kit_crates
 from rvstm_tools.releases.products import Product, Products
 
 PROGRAM, OF_LIBRARY = Product.PROGRAM, (Product.ARCHIVE, Product.SHARED)
@@ -22,13 +23,6 @@ def are_noted(*made: Product) -> bool:
     return all(checkouts.is_built(products.path(product), sums[product.crate]) for product in made)
 
 
-def libraries_of_kit(checkout: Checkout) -> list[str]:
-    """The kit's libraries that the crate names, in their order in crates.txt."""
-    rows = (line.split(":") for line in (checkout.top / "crates.txt").read_text(encoding="utf-8").splitlines() if not line.startswith("#"))
-    named = next(row[1].split() for row in rows if len(row) == 2 and row[0].split()[:1] == [CRATE])
-    return ["std", *(name for name in named if name not in checkout.needs)]
-
-
 def words_of_build(checkout: Checkout, kit: Path, jobs: int) -> list[str]:
     """The command line that builds the archive over the libraries below it: what `rt lib` calls, without what it keeps."""
     below = checkout.crates_of(CRATE)[:-1]
@@ -37,7 +31,7 @@ def words_of_build(checkout: Checkout, kit: Path, jobs: int) -> list[str]:
     if missing:
         raise UserError(f"there is no library of {', '.join(missing)}, which `rt ci` leaves")
     words = [str(kit / "bin/rattle"), "build", "--crate-name", CRATE, "src/lib.rt"]
-    for name in libraries_of_kit(checkout):
+    for name in kit_crates.names_of(checkout, CRATE):
         words += ["--extern", f"{name}={kit}/rlibs/{name}.rlib"]
     words += ["-L", f"dependency={kit}/rlibs"]
     for name in checkout.needs[CRATE]:

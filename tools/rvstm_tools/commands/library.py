@@ -9,6 +9,7 @@ from rvstm_tools.options import Command
 from rvstm_tools.programs import checkouts, proving
 from rvstm_tools.programs.checkouts import Checkout
 from rvstm_tools.programs.proving import Prover
+from rvstm_tools.releases import kit_crates
 from rvstm_tools.releases.products import Product, Products
 
 CRATE = "rvstm_c"
@@ -39,7 +40,7 @@ class Linker:
         return done.stdout
 
     def in_kit(self, path: str) -> Path:
-        found = Path(self.run("rt", "doc").splitlines()[0]).parent / path
+        found = kit_crates.folder_of_kit() / path
         if not found.is_file():
             raise UserError(f"the kit has no {found}: it is not whole")
         return found

@@ -1,5 +1,6 @@
 import argparse
 import email.utils
+import functools
 import hashlib
 from collections.abc import Iterator, Mapping
 from dataclasses import dataclass, field
@@ -8,7 +9,7 @@ from pathlib import Path
 from rvstm_tools.errors import Status
 from rvstm_tools.options import Command, argument
 from rvstm_tools.programs import checkouts
-from rvstm_tools.releases import archives, helps, packing, parts
+from rvstm_tools.releases import archives, bills, helps, kit_crates, packing, parts
 from rvstm_tools.releases.archives import EXECUTABLE, Entries, File
 from rvstm_tools.releases.parts import Parts
 from rvstm_tools.releases.products import Product, Products
@@ -27,6 +28,7 @@ SDK_TEXT = """writes, builds and tests contracts for rvstm
  tests and traces calls. The SDK is in /usr/share/rvstm-sdk."""
 SDK_SUGGESTS = "cargo, rustc, rust-src, librust-compiler-builtins-dev, python3-cryptography"
 """For contracts in Rust, and for the example of a node."""
+BILL = "rvstm.cdx.json"
 CLEAN = f"#!/bin/sh\nset -e\nfind /usr/{parts.SDK}/tools -name __pycache__ -prune -exec rm -r {{}} +\n"
 DETAILS = """\
 FOLDER is made. The checkout must be as its commit has it, and the program and the library must be there as its sources make them,
@@ -38,6 +40,7 @@ by `rvstm-tools example` and `rvstm-tools library`. Nothing is proved, built or 
     rvstm-VERSION-linux-amd64.tar.gz   all of that below one folder
     rvstm                              the program alone, without symbols, as it is in the packages
     rvstm.sources                      the checksum of the program's sources, that of rvstm, and the kit that proved it
+    rvstm.cdx.json                     the bill of materials (CycloneDX), with the notices of licences that the kit has
     SHA256SUMS                         the checksums of these
 
 The same commit and the same built files give the same bytes. The time of all files is that of the commit."""
@@ -63,13 +66,23 @@ class Release:
         self.seconds = int(products.git("log", "-1", "--format=%ct"))
         self.maintainer = products.git("log", "-1", "--format=%cn <%ce>").strip()
         self.version = products.version()
+        self.crates = kit_crates.crates_below(products.checkout, kit_crates.folder_of_kit(), "rvstm", "rvstm_c")
+
+    @functools.cached_property
+    def bill(self) -> bytes:
+        built = {product.file: self.products.built(product) for product in Product}
+        checksums = {name: hashlib.sha256(data).hexdigest() for name, data in built.items()}
+        glibc = parts.glibc({"bin/rvstm": File(built["rvstm"]), "lib/librvstm.so.0": File(built["librvstm.so"])})
+        kit = checkouts.kit_of(self.products.path(Product.PROGRAM))
+        return bills.bill_of(bills.Released(self.version, self.commit, self.seconds, kit, checksums, glibc), self.crates)
 
     def notes(self, package: str) -> Entries:
-        """What each package says of itself: the commit, what is proved, and that no licence is chosen."""
+        """What each package says of itself: the commit, what is proved and of which parts, and that no licence is chosen."""
         folder, product = f"share/doc/{package}", parts.PROVED.get(package)
         found: Entries = {f"{folder}/copyright": File(parts.NO_LICENCE.encode()), f"{folder}/commit": File(f"{self.commit}\n".encode())}
         if product:
             found[f"{folder}/proved"] = File(f"Proved is {self.products.proof_of(product)}.\n".encode())
+            found[f"{folder}/{BILL}"] = File(self.bill)
         return found
 
     def changes(self, package: str) -> Entries:
@@ -121,7 +134,7 @@ class Release:
         program, folder = self.products.built(Product.PROGRAM), f"rvstm-{self.version}"
         kit = checkouts.kit_of(self.products.path(Product.PROGRAM))
         noted = f"{self.products.sources(Product.PROGRAM)} {hashlib.sha256(program).hexdigest()}\n{kit}\n"
-        made = {"rvstm": program, "rvstm.sources": noted.encode()}
+        made = {"rvstm": program, "rvstm.sources": noted.encode(), BILL: self.bill}
         made |= {f"{one.name}_{self.version}_{one.architecture}.deb": self.deb_of(one) for one in self.packages()}
         made[f"{folder}-linux-amd64.tar.gz"] = self.archive(folder)
         sums = "".join(f"{hashlib.sha256(data).hexdigest()}  {name}\n" for name, data in sorted(made.items()))
@@ -139,6 +152,8 @@ def run(given: argparse.Namespace) -> int:
         (folder / name).write_bytes(data)
     (folder / "rvstm").chmod(EXECUTABLE)
     print(f"version {release.version} of commit {release.commit}")
+    without = [crate.name for crate in release.crates if not crate.notices]
+    print(f"{len(release.crates)} crates of the kit; without a notice of a licence: {', '.join(without)}")
     print(f"rvstm: SHA-256 {hashlib.sha256(made['rvstm']).hexdigest()}, proved is {products.proof_of(Product.PROGRAM)}")
     for name in sorted(made):
         print(f"{(folder / name).stat().st_size:>10,}  {folder / name}")
