@@ -28,7 +28,7 @@ TOOL = re.compile(r"(?:`|^ {4}(?:.*[ |/])?)rvstm-tools ([a-z][\w-]*)", re.M)
 DEVELOPERS = re.compile(r"(?:`|^ {4}(?:.*[ |/])?)rvstm-developers ([a-z][\w-]*)", re.M)
 CHECK = re.compile(r"^(?:\$ )?docs/check (?P<option>--[a-z]+)(?P<words>(?: +[\w:]+)*)", re.M)
 QUOTED_CHECK = re.compile(r"`docs/check\s+(?P<option>--[a-z]+)(?P<words>(?:\s+[\w:]+)*)")
-COUNTED = re.compile(r"docs/check\s+--reading\s+([\w:\s]+?)(?:`\s+lists|\s+#)\s+([\d,]+)\s+lines\s+in\s+([\d,]+)\s+files?\b")
+COUNTED = re.compile(r"docs/check\s+--reading\s+([\w:\s]+?)(?:`\s+lists|\s+#)\s+([\d,]+)\s+lines(?:\s+in\s+([\d,]+)\s+files)?")
 FIELD = re.compile(r"ghost field `(\w+)` of\s+`\w+` in `([\w/.]+)`")
 COUNT = re.compile(r"^\| ([\d,]+)(?: of ([\d,]+))? \| (?:`([\w/]+\.\w+)`|together[^|]*) \|", re.M)
 FOLDERS = ("", "crates", "docs", "sdk", "bench", "tests")
@@ -134,8 +134,11 @@ def wrong_counts(page: str, text: str) -> Iterator[str]:
             held = reading.reading_of(words.split())
         except UserError:
             continue  # reported with the commands
-        if (held.lines, len(held.rows)) != (number_of(lines_said), number_of(files_said)):
-            yield f"{page}: --reading {' '.join(words.split())} lists {held.lines:,} lines in {len(held.rows)} files, not {lines_said} in {files_said}"
+        came, said = f"{held.lines:,} lines", f"{lines_said} lines"
+        if files_said:
+            came, said = f"{came} in {len(held.rows):,} files", f"{said} in {files_said} files"
+        if came != said:
+            yield f"{page}: --reading {' '.join(words.split())} lists {came}, not {said}"
 
 
 # ---- all pages

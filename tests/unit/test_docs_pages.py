@@ -16,7 +16,7 @@ It is doubled (`low::Boxed::doubled`, `even`, over any box).
 `docs/check --reading high::quadrupled value` lists 16 lines in 2 files.
 
     $ cd examples/counter
-    docs/check --reading high::quadrupled value after low::Boxed::doubled  # 9 lines in 1 file
+    docs/check --reading high::quadrupled value after low::Boxed::doubled  # 9 lines
 
 | lines | file |
 |---|---|
@@ -38,8 +38,8 @@ WRONG = {
     ("rvstm-tools preview", "rvstm-tools peruse"): "rvstm-tools has no command peruse",
     ("rvstm-developers kills", "rvstm-developers kisses"): "rvstm-developers has no command kisses",
     ("--calls low", "--cells low"): "docs/check has no option --cells",
-    ("lists 16 lines in 2 files", "lists 17 lines in 2 files"): "--reading high::quadrupled value lists 16 lines in 2 files, not 17 in 2",
-    ("# 9 lines", "# 8 lines"): "--reading high::quadrupled value after low::Boxed::doubled lists 9 lines in 1 files, not 8 in 1",
+    ("lists 16 lines in 2 files", "lists 17 lines in 2 files"): "--reading high::quadrupled value lists 16 lines in 2 files, not 17 lines in 2 files",
+    ("# 9 lines", "# 8 lines"): "--reading high::quadrupled value after low::Boxed::doubled lists 9 lines, not 8 lines",
     ("value after low", "values after low"): (
         "docs/check --reading high::quadrupled values after low::Boxed::doubled: there is no public call and no clause values"
     ),
