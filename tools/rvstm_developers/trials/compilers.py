@@ -24,7 +24,7 @@ def run(given: argparse.Namespace) -> int:
             if one != other:
                 differing += 1
                 kept = texts.kept_folder("compilers-", place.iterdir())
-                print(f"differs: {kept / block.name}: {one.said() or one.status}; {other.said() or other.status}", flush=True)
+                print(f"differs: {kept / block.name}", flush=True)
     print(f"{given.blocks} blocks, {refused} refused, {differing} differ")
     return Status.FAILED if differing else Status.DONE
 
