@@ -1,0 +1,4 @@
+pub mod Ends
+pub mod Leads
+pub mod RunSteps
+pub mod Stepped

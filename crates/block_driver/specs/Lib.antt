@@ -1,0 +1,4 @@
+pub mod Block
+pub mod Led
+pub mod Owed
+pub mod Progress
