@@ -5,6 +5,7 @@ from collections import defaultdict
 from collections.abc import Iterable, Iterator, Mapping
 from dataclasses import dataclass, field
 from html import escape
+from pathlib import Path
 
 from checks import book, citations, definitions, reading, sources
 from checks.book import Book, BookEntry, Names
@@ -15,47 +16,7 @@ from checks.reading import AskedCall, ReadingRow
 TOKEN = re.compile(r"[^\s(){}\[\];,λ]+")
 RUST_WORD = re.compile(r"\b([A-Z]\w*)\b")
 FIELD = re.compile(r"[{;]\s*$")
-STYLE = """
-:root { --text: #1c2024; --quiet: #60646c; --line: #dcdfe3; --code: #f6f7f9; --link: #0b5cad; --kit: #7a4a00;
-        --type: #0f6e56; }
-* { box-sizing: border-box; }
-html { scroll-padding-top: 1rem; }
-body { margin: 0; color: var(--text); background: #fff;
-       font: 16px/1.55 system-ui, "Segoe UI", "DejaVu Sans", sans-serif; }
-nav { position: fixed; top: 0; bottom: 0; left: 0; width: 19rem; overflow-y: auto; padding: 1.2rem 1rem 2rem;
-      border-right: 1px solid var(--line);
-      background: #fbfcfd; font-size: 0.84rem; line-height: 1.45; }
-nav h2 { font-size: 0.74rem; letter-spacing: 0.06em; text-transform: uppercase; color: var(--quiet);
-         margin: 1.3rem 0 0.4rem; border: 0; padding: 0; }
-nav ol, nav ul { margin: 0; padding: 0; list-style: none; }
-nav li { display: flex; gap: 0.5rem; justify-content: space-between; overflow-wrap: anywhere; }
-nav li span { color: var(--quiet); flex: none; }
-main { margin-left: 19rem; padding: 1.6rem 2.4rem 6rem; max-width: 74rem; }
-h1 { font-size: 1.7rem; line-height: 1.25; margin: 0 0 0.4rem; overflow-wrap: anywhere; }
-h2 { font-size: 1.2rem; margin: 3rem 0 0.6rem; padding-top: 0.9rem; border-top: 1px solid var(--line);
-     overflow-wrap: anywhere; }
-h3 { font-size: 1rem; margin: 1.8rem 0 0.3rem; }
-p { margin: 0.4rem 0; max-width: 62rem; }
-.quiet { color: var(--quiet); font-size: 0.86rem; }
-pre { margin: 0.3rem 0; padding: 0.6rem 0.8rem; background: var(--code); border-radius: 6px; white-space: pre-wrap;
-      overflow-wrap: anywhere;
-      font: 0.84rem/1.5 "DejaVu Sans Mono", "JuliaMono", ui-monospace, Menlo, Consolas, monospace; }
-code { font: 0.88em "DejaVu Sans Mono", ui-monospace, Menlo, Consolas, monospace; }
-section.entry { margin: 1.3rem 0; }
-section.entry:target > pre, h3:target + p { outline: 2px solid #f0b429; }
-a { color: var(--link); text-decoration: none; }
-a:hover { text-decoration: underline; }
-pre a.type, .key a.type { color: var(--type); }
-pre a.kit, .key a.kit { color: var(--kit); }
-.note { color: var(--quiet); }
-dl { margin: 0.5rem 0; }
-dt { color: var(--quiet); font-size: 0.86rem; margin-top: 0.4rem; }
-dd { margin: 0; }
-@media (max-width: 60rem) { nav { position: static; width: auto; border: 0; max-height: 40vh;
-    border-bottom: 1px solid var(--line); }
-    main { margin: 0; padding: 1rem; } }
-@media print { nav { display: none; } main { margin: 0; } }
-"""
+STYLE = Path(__file__).with_name("book.css")
 
 
 def anchor(cited: Cited) -> str:
@@ -250,7 +211,8 @@ def page_of(made: Book) -> str:
 <meta charset="utf-8">
 <meta name="viewport" content="width=device-width, initial-scale=1">
 <title>{escape(made.title)}</title>
-<style>{STYLE}</style>
+<style>
+{STYLE.read_text(encoding="utf-8")}</style>
 </head>
 <body>
 {body}

@@ -2,9 +2,11 @@
 
 import random
 import re
+import shutil
 from collections.abc import Sequence
 from dataclasses import dataclass
 from functools import partial
+from pathlib import Path
 from typing import TypeVar
 
 from gate.calls import command, rvstm
@@ -12,56 +14,10 @@ from gate.runner import CONTRACTS, TOP, Case, Run, Tool, holds, same
 from gate.stumbles import COMPILERS, FLAGS
 from gate.texts import GivenCall, block, receipts, written
 
-MAKEFILE = TOP / "sdk/Makefile"
+MAKEFILE, KEYS = TOP / "sdk/Makefile", Path(__file__).with_name("row_keys.c")
 FULL = 28
 Batched = TypeVar("Batched")
 NEEDS = {"clang": CONTRACTS, "gnu": (Tool.GCC, Tool.MAKE)}
-
-CONSTANT_LENGTHS = "\n".join(f"    case {n}: ROW_KEY(&keys[0], acct, BYTES(row, {n})); break;" for n in range(1, FULL))
-KEYS = f"""#include "rows.h"
-TABLE(acct);
-TABLE(B);
-FULL_TABLE(pay);
-
-/* A count of bytes that are left out, and a row: its key with a constant length, and with one known only now. */
-static void keys_of_bytes(const u8 *row, u32 length) {{
-    struct key keys[2];
-    switch (length) {{
-    case {FULL}: ROW_KEY(&keys[0], pay, BYTES(row, {FULL})); return_output(keys, KEY_LENGTH);
-{CONSTANT_LENGTHS}
-    }}
-    ROW_KEY_OF(&keys[1], B, row, length);
-    return_output(keys, sizeof keys);
-}}
-
-/* Rows of several parts. */
-static void keys_of_parts(const u8 *input) {{
-    struct key keys[4];
-    const struct account *who = (const struct account *)input;
-    u64 large = read_u64(input + 20);
-    u32 word = (u32)large;
-    __UINT16_TYPE__ half = (__UINT16_TYPE__)large;
-    u8 low = (u8)large, bytes[3] = {{input[0], input[1], input[2]}};
-    ROW_KEY(&keys[0], pay, *who, large);
-    ROW_KEY(&keys[1], acct, word, *who, half);
-    ROW_KEY(&keys[2], acct, low, half, bytes, large);
-    ROW_KEY(&keys[3], B, low, BYTES(input, 26));
-    return_output(keys, sizeof keys);
-}}
-
-static const struct key constants[] = {{
-    TEXT_KEY(acct, "pot"), TEXT_KEY(B, "abcdefghijklmnopqrstuvwxyz0"), NUMBER_KEY(acct, 0x123456789abcdef0)}};
-
-void contract(const u8 *input, u32 length) {{
-    if (length == 0) {{
-        return_output(constants, sizeof constants);
-    }} else if (input[0] == 4) {{
-        keys_of_parts(input + 4);
-    }} else {{
-        keys_of_bytes(input + 1 + input[0], length - 1 - input[0]);
-    }}
-}}
-"""
 
 
 def key(table: str, row: bytes) -> bytes:
@@ -83,7 +39,7 @@ def some_rows(seed: int) -> list[bytes]:
 
 def keys_by_model(run: Run, compiler: str) -> None:
     """Each key is that of the model, and no two rows have one key."""
-    written(run.place / "keys.c", KEYS)
+    shutil.copy(KEYS, run.place / "keys.c")
     command(["make", "-s", "-f", MAKEFILE, f"TOOLS={compiler}", "keys.elf"], run.place).done()
     rows = some_rows(run.setting.seed)
     calls = [GivenCall(data=(bytes([left]) + bytes(left) + row).hex()) for row in rows for left in range(4)]
@@ -113,32 +69,10 @@ def part_of(run: Run, calls: Sequence[GivenCall]) -> str:
     return "keys.block"
 
 
-HOST = """#include "host.h"
-#include <stdio.h>
-
-int main(void) {
-    for (u8 length = 1; length <= 28; length++) {
-        for (u8 left = 0; left < 4; left++) {
-            u8 input[32] = {left};
-            for (u8 at = 0; at < length; at++) {
-                input[1 + left + at] = (u8)(at + 1);
-            }
-            struct result result = call_contract(input, 1u + left + length);
-            for (u32 at = 0; at < result.length; at++) {
-                printf("%02x", result.output[at]);
-            }
-            printf("\\n");
-        }
-    }
-    return 0;
-}
-"""
-
-
 def keys_on_this_machine(run: Run) -> None:
     """Keys of rows of all lengths and at all places, compiled for this machine with its sanitizers."""
-    written(run.place / "keys.c", KEYS)
-    written(run.place / "keys-test.c", HOST)
+    shutil.copy(KEYS, run.place / "keys.c")
+    shutil.copy(KEYS.with_name("row_keys-test.c"), run.place / "keys-test.c")
     command(["make", "-s", "-f", MAKEFILE, "CC=cc", "keys-test"], run.place).done()
     rows = [bytes(range(1, length + 1)) for length in range(1, FULL + 1) for _ in range(4)]
     wanted = [b"".join(key(table, row) for table in (["pay"] if len(row) == FULL else ["acct", "B"])).hex() for row in rows]

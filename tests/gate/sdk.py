@@ -1,78 +1,23 @@
 """What sdk/contract.h and sdk/host.h say: gas and ends of each storage call, and the edges of a test on this machine."""
 
 import re
+import shutil
 from dataclasses import dataclass
+from pathlib import Path
 
 from gate.calls import command, rvstm
 from gate.runner import TOP, Case, Run, Tool, same
 from gate.texts import GivenCall, block, receipts, written
 
-MAKEFILE, HEADER = TOP / "sdk/Makefile", TOP / "sdk/contract.h"
+MAKEFILE, HEADER, HERE = TOP / "sdk/Makefile", TOP / "sdk/contract.h", Path(__file__).parent
 
 # ---- the edges of host.c
-
-WRITES = """#include "numbers.h"
-
-/* Writes so many keys. If a byte more is given, it reverts with all that follow. */
-void contract(const u8 *input, u32 length) {
-    u8 key[KEY_LENGTH] = {0};
-    for (u32 number = length == 0 ? 0 : read_u32(input); number > 0; number--) {
-        write_u32(key, number);
-        storage_write(key, key, 4);
-    }
-    if (length > 4) {
-        revert(input + 5, length - 5);
-    }
-}
-"""
-EDGES = """#include "host.h"
-#include "numbers.h"
-
-static u8 longest[INPUT_LIMIT + 1] = {0, 0, 0, 0, 0, 7, 7, 7, 7, 7, 7, 7, 7};
-
-int main(int count, char **words) {
-    u8 key[KEY_LENGTH] = {0};
-    if (words[count - 1][0] == 's') {
-        for (u32 length = 1; length <= 8; length++) {
-            check("shown", has_reverted(call_contract(longest, 5 + length), ""));
-        }
-        return report_checks();
-    }
-    check("the longest input", call_contract(longest, INPUT_LIMIT).ending == BAD_LENGTH);
-    if (words[count - 1][0] == 'l') {
-        call_contract(longest, INPUT_LIMIT + 1);
-    }
-    check("no output", has_returned(call_contract(0, 0), 0, 0));
-    check("no text", !has_reverted(call_contract(0, 0), ""));
-    check("a call that reverts", has_reverted(call_contract("\\1\\0\\0\\0", 5), ""));
-    write_u32(key, 1);
-    check("its key", storage_read(key, key, 4) == ABSENT);
-    check("256 keys", has_returned(call_contract("\\0\\1\\0\\0", 4), 0, 0));
-    check("256 keys that are there", has_returned(call_contract("\\0\\1\\0\\0", 4), 0, 0));
-    check("257 keys", call_contract("\\1\\1\\0\\0", 4).ending == TOO_MANY_WRITES);
-    clear_storage();
-    write_u32(key, 256);
-    check("no key", storage_read(key, key, 4) == ABSENT);
-    for (u32 number = 0; number < 1024; number++) {
-        write_u32(key, number);
-        storage_write(key, 0, 0);
-    }
-    storage_remove(key);
-    storage_write(key, 0, 0);
-    check("the last of 1,024 keys", storage_read(key, 0, 0) == 0);
-    set_rules((u32)(words[count - 1][0] - '0'));
-    report_checks();
-    write_u32(key, 1024);
-    storage_write(key, 0, 0);
-    return 0;
-}
-"""
 
 
 def edges(run: Run) -> None:
     """Outputs of no bytes, a full storage, and rules that are not there, with sanitizers."""
-    written(run.place / "edges.c", WRITES)
-    written(run.place / "edges-test.c", EDGES)
+    for name in ("edges.c", "edges-test.c"):
+        shutil.copy(HERE / name, run.place)
     command(["make", "-s", "-f", MAKEFILE, "CC=cc", "edges-test"], run.place).done()
     command([run.place / "edges-test", "long"]).refused("host.c: the input is too long", 2)
     numbers = {1: "  7", 2: "  1799", 4: "  117901063", 8: "  506381209866536711"}  # 7 in each byte
@@ -90,36 +35,7 @@ def edges(run: Run) -> None:
 
 INPUT = 0x00100000
 KEY, BUFFER = INPUT + 16, INPUT + 64
-# A call of the storage by the words of the input: its number, a1, a2 and a0. Then it returns.
-ONE = """
-  mv s0,a0
-  lw a7,0(s0)
-  lw a1,4(s0)
-  lw a2,8(s0)
-  lw a0,12(s0)
-  ecall
-  li a7,3
-  li a1,0
-  ecall
-"""
 BEFORE, AFTER = 1 + 4 * 2, 2 + 2 + 10  # the gas before and after that call: `li` is two instructions, and RETURN costs 10
-# The same for each of 257 keys.
-MANY = """
-  mv s0,a0
-  li s1,257
-again:
-  lw a7,0(s0)
-  lw a1,4(s0)
-  lw a2,8(s0)
-  lw a0,12(s0)
-  sw s1,0(a0)
-  ecall
-  addi s1,s1,-1
-  bne s1,x0,again
-  li a7,3
-  li a1,0
-  ecall
-"""
 
 
 @dataclass(frozen=True)
@@ -171,9 +87,8 @@ def header(run: Run) -> None:
     found = re.findall(r"/\*\*((?:(?!\*/).)*)\*/\s*STORAGE_CALL \w+ (\w+)\(", text, re.S)
     comments = {name: " ".join(comment.replace("\n * ", " ").split()) for comment, name in found}
     same(list(comments), [storage.function for storage in CALLS], "the functions with a comment")
-    for name, source in (("one", ONE), ("many", MANY)):
-        written(run.place / f"{name}.s", source)
-        rvstm(run, "asm", f"{name}.s", "--out", f"{name}.elf", folder=run.place).done()
+    for source, program in (("one_storage_call.s", "one.elf"), ("many_storage_calls.s", "many.elf")):
+        rvstm(run, "asm", HERE / source, "--out", program, folder=run.place).done()
     for storage in CALLS:
         _, gas, ends = re.split(r"@par (?:Gas|Ends) ", comments[storage.function])
         new = gas_of(run, storage, 3)

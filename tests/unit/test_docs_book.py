@@ -80,7 +80,7 @@ class Books(unittest.TestCase):
             self.assertIn((to, name), page.links)
 
     def test_no_field_is_a_link(self) -> None:
-        spec = sample.HIGH_SPEC.replace("b ≡ b", "b ≡ record { fourfold = 1 }")
+        spec = sample.FILES["crates/high/specs/Sums.antt"].replace("b ≡ b", "b ≡ record { fourfold = 1 }")
         with sample.tree({"crates/high/specs/Sums.antt": spec}):
             page = book_page.page_of(book.book_of(WORDS))
         self.assertIn("record { fourfold = 1 }", page)

@@ -5,25 +5,8 @@ import unittest
 from checks import main, markdown, pages
 from unit import docs_sample as sample
 
-RIGHT = """\
-# Guide
+RIGHT = sample.files_in("pages")["right.md"]
 
-A [guide](guide.md#two--words-here), [again](guide.md#twice-1), [here](#guide), [there](https://example.org/x#y).
-`high::quadrupled` (`value`, `boxed`) and (proved: `low::Boxed::doubled`, `even`; `high::quadrupled`, `value`).
-It is doubled (`low::Boxed::doubled`, `even`, over any box).
-`low/specs/Number.antt`, `counter.block`, `crates/rvstm/out/rvstm`, `rvstm-tools preview`, `docs/check --calls low`,
-`rvstm-developers kills`.
-`docs/check --reading high::quadrupled value` lists 16 lines in 2 files.
-
-    $ cd examples/counter
-    docs/check --reading high::quadrupled value after low::Boxed::doubled  # 9 lines
-
-| lines | file |
-|---|---|
-| 7 of 14 | `low/specs/Number.antt` |
-| 11 | `high/specs/Sums.antt` |
-| 18 | together, in 2 files |
-"""
 WRONG = {
     ("`value`, `boxed`", "`value`, `sum`"): "high::quadrupled has no clause sum",
     ("`even`;", "`odd`;"): "low::Boxed::doubled has no clause odd",

@@ -9,52 +9,11 @@ from unittest import mock
 
 import refusals
 from refusals import Enumeration, RefusalRow
+from unit import docs_sample as sample
 
-FAULTS = """\
-/// Why a text is refused.
-#[derive(Clone, Copy)]
-pub enum TextFault {
-    /// The first line is missing,
-    /// or empty.
-    NoHead = 1,
-    /// Memory ran out.
-    Memory = 2,
-}
+FILES = sample.files_in("refusals")
 
-impl TextFault {
-    pub fn name(self) -> &'static str {
-        match self {
-            TextFault::NoHead => "NoHead",
-            TextFault::Memory => "Memory",
-        }
-    }
-}
-
-/// Why a request is refused.
-pub enum Answer {
-    /// Its text.
-    Text(TextFault),
-    /// It comes too late.
-    Late,
-}
-
-impl Answer {
-    fn parts(self) -> LineParts {
-        match self {
-            Answer::Text(fault) => text_parts(fault),
-            Answer::Late => LineParts::without_line("turn", "Late", 7),
-        }
-    }
-}
-"""
 ENUMERATIONS = (Enumeration("TextFault", "low/src/fault.rt", "text N"), Enumeration("Answer", "low/src/fault.rt", "refused"))
-PAGE = """\
-| message | it comes if | what to do |
-|---|---|---|
-| `text N NoHead 1` | The first line is missing, or empty. | Write it. |
-| `text Memory 2` | Memory ran out. | |
-| `refused turn Late 7` | It comes too late. | Send it before. |
-"""
 WRONG = {
     ("| `text Memory 2` | Memory ran out. | |\n", ""): "no row says when `text Memory 2` comes: Memory ran out.",
     ("too late", "late"): "`refused turn Late 7` comes by the source if: It comes too late.",
@@ -68,8 +27,8 @@ def sources(more: str = "") -> Iterator[Path]:
     with tempfile.TemporaryDirectory() as name:
         crates, page = Path(name) / "crates", Path(name) / "page.md"
         (crates / "low/src").mkdir(parents=True)
-        (crates / "low/src/fault.rt").write_text(FAULTS + more, encoding="utf-8")
-        page.write_text(PAGE, encoding="utf-8")
+        (crates / "low/src/fault.rt").write_text(FILES["fault.rt"] + more, encoding="utf-8")
+        page.write_text(FILES["page.md"], encoding="utf-8")
         with mock.patch.multiple(refusals, CRATES=crates, PAGE=page, ENUMERATIONS=ENUMERATIONS):
             refusals.printed.cache_clear()
             yield page
@@ -97,7 +56,7 @@ class Refusals(unittest.TestCase):
     def test_pages_that_differ(self) -> None:
         for (old, new), wanted in WRONG.items():
             with self.subTest(wanted), sources() as page:
-                page.write_text(PAGE.replace(old, new), encoding="utf-8")
+                page.write_text(FILES["page.md"].replace(old, new), encoding="utf-8")
                 self.assertIn(f"page.md: {wanted}", list(refusals.differences()))
 
     def test_a_new_area(self) -> None:

@@ -4,36 +4,9 @@ import unittest
 
 from gate import pages
 from gate.runner import Tool
+from unit import docs_sample as sample
 
-PAGE = """\
-Text, and a block of commands without `$`:
-
-    make all
-    rvstm seq FILE
-
-A block with output:
-
-    $ cd examples/counter
-    $ rvstm seq counter.block
-    call 0 ..
-
-    end
-
-<!-- not run: the network -->
-
-```
-$ curl there
-```
-
-<!-- needs: clang, llvm, the built program -->
-
-    $ cat > one.list <<'END'
-    $ no command
-    END
-    $ two \\
-        lines
-    out
-"""
+PAGE = sample.files_in("pages")["blocks.md"]
 
 
 class BlocksTest(unittest.TestCase):
