@@ -2,6 +2,7 @@
 
 import re
 import shutil
+import tomllib
 from collections.abc import Sequence
 from functools import partial
 from pathlib import Path
@@ -18,32 +19,7 @@ EXPECTED = ("auction", "digest", "fees", "token")
 """The examples that have a text of what their block prints."""
 PLANTED = {"auction-77": ("auction", 2, 1), "auction-own": ("auction", 3, 1), "fees-late": ("fees", 1, 1), "token-doubles": ("token", 1, 1)}
 """The programs with a planted bug: the example, how many calls are left, and the seed."""
-OWNED = "draw who bob\nshape row:own by:account\nstore row:own:key:lot account:bob\ncall echo 100 account:{who}\n"
-DESCRIPTIONS = (
-    ("call echo 100 u8:{other}", "explore: FILE, line 3: other: no line `draw` above has this name"),
-    ("call echo 100 u8:{some}\nreturned other == 1", "explore: FILE, line 4: other: there is no such name here"),
-    ("call echo 100 u8:{some}\nreturned =", "explore: FILE, line 4: not an expression of Python: invalid syntax"),
-    (
-        "let other = 1\ndraw more 1\ncall echo 100 u8:{other=more}",
-        "explore: FILE, line 5: other: this name is taken; {OTHER=more} gives another one",
-    ),
-    (
-        'let size = len(value("key:a"))\ncall echo 100 u8:{some}',
-        "# line 3: let size = len(value(\"key:a\")): TypeError: object of type 'NoneType' has no len()",
-    ),
-    ("returned True", "explore: FILE, line 3: returned: no call is above it; `always` holds after each call"),
-    ("call echo 0 u8:{some}", "explore: FILE, line 3: 0: gas is a number of 1 to 10000000"),
-    ("draw much 0..256\ncall echo 100 u8:{much}", "explore: FILE, line 4: u8:256: a number of 8 bits is at most 255"),
-    ("call echo 100 u8:{some}\nreturned number(output) == some", "nothing is broken"),
-    ("call echo 2 u8:{some}", "call echo 2 u8:1"),
-    ("call echo 2 u8:{some}\nmay-end out-of-gas", "nothing is broken, but no call returned"),
-    ("call echo 2 u8:{some}\nmay-end out-of-gas\ncall echo 100 u8:{some}", "line 3 never returned"),
-    ("draw who bob\ncall echo 100 account:{who}\nreturned output == who", "explore: FILE, line 5: 20 bytes are compared with the text 'bob', which they never equal"),
-    (f"{OWNED}returned fields('row:own:key:lot').by != who", "# line 7: returned fields('row:own:key:lot').by != who"),
-    (f"{OWNED}returned fields('row:own:key:lot').by == who", "nothing is broken"),
-    ("call echo 100 u8:{some}\nstorage\nholds len(keys()) > 0", "# line 5: holds len(keys()) > 0"),
-)
-"""Texts of descriptions, with a line that is printed of each."""
+DESCRIPTIONS = tomllib.loads(Path(__file__).with_name("descriptions.toml").read_text(encoding="utf-8"))["rows"]
 IN_BLOCKS = ("escrow",)
 """The examples whose list has several blocks, so that no block file is all of it."""
 SLOW = ("lock",)

@@ -198,12 +198,6 @@ def stressed(run: Run) -> None:
     run.note(last_lines(done.out, 1))
 
 
-def random_words(run: Run) -> None:
-    """Programs of random words, in a loop and step by step."""
-    done = command([*tool_words("random-words"), run.program, "2000"])
-    holds(done.status == 0, last_lines(done.out + done.errors), "status 0")
-
-
 def last_lines(text: str, count: int = 3) -> str:
     """The last lines of a text as one."""
     return " | ".join(text.strip().splitlines()[-count:])

@@ -3,6 +3,7 @@
 import random
 import re
 import shutil
+import tomllib
 from collections.abc import Sequence
 from dataclasses import dataclass
 from functools import partial
@@ -17,6 +18,7 @@ from gate.texts import GivenCall, block, receipts, written
 MAKEFILE, KEYS = TOP / "sdk/Makefile", Path(__file__).with_name("row_keys.c")
 FULL = 28
 Batched = TypeVar("Batched")
+TABLE = tomllib.loads(Path(__file__).with_suffix(".toml").read_text(encoding="utf-8"))
 NEEDS = {"clang": CONTRACTS, "gnu": (Tool.GCC, Tool.MAKE)}
 
 
@@ -90,19 +92,7 @@ class KeyCost:
     most: int
 
 
-PLACE = "*(const struct account *)input"
-COSTS = (
-    KeyCost(f"ROW_KEY(&key, acct, {PLACE});", 20, 40),
-    KeyCost(f"ROW_KEY(&key, pay, {PLACE}, *(const u64 *)(const void *)(input + 20));", 28, 40),
-    KeyCost("ROW_KEY(&key, acct, *(const u64 *)(const void *)input);", 8, 40),
-    KeyCost("ROW_KEY(&key, acct, *(const u32 *)(const void *)input);", 4, 40),
-    KeyCost("ROW_KEY(&key, acct, *(const odd *)(const void *)input);", 27, 40),
-    KeyCost("ROW_KEY(&key, pay, BYTES(input + 1, 28));", 29, 90),
-    KeyCost("ROW_KEY(&key, acct, BYTES(input + 2, 27));", 29, 90),
-    KeyCost("ROW_KEY(&key, acct, BYTES(input + 3, 20));", 23, 90),
-    KeyCost("ROW_KEY(&key, acct, BYTES(input + 1, 7));", 8, 90),
-    *(KeyCost("ROW_KEY_OF(&key, acct, input, length);", length, 30 + 8 * length) for length in (1, 13, 20, 27)),
-)
+COSTS = [KeyCost(*row) for row in TABLE["costs"]]
 COST = """#include "rows.h"
 TABLE(acct);
 FULL_TABLE(pay);
@@ -143,33 +133,7 @@ class Wrong:
     said: str
 
 
-NAME = "the name of a table has 1 to 4 letters, A to Z and a to z"
-PART = "a part of a row is a number, a struct account, an array of u8, or BYTES(at, count)"
-LENGTH = "a row has 1 to 27 bytes, or 28 in a full table"
-CONSTANT = "a constant row has 1 to 27 bytes, and TABLE declares its table"
-WHOLE = "a row of a full table has 28 bytes"
-WRONG = (
-    Wrong("TABLE(acct); FULL_TABLE(acct);", "ROW_KEY(&key, acct, *who);", "row_is_full_acct"),
-    Wrong("TABLE(accts);", "ROW_KEY(&key, accts, *who);", NAME),
-    Wrong("TABLE(lot7);", "ROW_KEY(&key, lot7, *who);", NAME),
-    Wrong("FULL_TABLE(l_t);", "ROW_KEY(&key, l_t, BYTES(input, 28));", NAME),
-    Wrong("", "ROW_KEY(&key, acct, *who);", "row_is_full_acct"),
-    Wrong("FULL_TABLE(pay);", "ROW_KEY(&key, pay, *who);", WHOLE),
-    Wrong("FULL_TABLE(pay);", "ROW_KEY(&key, pay, BYTES(input, 29));", WHOLE),
-    Wrong("FULL_TABLE(pay);", "ROW_KEY_OF(&key, pay, input, length);", "a row of a full table has 28 bytes: use ROW_KEY"),
-    Wrong("TABLE(acct);", "u64 number = 7; ROW_KEY(&key, acct, *who, number);", LENGTH),
-    Wrong("TABLE(acct);", "ROW_KEY(&key, acct, BYTES(input, 0));", LENGTH),
-    Wrong("TABLE(acct);", "ROW_KEY(&key, acct, who);", PART),
-    Wrong("TABLE(acct);", "struct { u8 kind; u32 number; } row = {1, 2}; ROW_KEY(&key, acct, row);", PART),
-    Wrong("TABLE(acct);", "float number = 1; ROW_KEY(&key, acct, number);", PART),
-    Wrong("TABLE(acct);", "ROW_KEY(&key, acct, length + 1);", "value"),
-    Wrong("TABLE(acct);", "ROW_KEY(&key, acct, length, length, length, length, length);", "acct"),
-    Wrong("TABLE(acct);", 'static const struct key text = TEXT_KEY(acct, "1234567890123456789012345678"); key = text;', CONSTANT),
-    Wrong("TABLE(acct);", 'static const struct key text = TEXT_KEY(acct, ""); key = text;', CONSTANT),
-    Wrong("FULL_TABLE(pay);", 'static const struct key text = TEXT_KEY(pay, "pot"); key = text;', CONSTANT),
-    Wrong("FULL_TABLE(pay);", "static const struct key number = NUMBER_KEY(pay, 7); key = number;", CONSTANT),
-    Wrong("TABLE(acct);", "static const struct key number = NUMBER_KEY(acct, length); key = number;", "constant"),
-)
+WRONG = [Wrong(*row) for row in TABLE["wrong"]]
 SOURCE = """#include "rows.h"
 DECLARED
 void contract(const u8 *input, u32 length) {

@@ -4,9 +4,11 @@ The rows were made with clang and lld 14.0.6, GCC 12.2.0 and GNU ld 2.40; other 
 """
 
 import shutil
+import tomllib
 from collections.abc import Sequence
 from dataclasses import dataclass
 from functools import partial
+from pathlib import Path
 
 from gate.calls import command, rvstm
 from gate.runner import CONTRACTS, TOP, Case, Run, Tool, same, shown
@@ -27,7 +29,7 @@ LINKS = {
     "debug": [START, SCRIPT, "-g"],
 }
 NOT_LINKED = "not linked: "
-CLANG, GNU, BOTH = ("clang",), ("gnu",), ("clang", "gnu")
+TABLE = Path(__file__).with_suffix(".toml")
 
 
 @dataclass(frozen=True)
@@ -45,64 +47,8 @@ class StumbleRow:
 
 
 ROWS = [
-    StumbleRow("data.c", BOTH, "sdk", "", "-", "returned 08000000"),
-    StumbleRow("data.c", BOTH, "default", "", "-", "elf BadType 10"),
-    StumbleRow("text.c", BOTH, "sdk", "", "0102", "returned 0102"),
-    StumbleRow("text.c", CLANG, "sdk", "-flto", "0102", "not linked: unable to pass LLVM bit-code files"),
-    StumbleRow("text.c", GNU, "sdk", "-flto", "0102", "returned 0102"),
-    StumbleRow("text.c", GNU, "empty.ld", "", "0102", "elf SegmentRange 11"),
-    StumbleRow("text.c", CLANG, "empty.ld", "", "0102", "returned 0102"),
-    StumbleRow("data.c", BOTH, "empty.ld", "", "-", "returned 08000000"),
-    StumbleRow("data.c", BOTH, "shared.ld", "", "-", "elf PageShared 13"),
-    StumbleRow("data.c", BOTH, "single.ld", "", "-", "elf WriteExecute 14"),
-    StumbleRow("data.c", BOTH, "sdk", "-march=rv32imc", "-", "elf BadFlags 7"),
-    StumbleRow("data.c", BOTH, "sdk", "-march=rv32imf -mabi=ilp32f", "-", "elf BadFlags 7"),
-    StumbleRow("large.c", BOTH, "sdk", "", "-", "not linked: the contract is too large"),
-    StumbleRow("atomics.c", BOTH, "sdk", "-march=rv32ima", "-", "illegal -"),
-    StumbleRow("atomics.c", BOTH, "sdk", "", "-", "returned 01000000"),
-    StumbleRow("floats.c", BOTH, "sdk", "-march=rv32imf", "0102", "illegal -"),
-    StumbleRow("floats.c", CLANG, "sdk", "", "0102", "not linked: __mulsf3"),
-    StumbleRow("floats.c", CLANG, "sdk", "LIBGCC", "0102", "returned 08000000"),
-    StumbleRow("floats.c", GNU, "sdk", "", "0102", "returned 08000000"),
-    StumbleRow("cycles.c", CLANG, "sdk", "", "-", "illegal -"),
-    StumbleRow("cycles.c", GNU, "sdk", "-march=rv32im_zicsr", "-", "illegal -"),
-    StumbleRow("fence.c", CLANG, "sdk", "", "-", "illegal -"),
-    StumbleRow("fence.c", GNU, "sdk", "-march=rv32im_zifencei", "-", "illegal -"),
-    StumbleRow("fence.c", CLANG, "sdk", "", "01", "returned 01"),
-    StumbleRow("fence.c", GNU, "sdk", "-march=rv32im_zifencei", "01", "returned 01"),
-    StumbleRow("trap.c", CLANG, "sdk", "", "-", "illegal -"),
-    StumbleRow("trap.c", GNU, "sdk", "", "-", "breakpoint -"),
-    StumbleRow("trap.c", BOTH, "sdk", "", "01", "reverted 01"),
-    StumbleRow("constant.c", BOTH, "sdk", "", "-", "memory-fault -"),
-    StumbleRow("constant.c", BOTH, "sdk", "", "01", "returned 08000000"),
-    StumbleRow("constructor.c", BOTH, "sdk", "", "-", "returned 07000000"),
-    StumbleRow("constructor.c", BOTH, "sdk", "", "01", "returned 08000000"),
-    StumbleRow("stack.c", BOTH, "sdk", "", "01020304" * 1024, "returned eeeeeeee"),
-    StumbleRow("deep.c", BOTH, "sdk", "", "0e", "returned 0e000000"),
-    StumbleRow("deep.c", BOTH, "sdk", "", "40", "memory-fault -"),
-    StumbleRow("deep.c", BOTH, "sdk", "", "-", "memory-fault -"),
-    StumbleRow("start.c", CLANG, "alone", "", "-", "returned 08000000"),
-    StumbleRow("start.c", GNU, "alone", "", "-", "memory-fault -"),
-    StumbleRow("start.c", BOTH, "alone", "", "01", "fetch-fault -"),
-    StumbleRow("thread.c", CLANG, "sdk", "", "01", "not linked: STT_TLS"),
-    StumbleRow("thread.c", GNU, "sdk", "", "01", "memory-fault -"),
-    StumbleRow("limits.c", BOTH, "sdk", "", "00", "bad-length -"),
-    StumbleRow("limits.c", BOTH, "sdk", "", "01", "bad-length -"),
-    StumbleRow("limits.c", BOTH, "sdk", "", "02", "bad-length -"),
-    StumbleRow("limits.c", BOTH, "sdk", "", "03", "too-many-writes -"),
-    StumbleRow("sums.c", BOTH, "sdk", "", "-", "unknown-call -"),
-    StumbleRow("misaligned.c", BOTH, "sdk", "", "0102030405", "misaligned -"),
-    StumbleRow("debug.c", BOTH, "debug", "", "-", "file TooLong 3"),
-    StumbleRow("debug.c", BOTH, "sdk", "-g", "-", "returned 07"),
-    StumbleRow("copies.c", BOTH, "start", "", "-", "not linked: memcpy"),
-    StumbleRow("copies.c", BOTH, "sdk", "", "-", "returned 01"),
-    StumbleRow("division.c", BOTH, "start", "", "0102", "not linked: __udivdi3"),
-    StumbleRow("division.c", BOTH, "sdk", "", "0102", "returned 0088526a74000000"),
-    StumbleRow("decimals.c", BOTH, "sdk", "", "0000000000000000", "returned " + b"0".hex()),
-    StumbleRow("decimals.c", BOTH, "sdk", "", "ffffffffffffffff", "returned " + b"18446744073709551615".hex()),
-    StumbleRow("decimals.c", BOTH, "sdk", "", "00000000000000", "reverted " + b"the input is too short".hex()),
-    StumbleRow("decimals.c", BOTH, "sdk", "", "000000000000000000", "reverted " + b"the input is too long".hex()),
-    StumbleRow("plus.cpp", BOTH, "sdk", "", "0102", "returned 01"),
+    StumbleRow(source, compilers.split(), *others)
+    for source, compilers, *others in tomllib.loads(TABLE.read_text(encoding="utf-8"))["rows"]
 ]
 
 
@@ -147,7 +93,7 @@ def stumbles(run: Run, rows: Sequence[StumbleRow], compiler: str) -> None:
 def cases() -> list[Case]:
     found = []
     for source in dict.fromkeys(row.source for row in ROWS):
-        for compiler in BOTH:
+        for compiler in COMPILERS:
             own = [row for row in ROWS if row.source == source and compiler in row.compilers]
             of_gcc = compiler == "gnu" or any("LIBGCC" in row.more for row in own)
             needs = (*CONTRACTS, Tool.GCC) if of_gcc else CONTRACTS

@@ -1,4 +1,4 @@
-"""Parts of the long tests: the bound of steps, ends of random words, the model of a machine, and what a cut leaves of a file."""
+"""Parts of the long tests: the bound of steps, the model of a machine, and what a cut leaves of a file."""
 
 import unittest
 from unittest import mock
@@ -8,7 +8,7 @@ from rvstm_developers.models.machine import MachineBlock, MachineProgram
 from rvstm_developers.stores import disks
 from rvstm_developers.stores.disks import FILE, SYNCED, Disk, Step
 from rvstm_developers.stores.files import Both
-from rvstm_developers.trials import random_words, stress
+from rvstm_developers.trials import stress
 from rvstm_tools.texts.blocks import CallLine
 from rvstm_tools.texts.keys import numbered_key
 from rvstm_tools.texts.results import End
@@ -18,16 +18,6 @@ class LongTest(unittest.TestCase):
     def test_the_bound_of_steps(self) -> None:
         """One call of gas 200, so two reads, by one worker, executed once: by hand after the clause `bounded`."""
         self.assertEqual(stress.most_steps(1, 200, 1, 1), (2 * (2 + 512 + 2) + 2 * (2 + 3) + 257) + 2)
-
-    def test_ends_at_an_instruction(self) -> None:
-        registers = [0] * 32
-        registers[2] = 0x1000
-        for text, ends in {
-            "lw x1,2(x2)": (End.MISALIGNED,), "lw x1,4(x2)": (End.MEMORY_FAULT,), "jal x1,6": (End.MISALIGNED,),
-            "ebreak": (End.BREAKPOINT,), ".word 0x00000000": (End.ILLEGAL,), "addi x1,x0,1": (),
-        }.items():
-            with self.subTest(text):
-                self.assertEqual(random_words.ends_of(text, registers), ends)
 
     def test_words_of_the_machine(self) -> None:
         """The words are those of examples in the manual's tables, as GNU as makes them."""
