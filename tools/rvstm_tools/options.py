@@ -66,6 +66,11 @@ def argument(*names: str, **how: Any) -> Adder:
     return lambda parser: parser.add_argument(*names, **how)
 
 
+def manual(module: str) -> str:
+    """The details of a command: the text beside the file of its module."""
+    return Path(module).with_suffix(".txt").read_text(encoding="utf-8").rstrip("\n")
+
+
 @dataclass(frozen=True)
 class Command:
     summary: str

@@ -9,17 +9,6 @@ from rvstm_tools.programs import finding, running
 from rvstm_tools.programs.blockfiles import of_block
 from rvstm_tools.texts import conflicts
 
-DETAILS = """\
-`rvstm conflicts` finds the waits. Programs of a block file are taken from the current folder, those of a list from its folder.
-
-A call is a bar, as wide as its gas. It is right of all calls that it waits for, and a line leads to it from each of them.
-The lines of the keys with the most waits have colours, which are explained below them. The calls of the longest path are
-orange: each of them waits for the one before it. If each call began when those that it waits for have ended, `rvstm run`
-would be faster than one call after another by all gas divided by the gas of this path. That is no promise, and no limit: a call
-that computes first and reads late runs beside those that it waits for, up to that read.
-
-The status is 0 if the picture is drawn, 1 if the block is refused or a file cannot be read, and 2 for a wrong command line."""
-
 
 def run(given: argparse.Namespace) -> int:
     view = options.view(given)
@@ -33,7 +22,7 @@ def run(given: argparse.Namespace) -> int:
 
 COMMAND = Command(
     summary="Draws which calls of a block wait for which.",
-    details=DETAILS,
+    details=options.manual(__file__),
     example="rvstm-tools conflicts votes.block --svg votes.svg --list votes.list",
     run=run,
     arguments=(

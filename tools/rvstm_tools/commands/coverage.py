@@ -16,30 +16,6 @@ from rvstm_tools.texts import lists
 from rvstm_tools.texts.lists import ListFile
 from rvstm_tools.texts.views import View
 
-DETAILS = """\
-`rvstm debug` replays each call of a LIST, a test or not, step by step, in the folder of the list. Several lists count together.
-
-Lines come from NAME.lines.elf beside the program NAME.elf, which the SDK makes:
-
-    make -f sdk/Makefile NAME.lines.elf
-
-llvm-addr2line (package llvm) or riscv64-unknown-elf-addr2line finds them.
-
-For each source file it prints how many lines and branches ran, the lines that did not run, and those with a branch that did not go
-both ways. A line counts if the program has instructions of it. It ran if one of them ran, or one that is inlined there. A branch is
-a conditional branch of the program, and has two ways; an `if` may have several. Copies of a function that is inlined in several
-places count as one. Lines and branches are those that the compiler left: with MORE=-O0 for both programs they are closest to the
-source. Files of the SDK count only with --sdk.
-
-If a list has lines `shape input NAME`, it prints how many calls have each of these inputs.
-
-With --lcov the same is written in the format of lcov; genhtml (package lcov) makes pages of it:
-
-    genhtml --branch-coverage OUT -o FOLDER
-
-A replay lasts one to three seconds for each million steps. The status is 0 if all is printed, 1 if a list is wrong, a block is
-refused or a file cannot be read, and 2 for a wrong command line."""
-
 
 def run(given: argparse.Namespace) -> int:
     program = finding.chosen(options.program_choice(given), "coverage")
@@ -87,7 +63,7 @@ def add_list(program: Program, path: Path, file: ListFile, programs: defaultdict
 
 COMMAND = Command(
     summary="Says which lines and branches of contracts the calls of lists ran.",
-    details=DETAILS,
+    details=options.manual(__file__),
     example="rvstm-tools coverage token.list refusals.list --lcov token.info",
     run=run,
     arguments=(

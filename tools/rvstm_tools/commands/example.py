@@ -1,5 +1,6 @@
 import argparse
 
+from rvstm_tools import options
 from rvstm_tools.commands import preview
 from rvstm_tools.options import Command, argument
 from rvstm_tools.programs import checkouts, finding, proving
@@ -7,10 +8,6 @@ from rvstm_tools.programs.checkouts import Checkout
 from rvstm_tools.programs.proving import Prover
 
 COST = "25 minutes to an hour on four free processors, and 6.5 GB of disk"
-DETAILS = """\
-NAME is a folder of examples/ that has a NAME.block. The first run proves every crate of the program. It prints each one as it is
-proved, and how many are left. A later run starts the program at once, as long as no source has changed: a checksum of the sources
-and of the program is beside the program."""
 
 
 def build(checkout: Checkout, name: str) -> None:
@@ -35,7 +32,7 @@ def run(given: argparse.Namespace) -> int:
 
 COMMAND = Command(
     summary="Proves and builds rvstm, if that is not done yet, and runs an example.",
-    details=DETAILS,
+    details=options.manual(__file__),
     example="rvstm-tools example counter",
     run=run,
     arguments=(argument("name", metavar="NAME", help="an example, such as counter"),),

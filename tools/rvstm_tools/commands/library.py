@@ -4,6 +4,7 @@ import sys
 import tempfile
 from pathlib import Path
 
+from rvstm_tools import options
 from rvstm_tools.errors import Status, UserError
 from rvstm_tools.options import Command
 from rvstm_tools.programs import checkouts, proving
@@ -13,14 +14,6 @@ from rvstm_tools.releases import kit_crates
 from rvstm_tools.releases.products import Product, Products
 
 CRATE = "rvstm_c"
-DETAILS = """\
-The library is an archive and a shared object, with the heap functions of the kit in both. The command writes
-crates/rvstm_c/out/embedded/librvstm.a and librvstm.so, and prints where they are, how large they are, and how to link them. The
-first run proves the crates that the library is built on. It prints each one as it is proved, and how many are left. A later run
-builds again what has changed.
-
-The archive is one object, which exports only the calls of include/rvstm.h. So two such archives, or this one and another library of
-Rattle, link into one program. The kit's own tools link both, so no bytes depend on a machine's compiler."""
 
 
 class Linker:
@@ -93,7 +86,7 @@ def run(_: argparse.Namespace) -> int:
 
 COMMAND = Command(
     summary="Proves and builds the library for C: an archive and a shared object.",
-    details=DETAILS,
+    details=options.manual(__file__),
     example="rvstm-tools library",
     run=run,
 )

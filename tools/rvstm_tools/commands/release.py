@@ -6,6 +6,7 @@ from collections.abc import Iterator, Mapping
 from dataclasses import dataclass, field
 from pathlib import Path
 
+from rvstm_tools import options
 from rvstm_tools.errors import Status
 from rvstm_tools.options import Command, argument
 from rvstm_tools.programs import checkouts
@@ -30,20 +31,6 @@ SDK_SUGGESTS = "cargo, rustc, rust-src, librust-compiler-builtins-dev, python3-c
 """For contracts in Rust, and for the example of a node."""
 BILL = "rvstm.cdx.json"
 CLEAN = f"#!/bin/sh\nset -e\nfind /usr/{parts.SDK}/tools -name __pycache__ -prune -exec rm -r {{}} +\n"
-DETAILS = """\
-FOLDER is made. The checkout must be as its commit has it, and the program and the library must be there as its sources make them,
-by `rvstm-tools example` and `rvstm-tools library`. Nothing is proved, built or fetched. dpkg-deb makes the packages. FOLDER gets, for version VERSION,
-
-    rvstm_VERSION_amd64.deb            the program, its man page and its completion
-    librvstm-dev_VERSION_amd64.deb     the library for C, and what linking to it needs
-    rvstm-sdk_VERSION_all.deb          what contracts are written, built and tested with
-    rvstm-VERSION-linux-amd64.tar.gz   all of that below one folder
-    rvstm                              the program alone, without symbols, as it is in the packages
-    rvstm.sources                      the checksum of the program's sources, that of rvstm, and the kit that proved it
-    rvstm.cdx.json                     the bill of materials (CycloneDX), with the notices of licences that the kit has
-    SHA256SUMS                         the checksums of these
-
-The same commit and the same built files give the same bytes. The time of all files is that of the commit."""
 
 
 @dataclass(frozen=True)
@@ -162,7 +149,7 @@ def run(given: argparse.Namespace) -> int:
 
 COMMAND = Command(
     summary="Makes the files of a release: packages for Debian, an archive for other systems, and their checksums.",
-    details=DETAILS,
+    details=options.manual(__file__),
     example="rvstm-tools release /tmp/release",
     run=run,
     arguments=(argument("folder", type=Path, metavar="FOLDER", help="a folder that is made for the files"),),

@@ -9,15 +9,6 @@ from rvstm_tools.options import Command, argument
 from rvstm_tools.texts import objects, result_schema, results, tables
 from rvstm_tools.texts.views import View
 
-DETAILS = """\
-It reads a result from standard input, as rvstm prints it: each call, what it wrote, and the storage.
-
-A key of a row of a table is printed as row:TABLE:ROW (`rvstm-tools block --help`). Other keys lose the zeros at their end. They
-are in quotes if they are a text, and otherwise in hex. If all bytes of a value are printable, the text is after the hex. 1, 2, 4
-or 8 bytes are a number too, the lowest byte first. An amount that a call added to a key is a number with a + before it.
-
-With --list, keys and values are printed by the words and the lines `shape` of a list (`rvstm-tools block --help`)."""
-
 
 def run(given: argparse.Namespace) -> int:
     if given.schema:
@@ -38,7 +29,7 @@ def run(given: argparse.Namespace) -> int:
 
 COMMAND = Command(
     summary="Prints a result of rvstm for people, or as lines of JSON.",
-    details=DETAILS,
+    details=options.manual(__file__),
     example="rvstm seq votes.block | rvstm-tools result --list votes.list",
     run=run,
     arguments=(

@@ -11,22 +11,6 @@ from rvstm_tools.programs.running import Runner
 from rvstm_tools.texts import schedules
 
 LENGTH = options.number(0, schedules.MOST_ENTRIES)
-DETAILS = """\
-    rvstm-tools schedule WORKERS LENGTH [turns | worker N | random SEED]
-    rvstm-tools schedule WORKERS --to-done BLOCK --from SCHEDULE
-
-A schedule has one worker number a line:
-
-    turns         each worker in turn, from 0 on; the default
-    worker N      worker N alone
-    random SEED   each entry at random; one seed always gives the same list
-
-A list that is longer than needed does no harm: further entries ask for work and get none. formats.md says how long a list for one worker must be.
-
-With --to-done it prints what must follow the list SCHEDULE of the block file BLOCK until the workers are done. If they are
-done already, it prints nothing. It runs `rvstm drive` with more and more entries: of each worker alone, the last worker first, and
-twice as many each time. When `drive` prints a result, it cuts what is not needed. If `drive` refuses the list for another reason,
-this command reports it."""
 
 
 def run(given: argparse.Namespace) -> int:
@@ -54,7 +38,7 @@ def continuation(runner: Runner, block: str, workers: int, begun: str) -> Sequen
 
 COMMAND = Command(
     summary="Prints a schedule file for `rvstm drive`: one worker number a line.",
-    details=DETAILS,
+    details=options.manual(__file__),
     example="rvstm-tools schedule 4 1000 random 7 > block.schedule",
     run=run,
     arguments=(

@@ -11,56 +11,6 @@ from rvstm_tools.testing.gastables import Gas, GasDifference, GasTable
 from rvstm_tools.testing.listed import ListedTest
 from rvstm_tools.testing.testers import Tester, Tried
 
-DETAILS = """\
-A test is a list of a block (`rvstm-tools block --help`), with what is expected of a call in the lines after it:
-
-    program tally tally.elf
-    store key:bob u64:7
-    call tally 2000 key:bob
-    expect returned u64:8
-    expect key:bob u64:8
-    call tally 2000 00
-    expect reverted "the input is no key"
-    storage
-    expect key:bob u64:8
-
-`rvstm seq` runs the calls of a list in one block, or in several that lines `block` part, in the folder of the list, from which paths
-start. As many lists run at once as --jobs says. A line `storage DUMP` before the calls begins with the storage of a file: what
-`rvstm chain` answered to `dump`, or a result.
-
-    expect returned BYTES..     the call returns, with this output; without BYTES with any, and with "" with an empty one
-    expect reverted BYTES..     the call reverts, in the same three ways
-    expect out-of-gas           the call runs out of gas
-    expect trapped NAME         the call ends so: illegal, misaligned, memory-fault, fetch-fault, breakpoint,
-                                unknown-call, bad-length or too-many-writes
-    expect gas at most N        the call costs no more
-    expect KEY BYTES..          the call leaves this value at the key ("" is an empty one)
-    expect KEY gone             the call removes the key
-    expect KEY add N            the call adds N in all to the key, and neither writes nor removes it
-    expect no other write       other lines after the call name each key that it writes, removes or adds to
-    expect same by N workers    `rvstm run` with N workers prints what `rvstm seq` prints for the block; at the end for each block
-    storage                     begins the last part of a list, after which there are only lines `expect`:
-    expect KEY BYTES..          after the last block the storage has this value at the key
-    expect KEY gone             it does not have the key
-    expect no other key         other lines of this part name each key that it has
-
-After a call, the last one too, KEY is compared with what this call writes, which is nothing unless it returns. After
-`storage` it is compared with what the storage has then. A call with no lines after it may end in any way.
-
-A line is printed for each test, below it each line that is not met, and at the end the sums. Below the lines of a call are its end,
-the line of the source at which it ended, if NAME.lines.elf is beside NAME.elf, a size that was too large, and the command that shows
-more. If bytes are too long for a line, the piece around the first byte that differs is printed. A key of a table is printed by the
-words of the list, and a value with a `shape` by its fields, with the name of the first one that differs. With --json an object of
-JSON is printed in place of each such line, with the gas of all calls, and one for the sums.
-
---gas FILE compares the gas of each call with its row in FILE: the gas, the list, the block, the name of the input by the lines
-`shape input`, and the text of the call. So a new call changes no other row. It prints calls that differ by more than --within
-percent, those that only FILE or only the lists have, and for each input of a list the least, mean and most gas. --write makes FILE
-again, if all tests pass.
-
-The status is 0 if all tests pass, 1 if one fails or gas differs, and 2 if a list, FILE or the command line is wrong or there is no
-rvstm; then no test is run."""
-
 
 def percent(word: str) -> float:
     """A number of at least 0, as argparse wants the type of an option."""
@@ -153,7 +103,7 @@ def lists_of(files: list[str]) -> Iterator[tuple[Path, bool]]:
 
 COMMAND = Command(
     summary="Runs tests of contracts.",
-    details=DETAILS,
+    details=options.manual(__file__),
     example="rvstm-tools test --variant gnu examples/token",
     run=run,
     arguments=(

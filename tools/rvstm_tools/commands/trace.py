@@ -16,28 +16,6 @@ from rvstm_tools.programs.running import Program
 from rvstm_tools.texts import blockfiles, results
 from rvstm_tools.texts.results import Receipt
 
-DETAILS = """\
-It prints the storage calls of the call, and its gas by function. `rvstm debug` replays the call, step by step.
-
-For each storage call it prints its step, the gas before it, its own gas, its address, what it is given and what it answers. The
-line below has the functions that it is in, the innermost last, each with its line of the source. Then it prints the gas of each
-function: of its own instructions, most first, and with all that it calls. A storage call counts as a function. Of a list, or
-with --list, keys, values and the input of the call are shown by the words and the lines `shape`. --svg draws the gas as a flame
-graph: a bar is as wide as the gas of the function with all that it calls, and is on the bar of its caller.
-
-Functions and lines come from ELF, the program with its symbols and the lines of its source, which the SDK makes:
-
-    make -f sdk/Makefile NAME.lines.elf
-
-Without --lines it is NAME.lines.elf beside the program NAME.elf, if that is there. llvm-addr2line (package llvm) or
-riscv64-unknown-elf-addr2line finds lines, and functions that the compiler inlined. Without such a tool the symbols of the file
-name the functions. A program without symbols is one function, with the name of its file.
-
-A replay lasts one to three seconds for each million steps; how many are done and left is printed on standard error.
-
-The gas is counted by the rules of the block, and its sum is compared with the receipt of the call. The status is 0 if all is
-printed, 1 if the block is refused or a file cannot be read, and 2 for a wrong command line."""
-
 
 def run(given: argparse.Namespace) -> int:
     program = finding.chosen(options.program_choice(given), "trace")
@@ -76,7 +54,7 @@ def receipt_of(program: Program, block: GivenBlock) -> Receipt:
 
 COMMAND = Command(
     summary="Traces a call of a block: its storage calls, and its gas by function.",
-    details=DETAILS,
+    details=options.manual(__file__),
     example="rvstm-tools trace votes.block --call 2 --svg votes.svg",
     run=run,
     arguments=(

@@ -3,6 +3,7 @@ import shutil
 import sys
 from pathlib import Path
 
+from rvstm_tools import options
 from rvstm_tools.commands import example, library
 from rvstm_tools.errors import Status, UserError
 from rvstm_tools.options import Command, argument
@@ -11,19 +12,6 @@ from rvstm_tools.releases import verifying
 from rvstm_tools.releases.products import Product, Products
 
 COST = "that lasts up to an hour on four free processors"
-DETAILS = """\
-It compares with the program that the proof of this commit builds, or that a release names.
-
-FILE is the program rvstm, a package of Debian, or the tar.gz of a release. Its program and its library are compared without
-symbols and build id, by llvm-objcopy, with those that this checkout builds, whose crates are as their commit has them. If they are
-not there, they are proved and built first: that needs Rattle's kit, and lasts up to an hour. On a terminal the command asks before
-it does so; --yes answers.
-
-With --sums no kit is needed, and nothing is built: SHA256SUMS is the file of a release, which you get from its makers. The program is
-compared with the checksum of `rvstm` in this file, and a package with its own.
-
-A line is printed for each comparison. Without --sums another line says which proofs the equal files have, with which logic and of
-which sources. The status is 0 if all are equal, 1 if one is not or cannot be made, and 2 for a wrong command line."""
 
 
 def build(products: Products, product: Product, is_asked: bool) -> None:
@@ -54,7 +42,7 @@ def run(given: argparse.Namespace) -> int:
 
 COMMAND = Command(
     summary="Says whether a program or a package has the proved program.",
-    details=DETAILS,
+    details=options.manual(__file__),
     example="rvstm-tools verify rvstm_0.2.0_amd64.deb --sums SHA256SUMS",
     run=run,
     arguments=(
