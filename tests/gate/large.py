@@ -21,7 +21,7 @@ BY_SPEED = {
 AT_ONCE = {
     "calls_that_read_5000_keys_or_touch_60_pages": ["a call of 5,000 reads, ", "a store to each page, and after the last, "],
     "a_source_of_2_mib": ["asm of a source"],
-    "greatest_files": ["65 programs, seq", "1,025 calls, seq", "an input of 4,097 bytes, seq", "1,024 inputs of 4,096 bytes, seq"],
+    "greatest_files": ["1,024 inputs of 4,096 bytes, seq"],
     "long_sessions": ["debug of a call of 200,000 steps"],
     "back_from_moment_200000": ["steps, back from its last moment"],
 }

@@ -23,6 +23,8 @@ class CommandRow:
     lines: Sequence[str]
     name: str = ""
     inputs: Sequence[str] = ("",)
+    input_file: str = ""
+    """The file whose text is the input, in place of `inputs`."""
     texts: Sequence[str] = ()
     """Texts of the file `given`, over each of which the lines are run."""
     status: int = 0
@@ -135,6 +137,8 @@ class Table:
         for name in data.pop("uses", []):
             self.use(table(name))
         self.contents |= {name: text.encode() for name, text in data.pop("files", {}).items()}
+        for name, parts in data.pop("repeated", {}).items():
+            self.contents[name] = "".join(text * count for text, count in parts).encode()
         self.contents |= {name: bytes.fromhex(digits) for name, digits in data.pop("hex", {}).items()}
         self.contents |= {name: bytes(size) for name, size in data.pop("zeros", {}).items()}
         self.contents |= {name: program(words) for name, words in data.pop("programs", {}).items()}
@@ -181,7 +185,8 @@ def has_pieces(text: str, pieces: Sequence[str]) -> bool:
 
 def check_row(run: Run, one: CommandRow, contents: dict[str, bytes]) -> None:
     """Each command line over each text and input: what it prints, what is on standard error, its status, and what files have then."""
-    for line, text, data in itertools.product(one.lines, one.texts or ("",), one.inputs):
+    inputs = [contents[one.input_file].decode()] if one.input_file else one.inputs
+    for line, text, data in itertools.product(one.lines, one.texts or ("",), inputs):
         files = {**one.files, "given": text} if one.texts else one.files
         for name, content in files.items():
             (run.place / name).write_bytes(content.encode())

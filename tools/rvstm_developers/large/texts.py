@@ -7,7 +7,7 @@ from typing import NamedTuple
 from rvstm_developers import texts
 from rvstm_developers.large import blocks
 from rvstm_developers.large.blocks import COUNT, LONGEST_PROGRAM, count
-from rvstm_developers.large.limits import Make, Trial
+from rvstm_developers.large.trial import Make, Trial
 from rvstm_developers.machine_code import EXECUTE, READ, WRITE, ElfPart, elf_of
 from rvstm_developers.models import machine
 from rvstm_developers.models.machine import DATA, TEXT, Instruction, MachineBlock, MachineCall
@@ -47,6 +47,16 @@ def listed() -> Trial:
     file = elf_of(ElfPart(TEXT, b"".join(map(texts.word, words)), READ | EXECUTE))
     lines = [f"{TEXT + 4 * place:08x} {word:08x} {LISTED[word]}\n" for place, word in enumerate(words)]
     return Trial(["dis", "0.elf"], "".join(lines).encode(), files={"0.elf": file.ljust(LONGEST_PROGRAM, b"\0")})
+
+
+def source_trial(source: str, fault: str = "") -> Trial:
+    """A source at a limit, or one that is refused for the next one."""
+    words, files = ["asm", "source", "--out", "made"], {"source": source.encode()}
+    return Trial(words, errors=f"rvstm: asm {fault}\n".encode() if fault else b"", status=int(bool(fault)), files=files)
+
+
+def source_with_branch(bytes_over: int) -> str:
+    return "beq t0,t0,behind\n" + "nop\n" * (bytes_over // 4 - 1) + "behind: ecall\n"
 
 
 # ---- replays
@@ -129,6 +139,11 @@ def rows(is_small: bool) -> dict[str, Make]:
         "migrate of a block file of 2 MB": functools.partial(migrated, 20_000),
         "migrate of a block file of 262,144 keys": functools.partial(migrated, blocks.MANY_KEYS),
         "asm of a source of 2 MB": assembled,
+        "a source of 16,385 instructions": lambda: source_trial("ecall\n" * 16_385, "16385 TooLarge 7"),
+        "a source of 61,441 bytes of data": lambda: source_trial("ecall\n.data\n.zero 61440\n.byte 1\n", "4 TooLarge 7"),
+        "a source with .zero 65537": lambda: source_trial("ecall\n.data\n.zero 65537\n", "3 ImmediateRange 3"),
+        "a source with a branch of 4,092 bytes": lambda: source_trial(source_with_branch(4_092)),
+        "a source with a branch of 4,096 bytes": lambda: source_trial(source_with_branch(4_096), "1 LabelRange 6"),
         "dis of a program of 131,072 bytes": listed,
         f"debug of a call of {2 * rounds:,} steps": functools.partial(debugged, rounds),
         f"debug of a call of {2 * rounds:,} steps, back from its last moment": functools.partial(back_to_back, rounds),

@@ -3,7 +3,7 @@
 import hashlib
 import io
 import sqlite3
-from collections.abc import Iterable, Mapping, Sequence
+from collections.abc import Iterable, Mapping
 from dataclasses import dataclass
 from pathlib import Path
 from random import Random
@@ -178,16 +178,10 @@ def read_by_sqlite(path: Path) -> ReadFile:
     return ReadFile(Rows(storage, programs, found, b"".join(lines) if lines else None), check)
 
 
-class Statement(NamedTuple):
-    text: str
-    values: Sequence[object] = ()
-
-
-def changed(path: Path, *statements: Statement) -> None:
+def changed(path: Path, statements: str) -> None:
+    """Runs statements, with semicolons between them, in stock SQLite."""
     base = sqlite3.connect(path)
-    for text, values in statements:
-        base.execute(text, values)
-    base.commit()
+    base.executescript(statements)
     base.close()
 
 

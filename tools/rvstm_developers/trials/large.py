@@ -10,9 +10,9 @@ from pathlib import Path
 from typing import NamedTuple
 
 from rvstm_developers import options, texts
-from rvstm_developers.large import blocks, limits, sessions
+from rvstm_developers.large import blocks, sessions
 from rvstm_developers.large import texts as long_texts
-from rvstm_developers.large.limits import USUAL_STACK, Trial
+from rvstm_developers.large.trial import USUAL_STACK, Trial
 from rvstm_developers.models.machine import MachineBlock
 from rvstm_tools.options import Command, argument
 from rvstm_tools.texts import differences
@@ -87,7 +87,7 @@ class Bench:
 
     def fault_of(self, trial: Trial, usage: Usage) -> str:
         errors = (self.place / "errors").read_bytes()
-        if usage.status != trial.status or (trial.errors is not None and errors != trial.errors):
+        if usage.status != trial.status or errors != trial.errors:
             return f"status {usage.status} {errors[:200]!r}, and not {trial.status} {trial.errors!r}"
         if trial.wanted is None:
             return ""
@@ -209,7 +209,7 @@ def rows(bench: Bench, is_small: bool) -> Iterator[LargeRow]:
         yield from rows_of_block(bench, name)
     for name in () if is_small else sessions.MAKERS:
         yield from rows_of_session(bench, name)
-    for name, make in (long_texts.rows(is_small) | limits.ROWS).items():
+    for name, make in long_texts.rows(is_small).items():
         yield LargeRow(name, make, bench.row)
     yield from () if is_small else rows_of_stacks(bench)
 
@@ -228,18 +228,18 @@ def run(given: argparse.Namespace) -> int:
 
 
 COMMAND = Command(
-    "Gives the program large inputs, and inputs one beyond each limit, and prints time and memory of each.",
+    "Gives the program large inputs, and prints time and memory of each.",
     """
 No proof sees a bound that nobody asked for: a body that refuses what is large although no rule limits it. So each row takes
 something that has no limit, or a limit of the rules, as far as users go or farther: blocks of the most calls, keys, reads, writes
 and bytes for `seq`, `conflicts`, `run`, `drive` and `chain`; sessions without a file, in one, and opened again; replays, sources,
-listings and block files. What has to be printed is computed in Python and never by rvstm. Other rows go one beyond each limit, and
-want the refusal that the rules name. The last rows look for the least stack that the longest chains of waits need.
+listings and block files. What has to be printed is computed in Python and never by rvstm. The last rows look for the least stack
+that the longest chains of waits need.
 
 A row has the seconds by the clock, the seconds of the processor, and the most memory in MiB, each of the one process. An unproved
 program takes hours. The parts of a session in a file depend on the parts before them. The last line is 'N passed, M failed'.
 """,
-    "crates/rvstm/out/rvstm --only limit",
+    "crates/rvstm/out/rvstm --only session",
     run,
     (
         options.RVSTM,

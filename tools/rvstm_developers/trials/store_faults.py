@@ -6,6 +6,7 @@ import shutil
 import sqlite3
 import subprocess
 import sys
+import tomllib
 from collections.abc import Callable, Iterator, Mapping
 from contextlib import contextmanager, nullcontext, suppress
 from functools import partial
@@ -16,59 +17,19 @@ from typing import NamedTuple
 
 from rvstm_developers import options, texts
 from rvstm_developers.stores import files
-from rvstm_developers.stores.files import NAMES, PLAIN, Both, Statement
+from rvstm_developers.stores.files import NAMES, PLAIN, Both
 from rvstm_tools import options as shared_options
 from rvstm_tools.errors import UserError
 from rvstm_tools.options import Command
 from rvstm_tools.programs.pipes import Ended
 from rvstm_tools.sessions.processes import Settings
 
-BUSY, HOT_JOURNAL, UNREADABLE, NOT_A_SESSION, OTHER_VERSION, OTHER_SETTINGS, DAMAGED, *_ = NAMES
+BUSY, HOT_JOURNAL, UNREADABLE, NOT_A_SESSION, OTHER_SETTINGS = *NAMES[:4], NAMES[5]
 NOBODY = 65534
 OTHERS = (Settings(frame_limit=5_000), Settings(frame_gas=5_000), Settings(frame_gas=0), Settings(brief=True))
 SMALL, LARGE = 1 << 19, 1 << 26  # bytes of a full disk, and of one with room
 MOST_FRAMES, KEYS_A_FRAME = 100, 300
-COLUMNS = "version, frame_limit, frame_gas, brief, rules, height, digest"
-KEY, NAME = b"k" * 32, b"n" * 32
-INSERT, PROGRAM = "INSERT INTO storage VALUES (?, ?)", "INSERT INTO program VALUES (?, ?)"
-
-
-class Change:
-    """What stock SQLite changes between two sessions, and how the next one refuses it; None if it reads it."""
-
-    def __init__(self, what: str, refusal: str | None, *statements: Statement) -> None:
-        self.what, self.refusal, self.statements = what, refusal, statements
-
-
-CHANGES = (
-    Change("a new key", None, Statement(INSERT, (KEY, b"value"))),
-    Change("a key removed", None, Statement("DELETE FROM storage WHERE key = (SELECT min(key) FROM storage)")),
-    Change("a value of 256 bytes", None, Statement(INSERT, (KEY, b"v" * 256))),
-    Change("a value of 257 bytes", DAMAGED, Statement(INSERT, (KEY, b"v" * 257))),
-    Change("a key of one byte", DAMAGED, Statement(INSERT, (b"k", b"value"))),
-    Change("a key of 33 bytes", DAMAGED, Statement(INSERT, (KEY + b"k", b"value"))),
-    Change("a program forgotten", None, Statement("DELETE FROM program")),
-    Change("a name of one byte", DAMAGED, Statement(PROGRAM, (b"n", files.COUNTER.read_bytes()))),
-    Change("a program that is none", DAMAGED, Statement(PROGRAM, (NAME, b"none"))),
-    Change("no answer", None, Statement("DELETE FROM answer")),
-    Change("another version", OTHER_VERSION, Statement("UPDATE session SET version = 2")),
-    Change("no session", DAMAGED, Statement("DELETE FROM session")),
-    Change("rules 4", DAMAGED, Statement("UPDATE session SET rules = 4")),
-    Change("rules 0", DAMAGED, Statement("UPDATE session SET rules = 0")),
-    Change("a height below zero", DAMAGED, Statement("UPDATE session SET height = -1")),
-    Change("a height above the greatest", DAMAGED, Statement("UPDATE session SET height = 10000000000")),
-    Change("a digest of one byte", DAMAGED, Statement("UPDATE session SET digest = ?", (b"d",))),
-    Change("brief 2", DAMAGED, Statement("UPDATE session SET brief = 2")),
-    Change("a second session", DAMAGED, Statement(f"INSERT INTO session SELECT 2, {COLUMNS} FROM session")),
-    Change("a second answer", DAMAGED, Statement("INSERT INTO answer SELECT 2, line, bytes FROM answer")),
-    Change("another table", NOT_A_SESSION, Statement("CREATE TABLE other (number)")),
-    Change("an index", NOT_A_SESSION, Statement("CREATE INDEX values_there ON storage (value)")),
-    Change("an index that was dropped", None, Statement("CREATE INDEX gone ON storage (value)"), Statement("DROP INDEX gone")),
-    Change("another column", NOT_A_SESSION, Statement("ALTER TABLE storage ADD COLUMN more BLOB")),
-    Change("a table dropped", NOT_A_SESSION, Statement("DROP TABLE answer")),
-    Change("VACUUM", None, Statement("VACUUM")),
-    Change("a rollback journal", None, Statement("PRAGMA journal_mode = DELETE")),
-)
+CHANGES = tomllib.loads(Path(__file__).with_name("store_changes.toml").read_text(encoding="utf-8"))["rows"]
 HOT = """import os, sqlite3, sys
 base = sqlite3.connect(sys.argv[1])
 base.execute("PRAGMA journal_mode = DELETE")
@@ -146,7 +107,7 @@ class StoreTrial:
 
 
 def other_database(path: Path, *pragmas: str) -> None:
-    files.changed(path, *map(Statement, (*pragmas, "CREATE TABLE other (number)", "INSERT INTO other VALUES (1)")))
+    files.changed(path, "; ".join((*pragmas, "CREATE TABLE other (number)", "INSERT INTO other VALUES (1)")))
 
 
 def try_foreign(trial: StoreTrial) -> None:
@@ -334,13 +295,13 @@ def try_bereft(trial: StoreTrial) -> None:
 
 
 def try_changes(trial: StoreTrial) -> None:
-    for change in CHANGES:
-        files.changed(trial.sound_file(), *change.statements)
-        if change.refusal:
-            trial.refuses(f"by sqlite3, {change.what}", change.refusal)
+    for what, refusal, statements in CHANGES:
+        files.changed(trial.sound_file(), statements)
+        if refusal:
+            trial.refuses(f"by sqlite3, {what}", refusal)
         else:
             read = files.read_by_sqlite(files.copied(trial.path, trial.place))
-            trial.reads(f"by sqlite3, {change.what}", files.answers_by(read.rows))
+            trial.reads(f"by sqlite3, {what}", files.answers_by(read.rows))
 
 
 def try_settings(trial: StoreTrial) -> None:
