@@ -220,7 +220,7 @@ class CommandLine(unittest.TestCase):
             raise raised
 
         run.__module__ = "name"
-        command = Command("", "", "", run)
+        command = Command("", "", run, details="nothing")
         with mock.patch.object(commandline, "command_of", lambda _: command), mock.patch.object(commandline, "NAMES", ("name",)):
             status, _, faults = called("name")
         return status, faults

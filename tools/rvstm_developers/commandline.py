@@ -48,7 +48,7 @@ def listing() -> str:
 
 def parser_of(command: Command) -> argparse.ArgumentParser:
     parser = argparse.ArgumentParser(
-        prog=f"{PROGRAM} {command.name}", description=f"{command.summary}\n\n{command.details.strip()}",
+        prog=f"{PROGRAM} {command.name}", description=f"{command.summary}\n\n{command.manual().strip()}",
         epilog=f"example:\n  {PROGRAM} {command.name} {command.example}", formatter_class=argparse.RawDescriptionHelpFormatter,
     )
     for add in command.arguments:

@@ -26,7 +26,7 @@ def parser_of(commands: Sequence[Command]) -> argparse.ArgumentParser:
     subparsers = parser.add_subparsers(title="commands", metavar="COMMAND", required=True)
     for command in commands:
         subparser = subparsers.add_parser(
-            command.name, help=command.summary, description=f"{command.summary}\n\n{command.details}",
+            command.name, help=command.summary, description=f"{command.summary}\n\n{command.manual()}",
             epilog=f"example:\n  {command.example}", formatter_class=argparse.RawDescriptionHelpFormatter,
         )
         for add in command.arguments:

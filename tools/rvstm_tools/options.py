@@ -1,6 +1,7 @@
 """What all subcommands share: their shape, and the options that several of them have."""
 
 import argparse
+import inspect
 import os
 from collections.abc import Callable
 from dataclasses import dataclass
@@ -66,23 +67,24 @@ def argument(*names: str, **how: Any) -> Adder:
     return lambda parser: parser.add_argument(*names, **how)
 
 
-def manual(module: str) -> str:
-    """The details of a command: the text beside the file of its module."""
-    return Path(module).with_suffix(".txt").read_text(encoding="utf-8").rstrip("\n")
-
-
 @dataclass(frozen=True)
 class Command:
     summary: str
-    details: str
     example: str
     run: Callable[[argparse.Namespace], int]
     arguments: tuple[Adder, ...] = ()
+    details: str = ""
+    """What its help says after the summary; if it is empty, the text beside the file of its module does."""
 
     @property
     def name(self) -> str:
         """That of its module."""
         return self.run.__module__.rpartition(".")[2].replace("_", "-")
+
+    def manual(self) -> str:
+        """All that its help says after the summary."""
+        text = Path(inspect.getfile(self.run)).with_suffix(".txt")
+        return self.details or text.read_text(encoding="utf-8").rstrip("\n")
 
 
 @dataclass(frozen=True)

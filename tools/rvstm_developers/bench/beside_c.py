@@ -123,18 +123,6 @@ def run(given: argparse.Namespace) -> int:
 
 COMMAND = Command(
     "Times `rvstm seq` beside a plain interpreter in C, in one run, and prints tables.",
-    """
-plainvm.c is built by each of gcc and clang that is there, with -O2 and -O3, with and without jump tables. Of each kind the build that is
-fastest on a block is measured. All programs run each block in turn, files and text included, and print the same bytes. What counts is
-processor time, and of a ratio the median over rounds of the ratio within a round, since the speed of a virtual machine changes from
-second to second. The blocks: calls that compute, all together and by program; 200 counts of one key; 1,000 transfers; the calls of
-examples/token and examples/tally again and again.
-
-Then short calls: a thousand counts and a thousand transfers, in microseconds a call, less the time of the same block with a gas limit of
-1, in which the files, the text and the starts of calls are left; the best of several runs.
-
-Last, if nm is there, how far after a multiple of 32 bytes the loop over a page of code begins: it is faster at a multiple.
-""",
     "crates/rvstm/out/rvstm",
     run,
     (options.RVSTM, argument("old", metavar="OLD", type=finding.absolute, nargs="?", help="an earlier program to compare it with")),

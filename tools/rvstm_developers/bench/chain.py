@@ -275,20 +275,6 @@ def run(given: argparse.Namespace) -> int:
 
 COMMAND = Command(
     "Times a block of 200 transfers with `rvstm chain` over 100 to 1,000,000 keys, beside `rvstm seq` in one process a block.",
-    """
-The program of a session is handed in, and its first frame has the keys and no call. Then come blocks of transfers between random accounts,
-all of which are there, so that the number of keys stays. `seq` reads a file with the calls of one of them and all keys. Ten different
-blocks are given in a round, and then one of them ten times, whose accounts are in the cache of the processor. What counts is the
-processor time of the program alone, the median over rounds, and of a ratio the median of the ratio within a round: in each round all
-sizes come in turn. The memory is what of the process of the session is resident after the rounds, and after 1,000 blocks more. The share
-of a key is of what it is more than over 1,000 keys.
-
-A second table compares frames with four workers with the same frames in order: two sessions get each frame in turn, and what counts is
-the time until its answer is read.
-
---library times the same blocks over the same keys in this process through librvstm.so, which `rvstm-tools library` makes: the processor
-time of handing a block in and copying its answer out. --store times commits beside SQLite's own library, and needs cc and libsqlite3.
-""",
     "crates/rvstm/out/rvstm --most 1000",
     run,
     (

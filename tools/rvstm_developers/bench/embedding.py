@@ -80,13 +80,6 @@ def run(given: argparse.Namespace) -> int:
 
 COMMAND = Command(
     "Times a block of 1,000 transfers over the caller's own storage, beside rvstm_frame and `rvstm seq`.",
-    """
-embedding.c has a hash table as its database. It adds the calls, answers each key, copies all receipts, outputs, writes and
-changes, and puts the changes into the table; and it runs the same calls with rvstm_frame, and copies the answer. In the
-end both storages have to be equal. All three run in turn, and what counts is processor time, the median over rounds; of
-`seq` less the time of a block without calls. callgrind counts the instructions. It needs cc, valgrind, and the library,
-which `rvstm-tools library` makes.
-""",
     "crates/rvstm/out/rvstm",
     run,
     (options.RVSTM,),

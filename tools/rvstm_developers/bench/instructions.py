@@ -92,12 +92,6 @@ def run(given: argparse.Namespace) -> int:
 
 COMMAND = Command(
     "Counts the instructions of the processor with callgrind, and prints two tables. The counts do not vary from run to run.",
-    """
-It needs valgrind and gcc. The first table: what one instruction of a contract costs, by the difference of two gas limits, beside plainvm.c
-by gcc -O2 with and without jump tables. The last column is a program of two pages that jumps from each to the other, and makes no other
-instruction. The second: what a call costs in the whole program, files and text included, by the difference of 600 and 200 calls, with
-`seq` and with `run` with one worker, under rules one and under later ones.
-""",
     "crates/rvstm/out/rvstm",
     run,
     (options.RVSTM,),

@@ -59,11 +59,6 @@ def run(given: argparse.Namespace) -> int:
 
 COMMAND = Command(
     "Times the largest inputs, and prints for each command the seconds and the most memory that it had, in MiB.",
-    """
-The large block has 1,024 calls of 64 programs. Each program is a file of 131,072 bytes, and each call writes 256 keys. `seq` and `run`
-print one result. `drive` follows a list of 20 million entries over the large block, and a list of 65,535 entries, of which 65,511 are
-needed, over 251 calls that write 256 keys each.
-""",
     "crates/rvstm/out/rvstm",
     run,
     (options.RVSTM,),

@@ -121,15 +121,6 @@ def run(given: argparse.Namespace) -> int:
 
 COMMAND = Command(
     "Times `rvstm run` with 2 and 4 workers beside `rvstm seq` on calls of 700 to 1,000,000 instructions, and draws a picture.",
-    """
-The calls of a block are alike: each mixes a word and writes it to a key of its own. All programs run a block in turn, files and text
-included, and print the same bytes. A figure says how many times as fast as `seq` a run is: the median over rounds of the ratio within a
-round, since the speed of a virtual machine changes from second to second.
-
-In each round four processes of `seq`, each on a processor of its own, run a longer block at once. How many times the work of the fastest
-process of all rounds they do in its time says what four processors have in that round. A round is quiet if that is at least 3.6. The last
-two columns are the ratio with 4 workers in the quiet rounds, and the number of these.
-""",
     "crates/rvstm/out/rvstm bench/lengths.svg",
     run,
     (options.RVSTM, options.PICTURE),

@@ -132,12 +132,6 @@ def run(given: argparse.Namespace) -> int:
 
 COMMAND = Command(
     "Times blocks that take a node longest, and prints seconds, processor seconds and the most memory, in MiB.",
-    """
-There are two figures. Of calls that use up ten million gas, the most that a call may have, it is the time for a unit of gas; a block has
---calls of them. Of 1,024 calls that end soon it is the time for a call. In each round a row is run in turn with `work`, which mixes a word
-in a loop with `seq`. Each figure is the median of --rounds rounds. The last column is the processor time beside that of `work` in the same
-round: for a unit of gas so many times, and for a call as much gas of `work`.
-""",
     "crates/rvstm/out/rvstm reads fence --quick",
     run,
     (

@@ -133,13 +133,6 @@ def run(given: argparse.Namespace) -> int:
 
 COMMAND = Command(
     "Times blocks with `rvstm chain` over storages of four kinds of keys.",
-    """
-A key is a small number after zeros; or a SHA-256; or one of sixteen that have one hash, so that the hints of where keys are serve half of
-them at most. A block has 200 calls: transfers between accounts that are there, writes of 200 keys that are not, and then removals of
-these. What counts is the processor time of the session, the median over rounds: in each round all sizes come in turn, and a ratio is the
-median of the ratios within a round. `begin` with all keys and `dump` are timed too. The share of a key is of what the
-process has in memory more than over 1,000 keys. Last a storage grows by blocks of 1,000 new keys: its bytes a key, and the longest block.
-""",
     "crates/rvstm/out/rvstm --most 1000 --rounds 3 --grown 10000",
     run,
     (

@@ -93,12 +93,6 @@ def run(given: argparse.Namespace) -> int:
 
 COMMAND = Command(
     "Times frames whose reads pass many sums, with `rvstm chain` in order and with 2 to 32 workers, and says which are within two bounds.",
-    f"""
-In each round a frame is run in order and with each number of workers, in turn, in a process of its own. Times are those of the whole
-process: medians of --rounds rounds. Memory is the most of all rounds; less than this script has is seen only in processes that last 20 ms.
-If an answer differs from that in order, the command fails. The bounds of the last line are
-{BOUNDS}.
-""",
     "crates/rvstm/out/rvstm --only small --rounds 3",
     run,
     (
@@ -109,4 +103,10 @@ If an answer differs from that in order, the command fails. The bounds of the la
                  help="this frame, and others if it is given again; --names prints them"),
         argument("--names", action="store_true", help="prints what each frame is, and runs nothing"),
     ),
+    details=f"""
+In each round a frame is run in order and with each number of workers, in turn, in a process of its own. Times are those of the whole
+process: medians of --rounds rounds. Memory is the most of all rounds; less than this script has is seen only in processes that last 20 ms.
+If an answer differs from that in order, the command fails. The bounds of the last line are
+{BOUNDS}.
+""",
 )

@@ -107,13 +107,6 @@ def run(given: argparse.Namespace) -> int:
 
 COMMAND = Command(
     "Times `rvstm run` with 1, 2, 4 and 32 workers beside `rvstm seq` on five blocks, and draws a picture.",
-    """
-Each time is the best of several runs of the whole program, all programs in turn, less the time of the same block with a gas limit of 1
-for each call, in which the files, the text of the result and the starts of the calls are left. It prints the times in milliseconds and how
-many times as fast as `seq` each number of workers is, and compares the bytes of each run with those of `seq`. A second table says how many
-times as fast as `seq` each is with files and text, the median over rounds of the ratio within a round; a third says it for rounds in
-which no output is read.
-""",
     "crates/rvstm/out/rvstm bench/threads.svg",
     run,
     (

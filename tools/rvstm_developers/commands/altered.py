@@ -71,10 +71,6 @@ def run(given: argparse.Namespace) -> int:
 
 COMMAND = Command(
     "Runs the gate's cases over a program that changes what it prints, or its status: each case that runs it has to fail.",
-    """
-Three wrappers stand in for the program: one changes a byte of each piece that it writes, one adds a line at the end, one adds one to
-the status. The cases run one after another. It prints those that pass although the program ran. The status is 1 if there are any.
-""",
     "crates/rvstm/out/rvstm",
     run,
     (

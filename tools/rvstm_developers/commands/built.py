@@ -77,13 +77,6 @@ def run(given: argparse.Namespace) -> int:
 
 COMMAND = Command(
     "Takes over what a green `rt ci` proved and built here, so that nothing of it is proved again.",
-    """
-The program is noted as built of these sources, and the library for C is built over the libraries that `rt ci` left. So examples and the
-library start at once after it, and so do the cases.
-
-`rt ci` checks the library for C, whose crate is a static library, and builds no archive of it; and the libraries below it have no
-stamp, so `rt lib` would prove all of them again. The kit's `rattle build` takes them as they are, and checks this one crate.
-""",
     "",
     run,
     (

@@ -140,11 +140,6 @@ def run(given: argparse.Namespace) -> int:
 
 COMMAND = Command(
     "Runs `rt ci` and prints what each crate costs it, in seconds of processor time.",
-    """
-It looks at the processes of `rt ci` twice a second, and adds up what each of them used: by crate, and by whether it proved the crate,
-proved its tests, or tried an edit that must be refused. Building and running the programs and tests is 'other'. It prints the table
-of docs/gate.md. The status is that of `rt ci`.
-""",
     "/tmp/gate.log gas",
     run,
     (

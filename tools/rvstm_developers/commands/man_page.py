@@ -19,7 +19,6 @@ def run(given: argparse.Namespace) -> int:
 
 COMMAND = Command(
     "Makes the man page of rvstm, man/rvstm.1, of the help of the program and of its commands.",
-    "The page has no text of its own but its last part.",
     "crates/rvstm/out/rvstm --check",
     run,
     (

@@ -50,17 +50,6 @@ def run(given: argparse.Namespace) -> int:
 
 COMMAND = Command(
     "Prints what each module of a crate costs its check, in seconds, by the times of the files that the check kept.",
-    """
-A check keeps a file for each module, as soon as it is checked. So the time between two files is what the second one took, if one job
-checked the crate from nothing. What is read before the first file of a kind is counted with that file. To measure a crate, with
-nothing else on the machine:
-
-    cd crates/stm_core && rm -rf out/incremental && rt check --jobs 1
-    rvstm-developers module-cost stm_core
-
-Of a function, `Lts` is what the prover writes for the borrow checker, `Proof` the proof of its clauses, `Answers` what its own file
-answers, and `Tie` what it takes from the calls that it makes.
-""",
     "stm_core",
     run,
     (

@@ -52,10 +52,6 @@ def run(_: argparse.Namespace) -> int:
 
 COMMAND = Command(
     "Tries what must not compile: a record of an arena that is held across the arena's reset.",
-    """
-Compiles a change of version_arena with two functions more. One holds a record across the reset of its arena, and the borrow check
-must refuse it. The other does not use the record after the reset, and must be accepted. It runs for half a minute.
-""",
     "",
     run,
 )

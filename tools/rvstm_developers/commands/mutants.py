@@ -243,11 +243,6 @@ def run(given: argparse.Namespace) -> int:
 
 COMMAND = Command(
     "Changes one place of the tools at a time, and runs the tests that reach it: at least one of them has to fail.",
-    """
-A comparison is turned or cut, a condition dropped, a number moved by one, `and` and `or` exchanged, a loop ended one early, a list
-returned without its end, a refusal left out. It prints a table by module, and each mutant that no test found. A mutant that means
-the same as the source is in equal_mutants.txt with its reason. The status is 1 if mutants are left.
-""",
     "texts/expectations.py testing",
     run,
     (

@@ -172,26 +172,6 @@ def run(given: argparse.Namespace) -> int:
 
 COMMAND = Command(
     "Checks that a cause from outside is reported only if the outside reported it.",
-    """
-No clause can say when an allocator or a file refuses, so a body could report want of memory if nothing was refused. This reads the
-code of all crates but their tests. Want of memory (`AllocError`, `::Memory`, `::OutOfMemory`, `::Unkept`, a `Failure` of a turn), a
-failed file (`::Unreadable`, `::Unwritable`, `::Io`, `::WroteNothing`) and a thread that was refused (`::Spawn`) may be made only
-
-- on the right of an arm, or in an `if let`, whose pattern names such an error: `Err(AllocError)`, `Err(io::Error { .. })`, a kind of
-  the system's errors, another cause of the same kind; never `Err(_)`;
-- in a closure of `map_err` that names it: `|_: AllocError| ..`;
-- in the `else` of a `let Ok(..) = .. else`, or after `.is_err()`, of a call that fails for nothing else; such is one that hands back
-  what it was handed, if each of its own `Err` is made so;
-- in a function, such as a `From`, that takes such an error;
-- if a size does not fit a word of the machine: in the `else` of a `let .. = ..::try_from(..) else` or of a `.checked_..(..)`;
-- if the rules call it so: a source that is not UTF-8, and two paths of one file; and `WroteNothing` if a call took no byte, on the
-  right of `Ok(0)`;
-- after a loop over all numbers of 64 bits, or one whose turns continued after such an error.
-
-Otherwise the check continues with what takes the cause: each use of a constant, a variable or a parameter that has it, and each call
-of a function that makes it, has to be made so. There is no list of exceptions. For each area a table says whose want of memory it
-reports, so that none is reported for another. The last line is 'N places, M wrong'.
-""",
     "--places",
     run,
     (

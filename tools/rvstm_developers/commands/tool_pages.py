@@ -17,7 +17,6 @@ def run(_: argparse.Namespace) -> int:
 
 COMMAND = Command(
     "Makes man/rvstm-tools.1 and completions/rvstm-tools.bash of the parsers of rvstm-tools.",
-    "The tests of the tools compare both with the parsers.",
     "",
     run,
 )

@@ -31,11 +31,6 @@ def run(given: argparse.Namespace) -> int:
 
 COMMAND = Command(
     "Compares `rvstm seq` as two compilers built it, over random blocks.",
-    """
-Half of the blocks call contracts of FOLDER, and half call random programs that read, write, remove and add to keys, as in `stress`. Of
-both programs it compares what they print, their errors and their status. A block that differs is kept and named, with its programs.
-The last line is 'N blocks, K refused, M differ'.
-""",
     "crates/rvstm/out/rvstm crates/rvstm/out/rvstm.by-rattle tests/cases",
     run,
     (

@@ -147,14 +147,6 @@ def add_options(parser: argparse.ArgumentParser) -> None:
 
 COMMAND = Command(
     "Compares random sessions of the library for C with those of `rvstm chain`, byte for byte.",
-    """
-A pair of sessions is side by side in one process, whose requests are mixed, and each session is also given to `rvstm chain` with the
-same settings. Their programs are random ones. It compares the status, the line and the bytes of each answer. Each pair also opens a
-session twice, opens one with settings that none has, asks for what no line says, and calls before it is opened and after it is closed.
-
-It compiles embedded_driver.c and links the library, which `rvstm-tools library` builds, and runs examples/embed/try first. The status
-is 1 if something differs.
-""",
     "crates/rvstm/out/rvstm 20 --valgrind",
     run,
     (options.RVSTM, add_options),

@@ -307,14 +307,6 @@ def run(given: argparse.Namespace) -> int:
 
 COMMAND = Command(
     "Walks through all states of small blocks with a model of the scheduler, and checks that each fair schedule ends.",
-    """
-The model has the ten steps of a worker. A step is idle if a worker asks and both indices are past the last call: it
-changes nothing. Any other step is work. The command walks through all states that lists of workers lead to, and checks:
-
-- no work goes on in a circle: so each fair schedule ends, where all owe idle askings;
-- there each call wrote what it writes in order;
-- the work so far, and each incarnation, are within the bounds of crates/always_ends/specs.
-""",
     "--workers 2",
     run,
     (argument("--workers", type=count, default=3, metavar="N", help="with 1 to N workers (3)"),),

@@ -294,19 +294,6 @@ def run(given: argparse.Namespace) -> int:
 
 COMMAND = Command(
     "Feeds damaged files to the program, and prints 'N runs, M failed'.",
-    """
-Each run takes a program, block file, source, schedule, list of debug lines or session of the repository, flips bits in it, cuts
-parts out, or joins it with another, and gives it to each command that reads such a file. A run fails if
-
-- the program crashes, meets a signal, takes more than 60 seconds or 1 GiB, or ends with another status than 0, 1 or 2;
-- it prints something and refuses, or refuses with another text than one line `rvstm: AREA ..`;
-- `run` or `drive` print a result that `seq` does not print, or `seq` prints another one for a migrated block file;
-- `chain` writes or ends otherwise than the model, which runs frames with `seq`.
-
-Sessions are damaged anywhere, or within bodies and lines whose lengths stay right, or are random bytes; and requests are put
-within bodies. Random programs that read, write, remove and add to a few keys are run too, with their block whole or damaged.
-The files of a run that failed are kept.
-""",
     "crates/rvstm/out/rvstm 60 1",
     run,
     (

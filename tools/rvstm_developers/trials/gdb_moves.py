@@ -264,15 +264,6 @@ def run(given: argparse.Namespace) -> int:
 
 COMMAND = Command(
     "Compares random moves of `rvstm-tools gdb` with the whole trace of a call.",
-    """
-The trace is made step by step, with the lines `s`, `r` and `m` of `rvstm debug`: the registers, the pc and the upper end of the stack
-at each moment. Then each round opens the call as gdb does, without gdb, and makes random moves: steps forward and back, over ranges
-of addresses and many at once, to breakpoints and to changes of the stack, and to moments. Some are interrupted. After each move it
-compares the moment, what it stopped for, all registers and some memory. How far is looked at once is drawn, too, so that short calls
-meet all ways.
-
-It prints how many moves were compared. The status is 1 at the first one that differs, with the moves before it.
-""",
     "examples/token/token.block --call 3",
     run,
     (

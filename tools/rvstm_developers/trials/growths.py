@@ -219,17 +219,6 @@ def run(given: argparse.Namespace) -> int:
 
 COMMAND = Command(
     "Lets each request for memory fail in turn, and prints 'N runs, M failed'.",
-    """
-Each command is run on an example again and again: the first time its first request for memory is refused, then its second, and so
-on, until a run meets no refusal. A run must print the right result, or refuse with one line that says Memory (or Spawn, if a thread
-could not be started) and print nothing. One exception: of a text that is written in parts it may print a beginning. A command line for
-which memory runs out is a wrong one. A session of `chain`, in order and with threads, has to answer each request as the model says,
-which runs frames with `seq`. One answer may be `failed AREA Memory N` of an area that the request may want memory for. Then storage,
-rules, programs, height and digest are as before it, which the requests after it show.
-
-Of TESTS, only those of the module second_tries are run. Each tries a refused call a second time, and must pass. It needs a C compiler,
-for the library that refuses.
-""",
     "crates/rvstm/out/rvstm crates/program_tests/out/program_tests_tests",
     run,
     (

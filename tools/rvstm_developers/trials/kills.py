@@ -211,20 +211,6 @@ def run(given: argparse.Namespace) -> int:
 
 COMMAND = Command(
     "Kills sessions of `rvstm chain --store FILE` at random moments, and compares the next one with a session without a file.",
-    """
-In each round a session over a file is asked how the one before left it (`state`, `last`, `programs`, `dump` and `list`), and then
-gets random requests, all at once: programs that are handed in and forgotten, frames, tries, refused frames, beginnings, some of
-10,000 keys, and questions. After a random answer and a random time it is killed with -9: as it opens the file or takes up the log,
-in a commit, or as it folds the log at its end. Every eighth session ends by itself, some with a broken or a cut request. Another
-session without a file, `rvstm chain --digest`, gets each request that was answered and has to answer the same. The next session
-has to hold what this one has after the last answer, or after the next request too; if the first byte of the next answer was there,
-after the next request. So no answered request is lost, none is done half, and `last` is right.
-
-After each round stock SQLite reads a copy of the file and its log: its integrity check has to say ok, and it has to read the rows
-that the next session reports. In every eighth round it opens the file itself, and folds the log into it. Each file lives for about
-25 rounds, with settings of its own. The last line has how many rounds there were, where they were killed, how often a request was
-kept before it was answered, and how many rounds are bad. The file and the input of a bad one are kept and named.
-""",
     "crates/rvstm/out/rvstm tests/cases --rounds 500",
     run,
     (

@@ -229,16 +229,6 @@ def run(given: argparse.Namespace) -> int:
 
 COMMAND = Command(
     "Gives the program large inputs, and prints time and memory of each.",
-    """
-No proof sees a bound that nobody asked for: a body that refuses what is large although no rule limits it. So each row takes
-something that has no limit, or a limit of the rules, as far as users go or farther: blocks of the most calls, keys, reads, writes
-and bytes for `seq`, `conflicts`, `run`, `drive` and `chain`; sessions without a file, in one, and opened again; replays, sources,
-listings and block files. What has to be printed is computed in Python and never by rvstm. The last rows look for the least stack
-that the longest chains of waits need.
-
-A row has the seconds by the clock, the seconds of the processor, and the most memory in MiB, each of the one process. An unproved
-program takes hours. The parts of a session in a file depend on the parts before them. The last line is 'N passed, M failed'.
-""",
     "crates/rvstm/out/rvstm --only session",
     run,
     (

@@ -22,12 +22,6 @@ def run(given: argparse.Namespace) -> int:
 
 COMMAND = Command(
     "Makes random sequences of the library's calls for blocks over the caller's own storage, right and wrong ones.",
-    """
-It compiles misuse.c with gcc's sanitizers, and links the library, which `rvstm-tools library` builds, over a heap that
-refuses at random. Three images and three blocks get calls at the wrong stage, after they are closed, with wrong numbers and
-long values; their handles move. It compares each status, each struct and the heap's blocks at the end with a model in C,
-and prints how often each status came. The status is 1 if something differs.
-""",
     "crates/rvstm/out/rvstm 100000",
     run,
     (

@@ -63,12 +63,6 @@ def run(given: argparse.Namespace) -> int:
 
 COMMAND = Command(
     "Prints how soon `rvstm-tools explore` finds each of ten bugs, and how many calls are left.",
-    """
-tests/fixtures/explored/bank.c is built with each of its bugs, by clang, lld and make, and explored by bank.explore and its model.
-
-A row has the bug, the seconds and the calls until it was found, how many calls are left, and the seconds in all. The status is 1 if
-a bug is not found.
-""",
     "--seed 2",
     run,
     (

@@ -251,23 +251,6 @@ def run(given: argparse.Namespace) -> int:
 
 COMMAND = Command(
     "Cuts the power under `rvstm chain --store FILE`, on images of the disk, and compares what each holds with what was answered.",
-    """
-It compiles store_recorder.c with cc. Loaded with LD_PRELOAD it writes each call to a list by which a session changes the file, its
-log or standard output. Four sessions are recorded: a first one, from no file; a second one, over the file and the log that a cut
-after the last answer of the first leaves; one of many frames, in which the log is folded into the file each 1,000 pages; and one
-with a `begin` of 10,000 keys. Then it makes images of what a cut after each call leaves (in the third session: around the folding,
-and after some others): all that was written; what was synced alone; the first calls since; and of the bytes that were written since
-some by sectors of 512 bytes, some by bytes, or garbage in some sectors, with any length between those that the file had. Every 50th
-image is recorded again as it is opened, and that is cut in the same ways. A file may be absent if it is empty.
-
-Each image has to open, and to hold what the answers that were begun before the cut leave, or the next request too. One that was
-recorded as it was opened holds the same again. Stock SQLite's integrity check has to say ok of what the session that opened it
-leaves, and it has to read the same rows. It prints how many images there were of each session and how many are bad, which are kept
-and named.
-
-What it supposes of the disk, as the port of SQLite does (`sqlite_disk`): a byte that no call wrote since the last sync stays as it
-was, also in a sector that is torn. So garbage is in written bytes alone. Nothing is supposed of these, nor of their order.
-""",
     "crates/rvstm/out/rvstm tests/cases --most 200",
     run,
     (

@@ -116,12 +116,6 @@ def run(given: argparse.Namespace) -> int:
 
 COMMAND = Command(
     "Runs blocks of token transfers over databases of SQLite and LMDB, by the programs of examples/state.",
-    f"""
-It builds each program, fills a database with {FEW:,} keys and one with KEYS, and runs a block of {TRANSFERS:,} transfers twice.
-Each result has to be what `rvstm seq` prints over the keys that are touched, byte for byte, and the second block has to
-find what the first one changed. The library's heap is counted: over many keys a block may take 5 % more bytes than over
-few. Needs libsqlite3-dev and liblmdb-dev, and 2 GB of disk for {MANY:,} keys.
-""",
     "crates/rvstm/out/rvstm 1000000",
     run,
     (
@@ -129,4 +123,10 @@ few. Needs libsqlite3-dev and liblmdb-dev, and 2 GB of disk for {MANY:,} keys.
         argument("keys", metavar="KEYS", type=int, nargs="?", default=MANY, help=f"of the large database ({MANY:,})"),
         argument("--only", choices=sorted(DATABASES), help="one database alone"),
     ),
+    details=f"""
+It builds each program, fills a database with {FEW:,} keys and one with KEYS, and runs a block of {TRANSFERS:,} transfers twice.
+Each result has to be what `rvstm seq` prints over the keys that are touched, byte for byte, and the second block has to
+find what the first one changed. The library's heap is counted: over many keys a block may take 5 % more bytes than over
+few. Needs libsqlite3-dev and liblmdb-dev, and 2 GB of disk for {MANY:,} keys.
+""",
 )

@@ -146,19 +146,6 @@ def run(given: argparse.Namespace) -> int:
 
 COMMAND = Command(
     "Damages files of `rvstm chain --store FILE`, and compares what a session reads in them with what stock SQLite reads.",
-    """
-It makes a file with some hundred keys, a program and an answer: once as a session leaves it that ended, without a log; and once as
-one leaves it that was killed, with a log. In both, it turns the bytes of the first 64 KiB of the file, and of the log, over one by
-one. Then there is random damage anywhere in either: a bit, some bytes, a sector of zeros, an end that is cut off, or a page that
-another one is written over. A session over each is refused by name, and then leaves FILE as it was and no log if there was none; or
-it holds what stock SQLite reads in a copy. It never crashes, and ends within two minutes. One byte in 64 is tried, and 1,000 random
-damages; with --long each byte, and 10,000.
-
-If a log is damaged, both drop the commit and those after it, and report nothing; if that leaves no row, a session is a new one.
-Neither sees that a value was changed.
-
-It prints what came how often. A file from which something else came is kept and named.
-""",
     "crates/rvstm/out/rvstm",
     run,
     (options.RVSTM, shared_options.SEED, argument("--long", action="store_true", help="each byte, and 10,000 random damages")),

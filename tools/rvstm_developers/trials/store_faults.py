@@ -422,17 +422,6 @@ def run(given: argparse.Namespace) -> int:
 
 COMMAND = Command(
     "Gives `rvstm chain --store FILE` foreign, locked, changed and full files, and compares how it refuses or reads them.",
-    """
-It tries what is no file of a session (texts, databases of others, a folder, links, a pipe, a device, a file without rights); two
-sessions at one file, a file that sqlite3 has open, and one whose rollback journal is hot; files that are removed, moved or replaced
-under a session, whose next frame then has no answer; logs whose file is missing, empty or of one
-byte; files that sqlite3 changed between two sessions (a new key, rows that are none of a session, another version, other tables, an
-index, VACUUM, another journal mode); other settings; and a disk that gets full: a small tmpfs if it may mount one, and a bound on
-the length of files. Each has to be refused by its name, or read as stock SQLite reads it. A refused open leaves the folder as it was.
-One exception: it may write a log that is there. If the disk is full a request fails with `failed store NAME NUMBER`, the session goes
-on as before, and the request is done if it is given again with room; or the session ends by name, and the next one has what was
-answered, or the request that failed too. Each trial is a line.
-""",
     "crates/rvstm/out/rvstm",
     run,
     (options.RVSTM, shared_options.SEED),

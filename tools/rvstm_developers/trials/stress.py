@@ -155,21 +155,6 @@ def run(given: argparse.Namespace) -> int:
 
 COMMAND = Command(
     "Runs random blocks with random numbers of workers, at once, along random lists and in sessions, and compares with `rvstm seq`.",
-    """
-Half of the blocks call contracts of FOLDER, and half call random programs that read, write, remove and add to keys, a third of
-them after some thousand instructions. All have random inputs on few keys, so that calls meet. A quarter of the blocks are of
-each format and rules. What the workers of a run count has to be within the bound of their steps.
-
-For each third block it makes a random session of `rvstm chain` over the same programs, in order or with workers and with random
-settings: programs, frames, tries, bad frames between them, bodies that have requests in them, beginnings, questions. Half of
-them are broken, cut or have lengths that lie. Half get their whole input at once, and half each request after the answer to the
-one before. It compares all that a session writes with the model, which runs frames with `seq`, and its digest with hashlib.
-Another session takes over a third of them after some request: it begins with the state, the dump and the programs, and has to
-answer the rest in the same way.
-
-Half of the time other processes keep the processors busy. The last line has how many blocks, runs and sessions were made and how
-many differ, also after an interrupt. The block file or the input of one that differs is kept and named, with its programs.
-""",
     "crates/rvstm/out/rvstm tests/cases 60",
     run,
     (

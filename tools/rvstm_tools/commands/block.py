@@ -58,7 +58,6 @@ def is_elf(path: Path) -> bool:
 
 COMMAND = Command(
     summary="Builds a block file from a list that people can read.",
-    details=options.manual(__file__),
     example="rvstm-tools block votes.list > votes.block",
     run=run,
     arguments=(

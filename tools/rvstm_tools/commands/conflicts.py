@@ -22,7 +22,6 @@ def run(given: argparse.Namespace) -> int:
 
 COMMAND = Command(
     summary="Draws which calls of a block wait for which.",
-    details=options.manual(__file__),
     example="rvstm-tools conflicts votes.block --svg votes.svg --list votes.list",
     run=run,
     arguments=(

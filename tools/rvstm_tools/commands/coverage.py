@@ -63,7 +63,6 @@ def add_list(program: Program, path: Path, file: ListFile, programs: defaultdict
 
 COMMAND = Command(
     summary="Says which lines and branches of contracts the calls of lists ran.",
-    details=options.manual(__file__),
     example="rvstm-tools coverage token.list refusals.list --lcov token.info",
     run=run,
     arguments=(

@@ -32,7 +32,6 @@ def run(given: argparse.Namespace) -> int:
 
 COMMAND = Command(
     summary="Proves and builds rvstm, if that is not done yet, and runs an example.",
-    details=options.manual(__file__),
     example="rvstm-tools example counter",
     run=run,
     arguments=(argument("name", metavar="NAME", help="an example, such as counter"),),

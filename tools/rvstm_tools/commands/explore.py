@@ -33,7 +33,6 @@ def run(given: argparse.Namespace) -> int:
 
 COMMAND = Command(
     summary="Looks for calls that break what a contract has to keep.",
-    details=options.manual(__file__),
     example="rvstm-tools explore token.explore --seconds 10",
     run=run,
     arguments=(

@@ -36,7 +36,6 @@ def serve(program: Program, block: GivenBlock) -> None:
 
 COMMAND = Command(
     summary="Lets gdb debug a call of a block forward and backward, by lines of its source.",
-    details=options.manual(__file__),
     example='gdb-multiarch token.lines.elf -ex "target remote | rvstm-tools gdb token.block --call 2"',
     run=run,
     arguments=(options.add_program, *options.CALL, options.LIST),

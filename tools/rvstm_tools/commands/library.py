@@ -86,7 +86,6 @@ def run(_: argparse.Namespace) -> int:
 
 COMMAND = Command(
     summary="Proves and builds the library for C: an archive and a shared object.",
-    details=options.manual(__file__),
     example="rvstm-tools library",
     run=run,
 )

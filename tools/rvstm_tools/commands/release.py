@@ -149,7 +149,6 @@ def run(given: argparse.Namespace) -> int:
 
 COMMAND = Command(
     summary="Makes the files of a release: packages for Debian, an archive for other systems, and their checksums.",
-    details=options.manual(__file__),
     example="rvstm-tools release /tmp/release",
     run=run,
     arguments=(argument("folder", type=Path, metavar="FOLDER", help="a folder that is made for the files"),),

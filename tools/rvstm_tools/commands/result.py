@@ -29,7 +29,6 @@ def run(given: argparse.Namespace) -> int:
 
 COMMAND = Command(
     summary="Prints a result of rvstm for people, or as lines of JSON.",
-    details=options.manual(__file__),
     example="rvstm seq votes.block | rvstm-tools result --list votes.list",
     run=run,
     arguments=(

@@ -38,7 +38,6 @@ def continuation(runner: Runner, block: str, workers: int, begun: str) -> Sequen
 
 COMMAND = Command(
     summary="Prints a schedule file for `rvstm drive`: one worker number a line.",
-    details=options.manual(__file__),
     example="rvstm-tools schedule 4 1000 random 7 > block.schedule",
     run=run,
     arguments=(

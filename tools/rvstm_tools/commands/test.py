@@ -103,7 +103,6 @@ def lists_of(files: list[str]) -> Iterator[tuple[Path, bool]]:
 
 COMMAND = Command(
     summary="Runs tests of contracts.",
-    details=options.manual(__file__),
     example="rvstm-tools test --variant gnu examples/token",
     run=run,
     arguments=(

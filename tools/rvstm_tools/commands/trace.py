@@ -54,7 +54,6 @@ def receipt_of(program: Program, block: GivenBlock) -> Receipt:
 
 COMMAND = Command(
     summary="Traces a call of a block: its storage calls, and its gas by function.",
-    details=options.manual(__file__),
     example="rvstm-tools trace votes.block --call 2 --svg votes.svg",
     run=run,
     arguments=(

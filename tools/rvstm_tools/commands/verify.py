@@ -42,7 +42,6 @@ def run(given: argparse.Namespace) -> int:
 
 COMMAND = Command(
     summary="Says whether a program or a package has the proved program.",
-    details=options.manual(__file__),
     example="rvstm-tools verify rvstm_0.2.0_amd64.deb --sums SHA256SUMS",
     run=run,
     arguments=(

@@ -60,7 +60,7 @@ def page_lines(parsed: Sequence[Parsed], version: str) -> Iterator[str]:
     yield ".SH COMMANDS"
     for one in parsed:
         yield from (f'.SS "rvstm-tools {one.command.name}"', escaped(one.command.summary))
-        yield from as_it_is(["", *one.command.details.splitlines(), ""])
+        yield from as_it_is(["", *one.command.manual().splitlines(), ""])
         for action in [*one.arguments(), *one.options()]:
             yield from (".TP", roman(shown(action)), escaped(action.help or ""))
         yield from (".PP", "Example:", *as_it_is(["", f"    {one.command.example}"]))
