@@ -38,7 +38,7 @@ class RefusalRow:
 
 @dataclass(frozen=True)
 class RefusalParts:
-    """The area, the name and the number of a refusal. The area is empty if the source does not have it beside the name."""
+    """The area, the name and the number of a refusal. The area is empty if the source has it elsewhere."""
 
     area: str
     name: str
@@ -65,7 +65,7 @@ ENUMERATIONS = (
 
 @functools.cache
 def printed(crate: str) -> dict[str, RefusalParts]:
-    """What the variants of a crate's enumerations print, by `Enumeration::Variant`. A name alone has an empty number."""
+    """What the variants of a crate's enumerations print, by `Enumeration::Variant`. A name alone has no number."""
     found: dict[str, RefusalParts] = {}
     for path in sorted((CRATES / crate / "src").glob("*.rt")):
         text = path.read_text(encoding="utf-8")
@@ -83,7 +83,7 @@ def message_of(before: str, parts: RefusalParts) -> str:
 
 
 def refusals(enumeration: Enumeration) -> Iterator[RefusalRow]:
-    """The refusals of an enumeration, in its order. A variant that holds another enumeration prints what that one does, and is left out."""
+    """The refusals of an enumeration, in its order. A variant that holds another enumeration is left out."""
     names = printed(enumeration.file.partition("/")[0])
     _, _, after = (CRATES / enumeration.file).read_text(encoding="utf-8").partition(f"pub enum {enumeration.name} {{\n")
     comment: list[str] = []

@@ -52,7 +52,7 @@ class Page:
         return f'<a class="{kind}" href="#{anchor(cited)}" title="{escape(where)}">{escape(text)}</a>'
 
     def linked_token(self, token: str, names: Mapping[str, Cited]) -> str:
-        """A word of a definition: a name, a name with a field of its value, or a name of a module that has a short name."""
+        """A word of a definition: a name, a name with a field of its value, or a name of a module with a short name."""
         core = token.rstrip(".")
         rest = token[len(core) :]
         parts = core.split(".")
@@ -78,7 +78,7 @@ class Page:
         return "\n".join(self.linked_line(line, names) for line in text.splitlines())
 
     def linked_code(self, text: str, types: Mapping[str, Cited], names: Mapping[str, Cited]) -> str:
-        """A text of the code with links: the names of types, and in `ghost` lines and clauses the names of definitions."""
+        """A text of the code with links: names of types, and in `ghost` lines and clauses names of definitions."""
         out = list[str]()
         for line in text.splitlines():
             if line.strip().startswith("//"):
@@ -183,7 +183,7 @@ class Page:
 
 
 def by_word(names: Mapping[str, Iterable[Cited]]) -> dict[str, Cited]:
-    """What the words of a text refer to. A name with arguments in its middle, such as `◌∷◌`, is the words between them."""
+    """What the words of a text refer to. A name with arguments in its middle, such as `◌∷◌`, is the words between."""
     found = dict[str, Cited]()
     for name, entries in names.items():
         for cited in entries:

@@ -89,7 +89,7 @@ def split_types(text: str) -> list[str]:
 
 
 def calls_in(path: Path) -> Iterator[PublicCall]:
-    """Each call and type of a file that is public in its module. A name may come more than once: then its heads belong together."""
+    """Each call and type of a file that is public in its module. A name may come twice: its heads belong together."""
     crate, owner, of_trait = sources.crate_of(path), "", False
     call: PublicCall | None = None
     comment: list[str] = []

@@ -34,7 +34,7 @@ class CitationPlace(enum.Enum):
 
 @dataclass(frozen=True)
 class Cited:
-    """What a name refers to: a definition of a file below crates/, a type of a crate's code, or a name of a module of the kit."""
+    """What a name refers to: a definition of a file below crates/, a type of a crate's code, or a name of the kit."""
 
     kind: CitationPlace
     place: str  # the file, the crate, or the module

@@ -27,7 +27,7 @@ class SourceItem:
 
     @property
     def is_answer(self) -> bool:
-        """Whether the prover asks for it: it answers a goal, or is public in a file for one function that has no goals."""
+        """Whether the prover asks for it: it answers a goal, or is public in a file for a function without goals."""
         crate_and_folder, _, rest = self.file.partition("/proofs/")
         if not rest.count("/") or "pub" not in self.signs:
             return False

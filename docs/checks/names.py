@@ -12,7 +12,7 @@ LIST = "docs/shared_names.txt"
 
 CLASS = re.compile(r"^class (\w+)", re.M)
 PYTHON = ("docs", "tools", "tests/gate")
-"""The folders whose classes have names of their own. Tests have classes in place of others, and examples stand alone."""
+"""The folders whose classes have names of their own. Tests replace classes, and examples stand alone."""
 
 Meanings = dict[str, list[str]]
 """The files that define a name with one text, by that text without its layout."""

@@ -89,7 +89,7 @@ def missing_files(page: Path, text: str) -> Iterator[str]:
 
 
 def wrong_commands(page: str, text: str, options: Iterable[str]) -> Iterator[str]:
-    """The commands of rvstm-tools and rvstm-developers, and of docs/check with these options, that a page names and that are not there."""
+    """The commands of rvstm-tools, of rvstm-developers and of docs/check that a page names and that are not there."""
     for name in TOOL.findall(text):
         if name not in commandline.NAMES:
             yield f"{page}: rvstm-tools has no command {name}"
@@ -116,7 +116,7 @@ def number_of(text: str) -> int:
 
 
 def wrong_counts(page: str, text: str) -> Iterator[str]:
-    """The numbers of lines that a page has wrong: of files, of the rows of a table together, and of what --reading lists."""
+    """The numbers of lines that a page has wrong: of files, of the rows of a table together, and of --reading."""
     together = 0
     for number, whole, name in COUNT.findall(text):
         if not name:

@@ -23,7 +23,7 @@ GIVEN = re.compile(r"^impl[^{]*? for (\w+)[^{]*\{\n(.*?)^\}", re.M | re.S)
 
 @functools.cache
 def public(crate: str) -> Mapping[str, PublicCall]:
-    """The public functions, types, constants and traits of a crate. What a trait asks of its types belongs to the trait."""
+    """The public functions, types, constants and traits of a crate. What a trait asks of types belongs to it."""
     if crate not in sources.libraries():
         return {}
     known = calls.calls_of(crate).items()
@@ -113,7 +113,7 @@ def used(with_tests: bool) -> frozenset[str]:
 
 
 def is_used_in_crate(call: PublicCall) -> bool:
-    """Whether the code of its own crate says a public name elsewhere than in its declaration and at the head of an `impl`."""
+    """Whether the code of its own crate says a public name outside its declaration and the head of an `impl`."""
     owner, _, last = call.name.rpartition("::")
     elsewhere = rf"^(?!impl|pub .*\b(?:fn|struct|enum|trait|type|const) {last}\b).*\b{last}\b"
     said = re.compile(rf"\.\s*{last}\(|::{last}\b" if owner[:1].isupper() else elsewhere, re.M)

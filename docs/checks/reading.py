@@ -128,7 +128,7 @@ def files_below(cited: Cited) -> frozenset[str]:
 
 
 def in_order(found: Iterable[Cited]) -> list[str]:
-    """The files of some definitions, each after those that it uses; of several the one in the lowest crate comes first."""
+    """The files of some definitions, each after those that it uses; of several the one in the lowest crate first."""
     held = [cited for cited in found if cited.kind is CitationPlace.DEFINITION]
     files = {cited.place for cited in held}
     below = {file: set[str]() for file in files}

@@ -75,7 +75,7 @@ def files_of(crate: str) -> tuple[Path, ...]:
 
 @functools.cache
 def code_of(path: Path) -> str:
-    """The text of a file of code or of proofs without its comments and `use` lines. Of texts between quotes the names in braces stay."""
+    """The text of a file of code or of proofs without comments and `use` lines. Of texts the names in braces stay."""
     named = QUOTED.sub(lambda text: f" {' '.join(QUOTED_NAME.findall(text[0]))} ", text_of(path))
     return RUST_USE.sub("", USE.sub("", without_comments(named)))
 

@@ -1,4 +1,4 @@
-"""Whether the library, its header, its crates, the man pages, the tools and the newest entry of CHANGELOG.md have the version of the program."""
+"""Whether the library, its header and crates, the man pages, the tools and CHANGELOG.md have the program's version."""
 
 import re
 from collections.abc import Iterator

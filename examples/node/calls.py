@@ -54,7 +54,7 @@ def has_small_order(key: bytes) -> bool:
 
 @dataclass(frozen=True)
 class SignedCall:
-    """A call that somebody signed: the public key, the number of the call, the most gas, the input, and the signature."""
+    """A call that somebody signed: the public key, the number of the call, the most gas, the input, the signature."""
 
     key: bytes
     number: int

@@ -69,7 +69,7 @@ class Payments(unittest.TestCase):
         return done.returncode, done.stdout, done.stderr
 
     def test_a_lost_answer(self) -> None:
-        """The node took the call, and the next number is 1. The same call is sent again. The next payment is another."""
+        """The node took the call, and the next number is 1. The call is sent again. The next payment is another."""
         again = f"; the next start sends {self.kept} again\n"
         lost = f"pay: {self.address}: Remote end closed connection without response{again}"
         self.assertEqual(self.pay(BOB, "30"), (1, "", lost))

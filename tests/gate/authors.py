@@ -33,7 +33,7 @@ SECOND = {"votes.c": "second.c", "src/main.rs": "src/bin/second.rs"}
 
 
 def new_contract(run: Run, source: str, options: tuple[str, ...] = ()) -> None:
-    """A new contract passes its test, its random calls and its coverage. With a bug random calls break what has to hold."""
+    """A new contract passes its test, its random calls and its coverage. With a bug random calls break a rule."""
     folder = run.place / "votes"
     made = tool(run, "new", folder, *options)
     if made.status and (NO_LIBRARIES in made.errors or " not found; " in made.errors):
@@ -61,7 +61,7 @@ def new_contract(run: Run, source: str, options: tuple[str, ...] = ()) -> None:
 
 
 def made_again(folder: Path, source: str, more: dict[str, str]) -> None:
-    """`make` fails at once if only a file that the source takes in has a bug; and it builds and tests a second contract."""
+    """`make` fails at once if only a file that the source takes in has a bug; it builds and tests a second contract."""
     path, text = folder / source, (folder / source).read_text(encoding="utf-8")
     begin, parts, line = PARTS[source]
     head, _, rest = text.partition(begin)
@@ -100,7 +100,7 @@ def too_long(run: Run) -> None:
 
 
 def with_symbol(program: bytes, name: bytes, header_size: int = SECTION_SIZE, sections: int = 4) -> bytes:
-    """A program with one function in its symbols. Its header says how many sections it has, and how large their headers are."""
+    """A program with one function in its symbols. Its header says how many sections it has, and their size."""
     names_at, symbols_at = len(program), len(program) + len(name) + 2
     table = symbols_at + SYMBOL_SIZE
     rows = [
@@ -113,7 +113,7 @@ def with_symbol(program: bytes, name: bytes, header_size: int = SECTION_SIZE, se
 
 
 def programs_of_strangers(run: Run) -> None:
-    """Names of functions and lines of lists are printed without escape sequences. Wrong sections are refused at once."""
+    """Names of functions and lines of lists are printed without escape sequences. Wrong sections are refused."""
     counter, path = (TOP / "examples/counter/counter.elf").read_bytes(), run.place / "a.elf"
     (run.place / "a.list").write_text('program a a.elf\ncall a 900 key:1\nexpect returned "\x1b[31m"\n', encoding="utf-8")
     (run.place / "a.block").write_text(f"rvblock 1\nprogram 0 a.elf\ncall 0 900 {1:064x}\n", encoding="utf-8")

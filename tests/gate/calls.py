@@ -1,4 +1,4 @@
-"""Calls of the program and of the tools: how a case runs a command, and the one place that knows how a tool is called."""
+"""Calls of the program and of the tools: how a case runs a command, and how a tool is called."""
 
 import os
 import subprocess

@@ -1,4 +1,4 @@
-"""A client of `rvstm chain`: requests as bytes, answers as bytes, and frames made of block files. docs/formats.md has them."""
+"""A client of `rvstm chain`: requests and answers as bytes, and frames made of block files (docs/formats.md)."""
 
 from collections.abc import Sequence
 from pathlib import Path
@@ -56,6 +56,6 @@ class ClientSession(Pipes):
             raise Differs(f"{shown(request)}: came {shown(came)}; wanted {shown(answer)}")
 
     def ended(self, data: bytes = b"q\n") -> tuple[bytes, str, int]:
-        """Gives the last bytes of the input. Returns what is written after them, what is on standard error, and the status."""
+        """Gives the last bytes of the input. Returns what is written after them, standard error, and the status."""
         out, errors, status = self.end(data)
         return out, errors.decode(errors="backslashreplace"), status

@@ -61,7 +61,7 @@ def height_of(run: Run, path: Path) -> int:
 
 
 def stopped(run: Run) -> None:
-    """A copy of both files, made while all threads are stopped, opens at the height before or after the frame that runs."""
+    """A copy of both files, made while all threads are stopped, opens before or after the frame that runs."""
     choice, path, found = random.Random(run.setting.seed), run.place / "file", list[int]()
     run.note(f"seed {run.setting.seed}")
     with ClientSession(run.program, "--workers", "2", "--store", path) as session:

@@ -37,7 +37,7 @@ def without_registers(text: str) -> str:
 
 
 def in_order_and_by_workers(run: Run, name: str) -> None:
-    """A block by `seq` and by four workers; what it prints, if that is written down; and the same by the program of GCC."""
+    """A block by `seq` and by four workers; what it prints, if that is written down; the same by GCC's program."""
     folder = EXAMPLES / name
     wanted = rvstm(run, "seq", f"{name}.block", folder=folder).done()
     same(wanted.splitlines()[-1], "end")

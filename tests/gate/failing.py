@@ -49,7 +49,7 @@ def ends(done: EndedCommand, status: int, out: str, errors: str, what: str) -> N
 
 
 def reads(run: Run) -> None:
-    """A read of each file fails at each of its bytes, its end included: the file is unreadable, and nothing is printed."""
+    """A read of each file fails at each of its bytes and at its end: it is unreadable, and nothing is printed."""
     begun(run)
     for words, file in (
         (SEQ, "echo.block"), (SEQ, "echo.elf"), (DRIVE, "one.schedule"), (("asm", "echo.s", "--out", "out"), "echo.s"), (DIS, "echo.elf"),
@@ -87,7 +87,7 @@ def outputs(run: Run) -> None:
 
 
 def reports(run: Run) -> None:
-    """A write of the line of a refusal fails, or takes nothing: the status is the same, and a beginning of the line was written."""
+    """A write of the line of a refusal fails, or takes nothing: the status stays, and a beginning was written."""
     begun(run)
     line = "rvstm: block 1 BadHeader 1\n"
     for place in range(len(line) + 1):

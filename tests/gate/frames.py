@@ -116,7 +116,7 @@ def other_tables(run: Run) -> None:
 
 
 def by_threads(run: Run) -> None:
-    """Two frames of calls of 12,000 rounds by two workers over a file: they print what they print in order, and are kept."""
+    """Two frames of calls of 12,000 rounds by two workers over a file: they print what they print in order."""
     written(run.place / "work.s", WORK)
     rvstm(run, "asm", "work.s", "--out", "work.elf", folder=run.place).done()
     frame = "".join(f"call 0 100000 {call % 8:064x}e02e0000\n" for call in range(24))

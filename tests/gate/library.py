@@ -29,7 +29,7 @@ def folder(run: Run) -> Path:
 
 
 def built(run: Run, compiler: Sequence[str], source: str, is_shared: bool) -> None:
-    """An example is built without a warning, by the archive or by the shared object, and prints what embed.expect has."""
+    """An example is built without a warning, by the archive or the shared object, and prints embed.expect."""
     made = run.place / "program"
     links = [f"-L{folder(run)}", "-lrvstm"] if is_shared else [str(folder(run) / "librvstm.a")]
     done = command([*compiler, *STRICT, EMBED / source, *links, "-o", made])

@@ -38,7 +38,7 @@ class RefusedCall:
 
 Given = bytes | int | Settings
 Row = tuple[str, Sequence[Given], LibraryStatus, bytes | RefusedCall | None]
-"""The end of a call's name, what it is given, its status, and the answer that the session then has; None if there is no session."""
+"""The end of a call's name, what it is given, its status, and the answer then; None without a session."""
 
 
 def given_of(value: Any) -> Given:

@@ -32,7 +32,7 @@ cell: .word 7
 
 
 def registers(**values: int) -> str:
-    """The line of registers: x2 is the end of the stack, and the others are 0 but for those that are given, as `x10=1`."""
+    """The line of registers: x2 is the end of the stack, the others are 0 or what is given, as `x10=1`."""
     given = {"x2": 0x110000, **values}
     return "regs " + " ".join(f"{given.get(f'x{number}', 0):08x}" for number in range(32)) + "\n"
 

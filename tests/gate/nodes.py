@@ -120,7 +120,7 @@ def from_a_dump(run: Run) -> None:
 
 
 def from_a_file(run: Run) -> None:
-    """A node that keeps nothing. Each engine is killed at some moment, also as it opens the file; the next one says what was kept."""
+    """A node that keeps nothing. Each engine is killed at some moment; the next one says what was kept."""
     choice, blocks, digest = random.Random(run.setting.seed), read_blocks(), NO_DIGEST
     settings, lives = SETTINGS._replace(store=str(run.place / "file")), list[float]()
 

@@ -1,4 +1,4 @@
-"""Cases from outside (tests/cases, whose README says where each expected value comes from), and what is made at random."""
+"""Cases from outside (tests/cases, whose README says where the values come from), and what is made at random."""
 
 import json
 import struct
@@ -82,7 +82,7 @@ def block_waits(run: Run, names: Sequence[str]) -> None:
 
 
 def whole_results(run: Run, names: Sequence[str]) -> None:
-    """Blocks under rules two and three: the whole text in order, by threads and along a mixed schedule, and migrated."""
+    """Blocks under rules two and three: the whole text in order, by threads, along a mixed schedule, migrated."""
     schedule = written(run.place / "schedule", mixed(3, 20_000))
     for name in names:
         folder = FOLDER / name
@@ -117,7 +117,7 @@ def torture(run: Run, names: Sequence[str]) -> None:
 
 
 def replay(run: Run, name: str, output: str, registers: str) -> None:
-    """A replay to the end of a call, at once and step by step: the registers there, the output in memory, and back again."""
+    """A replay to the end of a call, at once and step by step: registers, the output in memory, and back again."""
     path, words = run.place / "case.block", registers.split(" ")[1:]
 
     def debugged(*lines: str) -> list[str]:
@@ -166,7 +166,7 @@ def texts_of_words(run: Run) -> None:
 
 
 def legal_words(run: Run) -> None:
-    """A word without a text of an instruction ends a call as illegal, before it is charged; fences have no text, and are legal."""
+    """A word without a text of an instruction ends a call as illegal before it is charged; fences are legal."""
     table = [(int(word, 16), text) for word, text in rows(FOLDER / "disasm/words.tsv", "\t", 2)]
     for at in range(0, len(table), PROGRAMS_A_BLOCK):
         part = table[at : at + PROGRAMS_A_BLOCK]

@@ -63,7 +63,7 @@ def page_files() -> list[Path]:
 
 
 def code_blocks(lines: Sequence[str]) -> Iterator[tuple[int, list[str]]]:
-    """The indented and the fenced blocks of a page: the number of the first line of each, and its lines without the indent."""
+    """The indented and the fenced blocks of a page: the number of the first line, and the lines without indent."""
     number, size = 0, len(lines)
     while number < size:
         line = lines[number]
@@ -123,7 +123,7 @@ def needs_of_page(text: str) -> tuple[Tool, ...]:
 
 
 def blocks_of(page: str, text: str) -> list[PageBlock]:
-    """The blocks of a page that have a command and its output, and those with a command alone that such blocks continue."""
+    """The blocks of a page that have a command and its output, and the commands that such blocks continue."""
     lines, found = text.splitlines(), []
     for number, block in code_blocks(lines):
         if any(line.startswith(PROMPT) for line in block):

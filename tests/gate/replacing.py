@@ -1,4 +1,4 @@
-"""Files that `migrate` and `asm` make and replace: what is at a path after it, what is beside it, and what stays if it is refused."""
+"""Files that `migrate` and `asm` make and replace: what is at a path and beside it, and what a refusal leaves."""
 
 import errno
 import fcntl
@@ -56,7 +56,7 @@ def folder(run: Run, name: str) -> Path:
 
 
 def made_and_replaced(run: Run) -> None:
-    """A file is made, and replaced; the new one has the mode of any new file. Its path may be the first name of a new file."""
+    """A file is made, and replaced; the new one has the mode of any new file. Its path may be a new file's name."""
     made = folder(run, "made")
     puts(run, "made/out", "out")
     old(run, "made/out").chmod(0o4700)

@@ -30,7 +30,7 @@ def key(table: str, row: bytes) -> bytes:
 
 
 def some_rows(seed: int) -> list[bytes]:
-    """Rows of all lengths: zeros, one text that is cut, and random bytes, of which some differ in zeros at their ends alone."""
+    """Rows of all lengths: zeros, a text that is cut, and random bytes, some of which differ only in end zeros."""
     chance = random.Random(seed)
     found = [row for length in range(1, FULL + 1) for row in (bytes(length), b"\x1b" * length, bytes(range(1, length + 1)), chance.randbytes(length))]
     for _ in range(30):

@@ -1,4 +1,4 @@
-"""What runs the cases, and how a run ends: what a machine may lack, what a case is, cases side by side, and the command line."""
+"""What runs the cases, and how a run ends: what a machine may lack, cases side by side, the command line."""
 
 import argparse
 import enum
@@ -22,7 +22,7 @@ from pathlib import Path
 
 
 class Tool(enum.Enum):
-    """A tool: its name, how it reports its version, and the version that is needed, if the bytes of what it makes count."""
+    """A tool: its name, how it reports its version, and the version that is needed if its bytes count."""
 
     CLANG = ("clang 14.0.6", ("clang", "--version"), "14.0.6")
     LLD = ("lld 14", ("ld.lld", "--version"), "14.")

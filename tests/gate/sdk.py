@@ -1,4 +1,4 @@
-"""What sdk/contract.h and sdk/host.h say: gas and ends of each storage call, and the edges of a test on this machine."""
+"""What sdk/contract.h and sdk/host.h say: gas and ends of storage calls, and edges of a test on this machine."""
 
 import re
 import shutil
@@ -75,7 +75,7 @@ def gas_of(run: Run, storage: Storage, rules: int) -> str:
 
 
 def ends_of(run: Run, storage: Storage) -> set[str]:
-    """The ends of calls that are too long, have too little gas, no rights, 257 keys or older rules; beside `returned` and `reverted`."""
+    """The ends of calls that are too long, have too little gas, no rights, 257 keys or older rules."""
     calls = [storage.call(0), storage.call(257), storage.call(0, gas=BEFORE + 9), storage.call(8, at=0), storage.call(0, program=1)]
     found = {end for rules in (1, 2, 3) for end, _ in came(run, rules, calls)}
     return found - {"returned", "reverted"}

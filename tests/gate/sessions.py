@@ -73,7 +73,7 @@ def counter() -> tuple[bytes, bytes]:
 
 
 def requests() -> Iterator[tuple[bytes, bytes]]:
-    """Each request and each refusal that a session with a digest and brief receipts can be brought to, with the answer."""
+    """Each request and each refusal of a session with a digest and brief receipts, with the answer."""
     program, frame = counter()
     name = name_of(program)
     yield asks("state"), state(1, 0, 0, 0)
@@ -365,7 +365,7 @@ def killed(run: Run) -> None:
 
 
 def faults(run: Run) -> None:
-    """Files of others, locked files, files that sqlite3 changed, other settings and full disks: each is refused by its name, or read."""
+    """Foreign, locked and changed files, other settings and full disks: each is refused by its name, or read."""
     done = command([*tool_words("store-faults"), run.program, "--seed", str(run.setting.seed)])
     wrong = [line for line in done.out.splitlines() if "; BAD, " in line]
     holds(done.status == 0, " | ".join(wrong[:3]) or last_lines(done.errors), "no bad trial")

@@ -1,4 +1,4 @@
-"""Tables by hand (tests/tables, whose README says what a table may have): command lines, requests and blocks, with what comes of them."""
+"""Tables by hand (tests/tables, whose README has the form): command lines, requests and blocks, with what comes."""
 
 import itertools
 import tomllib
@@ -184,7 +184,7 @@ def has_pieces(text: str, pieces: Sequence[str]) -> bool:
 
 
 def check_row(run: Run, one: CommandRow, contents: dict[str, bytes]) -> None:
-    """Each command line over each text and input: what it prints, what is on standard error, its status, and what files have then."""
+    """Each command line over each text and input: its output, standard error and status, and what files have then."""
     inputs = [contents[one.input_file].decode()] if one.input_file else one.inputs
     for line, text, data in itertools.product(one.lines, one.texts or ("",), inputs):
         files = {**one.files, "given": text} if one.texts else one.files
@@ -240,7 +240,7 @@ def check_turns(run: Run, given: Table) -> None:
 
 
 def check_blocks(run: Run, given: Table) -> None:
-    """Each block in order, by threads, and along lists in which workers take turns; migrated, if it may be; and its lists."""
+    """Each block in order, by threads, and along lists in which workers take turns; migrated, if it may be."""
     folders: dict[str, Path] = {}
     for number, block in enumerate(given.blocks + given.used_blocks):
         folder = folders[block.name] = run.place / str(number)

@@ -22,7 +22,7 @@ READ_BASE = 200
 
 
 def is_asked(call: StorageStep, is_last: bool, receipt: Receipt, limit: int) -> bool:
-    """Whether the storage is asked for the key of a READ: not if the call ends before, for a fault or for want of gas."""
+    """Whether the storage is asked for the key of a READ: not if the call ends before, by a fault or for gas."""
     if not is_last or receipt.end is End.RETURNED:
         return True
     return receipt.end is End.OUT_OF_GAS and limit - call.gas >= READ_BASE
@@ -56,7 +56,7 @@ def keys_read_of(program: Path, path: Path, receipts: Sequence[Receipt]) -> Iter
 
 
 def check(program: Path, path: Path) -> None:
-    """`conflicts` prints of a block what the model does; if `seq` refuses a block, it refuses that in the same words."""
+    """`conflicts` prints of a block what the model does; if `seq` refuses a block, it does so in the same words."""
     runner = Program(program)
     whole, printed = (runner.run([command, path.name], path.parent) for command in ("seq", "conflicts"))
     same(printed.refusal, whole.refusal, f"{path}")

@@ -1,1 +1,1 @@
-"""Commands for work on rvstm itself: what measures it (bench), tries it (trials), and checks its sources. No package has them."""
+"""Commands for work on rvstm itself: bench measures it, trials try it, commands check its sources."""

@@ -119,7 +119,7 @@ def text_of(words: Sequence[int]) -> bytes:
 
 @dataclass(frozen=True)
 class FileSegment:
-    """Bytes of a file, from a place of its content on, and where they are in memory; behind them are zeros up to a size."""
+    """Bytes of a file, from a place of its content on, and where they are in memory; zeros follow up to a size."""
 
     address: int
     place: int

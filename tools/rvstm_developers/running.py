@@ -18,7 +18,7 @@ def run(
     words: Sequence[Word], folder: Path = Path(), data: bytes = b"", seconds: float | None = None,
     environment: Mapping[str, str] | None = None, user: int | None = None,
 ) -> Ended:
-    """Runs a command in a folder, with some bytes as its input. `seconds` is how long it may last, and `user` who runs it."""
+    """Runs a command in a folder, with bytes as its input, for at most so many `seconds`, by a `user`."""
     try:
         done = subprocess.run(
             words, cwd=folder, input=data, capture_output=True, timeout=seconds, check=False, env=environment,

@@ -16,7 +16,7 @@ from types import FrameType
 
 
 CONTROLS = re.compile("[\0-\x08\x0b-\x1f\x7f-\x9f\u200e\u200f\u2028-\u202e\u2066-\u2069]")
-"""Letters that change what a terminal shows of others, such as that of an escape sequence; not ends of lines and tabs."""
+"""Letters that change what a terminal shows of others, such as an escape sequence; not line ends and tabs."""
 
 
 class Status(enum.IntEnum):
@@ -47,7 +47,7 @@ class PrintableOutput(io.TextIOWrapper):
 
 
 def print_all_letters() -> None:
-    """Lets standard output take each text. Letters that its encoding lacks, and controls, are printed by their numbers."""
+    """Lets standard output take each text. Letters that its encoding lacks, and controls, become numbers."""
     if isinstance(sys.stdout, io.TextIOWrapper):
         encoding, lines, at_once = sys.stdout.encoding, sys.stdout.line_buffering, sys.stdout.write_through
         buffer = sys.stdout.detach()
@@ -64,7 +64,7 @@ def reason(error: Exception) -> str:
 
 
 def ended(name: str, run: Callable[[], int]) -> int:
-    """Runs a command and returns its status. A mistake of the user is one line on standard error that begins with the name."""
+    """Runs a command and returns its status. A user's mistake is one line on standard error, after the name."""
     try:
         try:
             return run()

@@ -91,7 +91,7 @@ def speed_calls(number: int) -> list[TimedCall]:
 
 
 def calls_again(example: str, count: int) -> str:
-    """The block of an example with so many calls: its own, again and again. The path of its program holds in every folder."""
+    """The block of an example with so many calls: its own, again and again. The path of its program is whole."""
     folder = TOP / "examples" / example
     lines = (folder / f"{example}.block").read_text(encoding="utf-8").splitlines()
     head = [line for line in lines if not line.startswith("call ")]

@@ -114,7 +114,7 @@ class Measured:
 
 
 class Beside:
-    """Two sessions over the same keys, in order and with workers, with what the same frame took of each in each round."""
+    """Two sessions over the same keys, in order and with workers, with what a frame took of each in each round."""
 
     def __init__(self, rvstm: Path, settings: Settings, place: Path, block: TimedBlock, keys: int) -> None:
         self.name, self.keys = block.name, keys

@@ -52,7 +52,7 @@ class SystemCall(NamedTuple):
 
 @dataclass(frozen=True)
 class Commit:
-    """What a commit takes in milliseconds: frames without a file and with one, their processor time, that of tries, and in C."""
+    """What a commit takes in milliseconds: frames without a file and with one, processor time, tries, and in C."""
 
     plain: float
     whole: float

@@ -89,7 +89,7 @@ def resident(process: int) -> int:
 
 @dataclass(frozen=True)
 class Answered:
-    """The bytes of a good answer, the milliseconds until it was read, and those that the session had of the processors."""
+    """The bytes of a good answer, the milliseconds until it was read, and those that the processors worked."""
 
     body: bytes
     elapsed: float

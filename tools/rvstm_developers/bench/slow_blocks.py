@@ -1,4 +1,4 @@
-"""The blocks of rvstm-developers slowest: each is made for one way to take much time or much memory. All of them are legal."""
+"""The blocks of rvstm-developers slowest: each is made to take much time or memory in one way. All are legal."""
 
 import random
 from collections.abc import Callable, Sequence

@@ -20,7 +20,7 @@ POINTERS = (5, 6, 7, 8, 14, 15, 16, 26)  # registers that have the address of a 
 
 @dataclass(frozen=True)
 class Slow:
-    """What a program is like: its pages and copies, the words of a run, and how many pages the next run is drawn from (0: none is)."""
+    """What a program is like: its pages and copies, the words of a run, and the pages to draw the next run from."""
 
     pages: int
     copies: int
@@ -30,7 +30,7 @@ class Slow:
     """How many of the results go to x0, which no predictor can learn."""
     operations: Sequence[str] = PLAIN
     swaps: bool = False
-    """Whether half of the jumps go on at a place that a register keeps, and keep their own there: so all copies run at the same time."""
+    """Whether half of the jumps continue at a place in a register, and keep their own: all copies run at once."""
 
 
 SLOW = {
@@ -68,7 +68,7 @@ class Maker:
         return code.jal(self.result(), offset)
 
     def order(self) -> list[int]:
-        """The runs in the order in which jumps lead through them. The first one, at which a copy is entered, comes first."""
+        """The runs in the order in which jumps lead through them, the one at which a copy is entered first."""
         runs = list(range(self.slow.pages * WORDS_A_PAGE // self.slow.run))
         if self.slow.reach == 2:
             half = len(runs) // 2

@@ -53,7 +53,7 @@ def begun(rvstm: Path, keys: list[Key], store: str | None = None) -> Session:
 
 
 def compared(names: Sequence[str], unit: str, rounds: int, act: Callable[[int], float]) -> list[SessionRow]:
-    """Rows of acts that are made in turn: the median of what each took, and of its ratio to the first one within a round."""
+    """Rows of acts that are made in turn: the median of what each took, and of its ratio to the first one."""
     made = [[act(one) for one in range(len(names))] for _ in range(rounds)]
     ratios = [statistics.median(times[one] / times[0] for times in made) for one in range(len(names))]
     middle = [statistics.median(times[one] for times in made) for one in range(len(names))]
@@ -90,7 +90,7 @@ def frame_of(program: bytes, calls: Sequence[CallLine]) -> Request:
 
 
 def scattered(program: bytes, number: int, call: int, calls: int, keys: int) -> Request:
-    """A frame of calls of which each makes a storage call at so many keys; all keys are others, drawn from a number on."""
+    """A frame of calls of which each makes a storage call at so many keys, which are drawn from a number on."""
     made = []
     for _ in range(calls):
         made.append(CallLine(0, GAS, word(keys) + word(number) + word(call)))

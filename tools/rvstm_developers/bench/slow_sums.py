@@ -1,4 +1,4 @@
-"""The frames of rvstm-developers sums: in each of them reads pass many sums, those of earlier calls that added to the key. All are legal."""
+"""The frames of rvstm-developers sums: reads pass many sums of earlier calls. All are legal."""
 
 from collections.abc import Sequence
 from dataclasses import dataclass

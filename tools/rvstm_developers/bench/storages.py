@@ -95,7 +95,7 @@ class MeasuredStorage:
 
 
 def grown(rvstm: Path, files: Mapping[str, bytes], keys: int) -> str:
-    """The bytes that each key takes in a storage that grew by blocks of digests, and the middle and the longest time of a block."""
+    """The bytes of a key in a storage that grew by blocks of digests, and the middle and longest time of a block."""
     with Session(rvstm, Settings(FRAME_LIMIT)) as session:
         processes.answered(session, Request(Word.PROGRAM, (), files["put"]))
         name, least = frames.name_of(files["put"]), 0

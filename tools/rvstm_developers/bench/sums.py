@@ -44,7 +44,7 @@ class SumsRow:
 
 
 def check(frame: SumsFrame, answers: bytes, in_order: bytes, workers: int | None) -> None:
-    """Refuses answers that are others than those in order, and calls that do not return: they would not do what the frame is for."""
+    """Refuses answers that are others than those in order, and calls that do not return."""
     if answers != in_order:
         raise UserError(f"{frame.name}: the answers with {workers} workers are others than in order")
     if answers.count(b" returned gas ") != len(frame.calls):

@@ -24,7 +24,7 @@ def middle(times: Iterable[float], form: str = ".1f") -> str:
 
 
 def ratio(some: Iterable[float], others: Iterable[float]) -> float:
-    """The median over rounds of the ratio within a round: the speed of a virtual machine changes from second to second."""
+    """The median over rounds of the ratio within a round: a virtual machine's speed changes every second."""
     return statistics.median(one / other for one, other in zip(some, others))
 
 

@@ -19,7 +19,7 @@ MARGIN, BETWEEN = 60, 110  # pixels before the first number of workers, and betw
 
 @dataclass(frozen=True)
 class ThreadsRow:
-    """A block: the milliseconds of files and text, those of `seq` and of each run without them, and two rows of ratios."""
+    """A block: milliseconds of files and text, of `seq` and of each run without them, and two rows of ratios."""
 
     name: str
     calls: int

@@ -12,7 +12,7 @@ ALTERATIONS = {
     "a line": ("chunk", "b'0\\n'", "status"),
     "a status": ("chunk", "b''", "(status + 1) % 4"),
 }
-"""What is changed of each run of the program: each piece that it writes, what comes after its output, and its status."""
+"""What is changed of each run of the program: each piece of output, what comes after it, and the status."""
 
 WRAPPER = """\
 #!{python} -S

@@ -24,7 +24,7 @@ def are_noted(*made: Product) -> bool:
 
 
 def words_of_build(checkout: Checkout, kit: Path, jobs: int) -> list[str]:
-    """The command line that builds the archive over the libraries below it: what `rt lib` calls, without what it keeps."""
+    """The command line that builds the archive over the libraries below it: what `rt lib` calls, and no more."""
     below = checkout.crates_of(CRATE)[:-1]
     rlibs = {name: checkout.crate(name) / f"out/rlib/{name}.rlib" for name in below}
     missing = [name for name in below if not rlibs[name].is_dir()]

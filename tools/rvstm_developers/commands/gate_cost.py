@@ -61,7 +61,7 @@ def processes() -> Iterator[Process]:
 
 
 def task_of(number: int) -> CrateTask | None:
-    """The task of a process of the prover; any other process is of no crate. None if it has ended. An edit is tried on a copy."""
+    """The task of a process of the prover; others are of no crate. None if it has ended. An edit is in a copy."""
     try:
         words = Path(f"/proc/{number}/cmdline").read_bytes().decode(errors="replace").split("\0")
         folder = os.readlink(f"/proc/{number}/cwd")

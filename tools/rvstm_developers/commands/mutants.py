@@ -64,7 +64,7 @@ def written(node: ast.expr) -> str:
 
 
 def changes(node: ast.AST, returned: str) -> Iterator[tuple[ast.AST, str]]:
-    """The changes of a node: the part that is replaced, and the text in its place. `returned` is the annotation of the function."""
+    """The changes of a node: the replaced part, and the text for it. `returned` is the function's annotation."""
     match node:
         case ast.Compare(left=left, ops=operators, comparators=others):
             for index, operator in enumerate(operators):
@@ -93,7 +93,7 @@ def changes(node: ast.AST, returned: str) -> Iterator[tuple[ast.AST, str]]:
 
 
 class Finder(ast.NodeVisitor):
-    """Collects the mutants of a module, function by function. Texts with braces are left out: their parts have no places."""
+    """Collects the mutants of a module, function by function, except in texts with braces."""
 
     def __init__(self, module: str, source: bytes) -> None:
         self.module, self.source, self.names, self.returned = module, source, list[str](), ""
@@ -175,7 +175,7 @@ def reaching_tests() -> Places:
 
 
 def killer(copy: Path, mutant: Mutant, tests: Sequence[str]) -> str:
-    """The first of some tests that fails over a mutant in a copy of the checkout; empty if none does, or there is none."""
+    """The first of some tests that fails over a mutant in a copy of the checkout; empty if there is none."""
     path = copy / "tools" / "rvstm_tools" / mutant.module
     source = path.read_bytes()
     path.write_bytes(source[: mutant.start] + mutant.text.encode() + source[mutant.end :])
@@ -191,7 +191,7 @@ def killer(copy: Path, mutant: Mutant, tests: Sequence[str]) -> str:
 
 
 def killers(tried: Sequence[tuple[Mutant, Sequence[str]]], jobs: int) -> list[str]:
-    """The killer of each mutant, of the tests that reach it. A job has a copy of the tools and the tests, and links to the rest."""
+    """The killer of each mutant, of the tests that reach it. A job has a copy of the tools and the tests."""
 
     def of_part(part: Sequence[tuple[Mutant, Sequence[str]]]) -> list[str]:
         with new_folder("mutants-") as copy:

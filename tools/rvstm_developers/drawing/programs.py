@@ -1,4 +1,4 @@
-"""Random programs that make storage calls, so that calls meet on few keys, read what others add, and write by what they read."""
+"""Random programs whose storage calls meet on few keys, read what others add, and write by what they read."""
 
 from collections.abc import Sequence
 from pathlib import Path

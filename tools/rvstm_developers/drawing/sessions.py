@@ -1,4 +1,4 @@
-"""Random sessions of `rvstm chain`: frames and tries, hostile bodies, programs, beginnings, broken lines, and inputs that are cut."""
+"""Random sessions of `rvstm chain`: frames, tries, hostile bodies, programs, beginnings, broken and cut inputs."""
 
 import re
 from collections.abc import Iterator, Sequence
@@ -46,7 +46,7 @@ class DrawnSession:
 
 
 def settings_of(choice: Random, asked: Sequence[Request], keeps_digest: bool, workers: int | None) -> Settings:
-    """Random settings for some requests: mostly no bounds, otherwise random ones and such that a frame just fits or just does not."""
+    """Random settings for some requests: mostly no bounds, otherwise such that a frame just fits or does not."""
     blocks = [request.body for request in asked if request.word in (Word.FRAME, Word.TRY)] or [b""]
     limits = (LONGEST_FRAME,) * 8 + (0, 300, 5_000, HIGHEST) + (len(choice.choice(blocks)),) * 2
     gas = (None,) * 8 + (0, 50_000, 1_000_000, HIGHEST) + (gas_of(choice.choice(blocks)),) * 2
@@ -107,7 +107,7 @@ def wide_block(choice: Random, block: bytes) -> bytes:
 
 
 class RandomSession:
-    """The requests of a session as it is made. Its frames come from some blocks with paths, whose files are in a folder."""
+    """The requests of a session as it is made. Its frames come from blocks whose programs are in a folder."""
 
     def __init__(self, choice: Random, blocks: Iterator[bytes], keys: Sequence[Key], folder: Path) -> None:
         self.choice, self.blocks, self.keys, self.folder = choice, blocks, keys, folder
@@ -121,7 +121,7 @@ class RandomSession:
         self.requests.append(Request(word, fields, body))
 
     def next_block(self) -> bytes:
-        """The next block with names, so that rules mostly do not fall. Its programs are handed in, with few exceptions."""
+        """The next block with names, so that rules mostly do not fall. Most of its programs are handed in."""
         for block in self.blocks:
             rules = frames.rules_of(block)
             if self.rules <= rules <= self.most_rules or rules < self.rules and self.choice.randrange(8) == 0:

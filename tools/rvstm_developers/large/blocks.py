@@ -87,7 +87,7 @@ def of_pages() -> MachineBlock:
 
 
 def of_lengths(rules: int) -> MachineBlock:
-    """Reads and writes of the greatest length and one byte more, and of the most keys and one more; outputs in the same way."""
+    """Reads and writes of the greatest length and a byte more, of the most keys and one more; outputs as well."""
     most = Rules(rules).longest_value
     calls = [each(1000 * number, MOST_WRITES, most, StorageCall.WRITE) for number in range(2)]
     calls += [each(0, MOST_WRITES, most, StorageCall.READ), each(0, MOST_WRITES + 1, most, StorageCall.READ)]

@@ -1,4 +1,4 @@
-"""Long sources, listings, block files and replays, and what `asm`, `dis`, `migrate` and `debug` have to print of them."""
+"""Long sources, listings, block files and replays, and what `asm`, `dis`, `migrate` and `debug` print."""
 
 import functools
 import math

@@ -7,7 +7,7 @@ USUAL_STACK = 8192  # KiB, as a shell has it
 
 
 class Trial(NamedTuple):
-    """A run of the program: its words and its input, the files that it finds, and what it has to print, or write to a file."""
+    """A run of the program: its words, its input, the files there, and what it has to print or to write to a file."""
 
     words: list[str]
     wanted: bytes | None = b""

@@ -1,4 +1,4 @@
-"""Inputs of a session: the requests that are in some bytes, and the fault that ends them (docs/formats.md, "Sessions")."""
+"""Inputs of a session: the requests in some bytes, and the fault that ends them (docs/formats.md, "Sessions")."""
 
 import re
 from dataclasses import dataclass

@@ -103,7 +103,7 @@ class MachineProgram:
 
 
 class MachineCall:
-    """A call that runs over a storage, which it does not change. Its steps are counted, and the keys of its reads are kept."""
+    """A call that runs over a storage, which it does not change. It counts its steps, and keeps the keys of reads."""
 
     def __init__(self, program: MachineProgram, rules: int, store: Storage, limit: int, data: bytes) -> None:
         self.program, self.rules, self.store, self.left, self.limit = program, rules, store, limit, limit

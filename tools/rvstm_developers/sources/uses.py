@@ -16,7 +16,7 @@ ENDLESS = re.compile(r"\bfor _\w* in 0 \.\. u64 :: MAX$")
 
 class How(enum.Enum):
     PATTERN = enum.auto()
-    """An arm, an `if let`, a closure of `map_err` or a function, with its pattern or parameters; perhaps with what is matched."""
+    """An arm, an `if let`, a closure of `map_err` or a function, with its pattern, and perhaps what is matched."""
     RULE = enum.auto()  # an arm `Ok(true)` of a call
     BACK = enum.auto()  # an arm of a call whose error has a name
     ARGUMENT = enum.auto()  # an argument of a call
@@ -41,7 +41,7 @@ class Around:
 
 @dataclass(frozen=True)
 class Use:
-    """A word of a source: its place among the items of a group, and what is around it, from the outside to the inside."""
+    """A word of a source: its place among the items of a group, and what is around it, from outside to inside."""
 
     path: Path
     items: Sequence[Item]

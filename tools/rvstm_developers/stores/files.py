@@ -199,7 +199,7 @@ def answers_by(rows: Rows) -> bytes:
 
 
 def difference_of_rows(path: Path, held: bytes, folder: Path) -> str | None:
-    """How what stock SQLite reads in a copy of a file differs from the answers to the questions; None if it does not."""
+    """How what stock SQLite reads in a copy of a file differs from the answers to the questions, or None."""
     try:
         read = read_by_sqlite(copied(path, folder))
     except (sqlite3.Error, ValueError, TypeError) as error:

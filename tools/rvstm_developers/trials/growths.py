@@ -102,7 +102,7 @@ def counts(first: int, last: int) -> list[CallLine]:
 
 
 def counting_requests(file: bytes) -> Iterator[Request]:
-    """Frames and tries that count keys, new and old ones, with refused ones, programs, beginnings and questions between them."""
+    """Frames and tries that count keys, with refused ones, programs, beginnings and questions between them."""
     name = frames.name_of(file)
     stored = {numbered_key(number): texts.word(7) for number in range(40)}
     zeros, get = Request(Asks.GET, (key_field(numbered_key(0)),)), Request(Asks.GET, (key_field(numbered_key(30)),))

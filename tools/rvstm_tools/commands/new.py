@@ -54,7 +54,7 @@ def run(given: argparse.Namespace) -> int:
 
 
 def words_of_tools() -> str:
-    """How a shell runs these tools: by their name if it is on the path, and otherwise by the path with which they were started."""
+    """How a shell runs these tools: by their name if it is on the path, otherwise by the path of this process."""
     if shutil.which(LAUNCHER):
         return LAUNCHER
     started = finding.absolute(sys.argv[0])

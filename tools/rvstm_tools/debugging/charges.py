@@ -30,7 +30,7 @@ def of_instruction(text: str) -> int:
 
 
 def of_storage_call(number: int, length: int, copied: int, rules: int) -> int:
-    """The gas of a storage call: `length` is that of a WRITE's value or of an output, `copied` that of what a READ copies."""
+    """The gas of a storage call: `length` is that of a WRITE's value or an output, `copied` that of a READ's copy."""
     match StorageCall(number):
         case StorageCall.READ:
             return 200 + (copied if rules > 1 else 0)

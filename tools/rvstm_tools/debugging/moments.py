@@ -186,7 +186,7 @@ class Edge:
 
 RANGE_LEFT, NO_STOP = Edge(), Edge()
 Stop = MomentSearch | Edge | None
-"""What a move found: a search, `RANGE_LEFT`, `NO_STOP` if a step was made and nothing stops it, or None at an end of the call."""
+"""What a move found: a search, `RANGE_LEFT`, `NO_STOP` if nothing stops a step, or None at an end of the call."""
 
 
 class Watched(NamedTuple):
@@ -270,7 +270,7 @@ class DebuggedCall:
         return self.here_at(self.now).bytes_at(address, min(length, END_ADDRESS - address))
 
     def hits_of(self, address: int) -> Hits:
-        """The moments at which the pc is an address. What is known of them is kept, since gdb asks again at each move."""
+        """The moments at which the pc is an address. They are kept, since gdb asks again at each move."""
         if address not in self.hits:
             self.hits[address] = Hits(self, address)
         return self.hits[address]
@@ -312,7 +312,7 @@ class DebuggedCall:
         return search
 
     def go_back(self, searches: Sequence[MomentSearch]) -> Stop:
-        """Goes back to the last moment before that one of some searches has, or to the first one. Returns that search."""
+        """Goes back to the last moment before that one of some searches has, or to the first. Returns that search."""
         met = [Met(search.back(self.now), search) for search in searches]
         last = max(met, key=lambda one: one.moment, default=Met(-1, None))
         self.now = max(last.moment, 0)

@@ -178,7 +178,7 @@ class StorageReplay:
         return {fact.pc: fact.text for fact in self.facts.values()}
 
     def _walk(self, steps: Debugger, places: Debugger) -> Fact:
-        """Goes through all instructions but the last one, which ends the call, and then looks at that one. Returns it."""
+        """Goes through all instructions but the last, which ends the call, and then looks at that one. Returns it."""
         progress, frame, is_return = Progress(self.total), self.entry, False
         line = steps.answer_bytes("w")
         answers = steps.answers("s", self.total - 1)

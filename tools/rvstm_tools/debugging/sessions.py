@@ -1,4 +1,4 @@
-"""Sessions of `rvstm debug`: a call is replayed, and each line that is given has one line as its answer (docs/formats.md)."""
+"""Sessions of `rvstm debug`: a call is replayed, and each line given has one line as its answer."""
 
 import re
 from collections.abc import Iterator
@@ -18,7 +18,7 @@ PLACE = re.compile(rb"([0-9]+) ([0-9a-f]{8}) (.*)\n?")
 
 @dataclass(frozen=True)
 class CallOf:
-    """A call of a block file: the program that replays it, the file, the number of the call, and the folder of all paths."""
+    """A call of a block file: the program that replays it, the file, the call's number, the folder of all paths."""
 
     program: Path
     file: str

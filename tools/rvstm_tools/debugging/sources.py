@@ -16,7 +16,7 @@ LOCAL_LABEL = ".L"  # How a label begins that a compiler made for a jump. A tool
 
 
 class Inlined(NamedTuple):
-    """A function at an address, and its line as the tool prints it: FILE:LINE, with more words after it; empty without a tool."""
+    """A function at an address, and its line as the tool prints it, FILE:LINE and more; empty without a tool."""
 
     function: str
     line: str
@@ -71,7 +71,7 @@ def chain_of(lines: Sequence[str], function: str) -> list[Inlined]:
 
 
 def places_of(chains: Chains, line: str) -> list[int]:
-    """The addresses at which code of FILE:LINE begins: its own, or that of functions that the compiler inlined there."""
+    """The addresses at which code of FILE:LINE begins: its own, or of functions that are inlined there."""
     path, _, number = line.rpartition(":")
     found, before = list[int](), None
     for address in sorted(chains):

@@ -1,4 +1,4 @@
-"""Bytes as expressions and models see them. Python says of bytes and a text that they differ; here that is never a silent answer."""
+"""Bytes as expressions and models see them. To compare them with a text is an error, not a silent False."""
 
 from typing import SupportsIndex, overload
 

@@ -56,7 +56,7 @@ class Time:
         return step
 
     def less(self, step: int) -> list[int]:
-        """Steps that are less than one, which may be the sum of several: the ends of the ranges, and those nearer to it."""
+        """Steps that are less than one, which may be the sum of several: ends of the ranges, and those nearer to it."""
         ends = sorted(end for end in self.steps.samples() if isinstance(end, int) and end < step)
         return ends + [less for less in self.steps.simpler(step) if isinstance(less, int)]
 

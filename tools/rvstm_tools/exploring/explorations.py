@@ -1,4 +1,4 @@
-"""An exploration from its description to its finding: what is searched, shortened, printed and written, in this order."""
+"""An exploration from its description to its finding: searched, shortened, printed and written in this order."""
 
 import dataclasses
 import random

@@ -1,4 +1,4 @@
-"""Expressions of a description: which names they have, and what they say. They are Python, and do whatever their author wrote."""
+"""Expressions of a description: their names, and what they say. They are Python, and do what their author wrote."""
 
 import ast
 import builtins

@@ -18,7 +18,7 @@ SHOWN_ENDS = 8  # of a call, in the sums
 
 
 def shown_change(key: Key, change: Change, view: View) -> str:
-    """What became of a key, and what that means if the list has a shape; a value that is itself a key is printed by its words."""
+    """What became of a key, and what that means if the list has a shape; a value that is a key is printed by words."""
     if isinstance(change, Removed):
         return "gone"
     if isinstance(change, Added):

@@ -43,7 +43,7 @@ class Moving:
         self.calls = finding.calls
 
     def without(self, left_out: int) -> Sequence[DrawnCall] | None:
-        """The calls without one, if a number after it is moved. They are run one by one to see what the storage has then."""
+        """The calls without one, if a number after it is moved. They run one by one to see what the storage has."""
         before = self._numbers()
         kept = [at for at in range(len(self.calls)) if at != left_out]
         made: list[DrawnCall] = []

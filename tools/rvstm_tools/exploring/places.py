@@ -59,7 +59,7 @@ class NumberSpans:
         return any(first <= number <= last for first, last in self.spans)
 
     def drawn(self, random: Random, seen: Sequence[int]) -> Value:
-        """Half of the numbers come from anywhere in a range. The others are an end of it, or are near one that was seen."""
+        """Half of the numbers come from anywhere in a range. The others are an end of it, or near a seen one."""
         first, last = self.spans[random.randrange(len(self.spans))]
         kind = random.randrange(KINDS)
         if kind == OF_AN_END:
@@ -118,7 +118,7 @@ def span_of(found: re.Match[str], most: int) -> Span:
 
 
 def random_words(kind: str, count: int, name: str) -> Words:
-    """So many keys or accounts for a place, in hex: the same in each run, but otherwise random in all of their bytes."""
+    """So many keys or accounts for a place, in hex: the same in each run, otherwise random in all bytes."""
     length = keys.KEY_LENGTH if kind == "keys" else keys.ACCOUNT_LENGTH
     return Words(tuple(hashlib.sha256(f"{name} {number}".encode()).hexdigest()[: 2 * length] for number in range(count)))
 

@@ -106,7 +106,7 @@ class Reached:
         return f"{reached} of {whole} {'lines' if has_lines else 'instructions'} reached"
 
     def covered(self, seconds: float) -> Iterator[str]:
-        """What `rvstm-tools coverage` prints of the calls that were replayed. It waits for replays at most so many seconds."""
+        """What `rvstm-tools coverage` prints of the replayed calls. It waits at most so many seconds for replays."""
         if self.lack:
             yield f"which branches no call reached is not known: {self.lack}"
             return

@@ -1,4 +1,4 @@
-"""Sequences as they are handed from process to process, and kept in a folder: each call by its line and the words in its places."""
+"""Sequences as processes hand them on, and as a folder keeps them: each call by its line and its words."""
 
 from collections.abc import Iterable, Sequence
 from dataclasses import dataclass

@@ -41,7 +41,7 @@ class Shorter:
         return time.monotonic() - self.begun
 
     def shorten(self, random: Random) -> str:
-        """Does all of this as long as something of it helps and there is time. Returns what ended it early, if something did."""
+        """Does all of this as long as something helps and there is time. Returns what ended it early, if anything."""
         try:
             self._shorten(random)
         except Over:
@@ -164,7 +164,7 @@ class Shorter:
         return any(self.rename(place) for place in words) or self.lower_together()
 
     def pass_less_time(self) -> bool:
-        """Whether a call could be in the block before it, less time pass before its own, or none before the first call."""
+        """Whether a call could be in the block before it if less time passes before its own, or before the first."""
         for at, call in enumerate(self.calls):
             time, step = self.run.description.time, call.step
             if time and step is not None:

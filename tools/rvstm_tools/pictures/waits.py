@@ -109,7 +109,7 @@ class Picture:
         return f"M{x:.1f} {y:.1f}C{x + bend:.1f} {y:.1f} {to_x - bend:.1f} {to_y:.1f} {to_x:.1f} {to_y:.1f}"
 
     def lines(self) -> list[str]:
-        """The waits: those of the keys with colours after the others, and those of the longest path last and thicker."""
+        """The waits: those of keys with colours after the others, those of the longest path last and thicker."""
         plain, coloured, marked = list[str](), list[str](), list[str]()
         calls = self.conflicts.calls
         for place, call in enumerate(calls):

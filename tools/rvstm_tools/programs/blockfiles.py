@@ -18,7 +18,7 @@ BEGIN = b"rvblock "
 
 @dataclass(frozen=True)
 class GivenBlock:
-    """A block: its file, the folder from which its programs are taken, the number of a call there, and what is known of keys."""
+    """A block: its file, the folder of its programs, the number of a call there, and what is known of keys."""
 
     path: str
     folder: Path

@@ -23,7 +23,7 @@ ONLY_IN_CHECKOUT = "only a checkout makes it, by `rvstm-tools preview`"
 WAYS_TO_INSTALL = "the package rvstm has it; --program or RVSTM may name another"
 INSTALLED = "share/rvstm-sdk"
 PREFIXES = (Path(sys.prefix), Path("/usr/local"), Path("/usr"))
-"""Where the SDK may be installed if it is not beside these tools: as pip does, into the folder of the Python that runs."""
+"""Where the SDK may be if it is not beside these tools: as pip does, in the folder of the Python that runs."""
 
 
 @dataclass(frozen=True)

@@ -63,7 +63,7 @@ def locked(folder: Path) -> Iterator[None]:
 
 
 def most_at_once(memory: str, processors: int) -> int:
-    """How many crates are proved at once: one for each processor, as far as memory is free. `memory` is /proc/meminfo."""
+    """How many crates are proved at once: one a processor, as far as memory is free. `memory` is /proc/meminfo."""
     free = re.search(r"MemAvailable: +([0-9]+)", memory)
     return max(1, min(processors, int(free[1]) // MEMORY_OF_PROOF if free else 1))
 

@@ -1,4 +1,4 @@
-"""Archives: tar and tar.gz, whose bytes depend only on what is put in, and what is in these and in Debian's packages."""
+"""Archives: tar and tar.gz, whose bytes depend only on what is put in, and the contents of Debian's packages."""
 
 import gzip
 import io

@@ -52,7 +52,7 @@ class Help:
 
 
 def help_of(text: str, name: str) -> Help:
-    """The help of a text. `name` is that of the command, for messages. What comes after the options and a blank line is its ending."""
+    """The help of a text. `name` is the command's, for messages. What follows the options and a blank line ends it."""
     whole, _, options = text.partition(OPTIONS)
     options, _, ending = options.partition("\n\n")
     about, *lines = f"{whole}{OPTIONS}{options}".splitlines() or [""]

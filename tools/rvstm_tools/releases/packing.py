@@ -42,7 +42,7 @@ def write(tree: Path, entries: Entries, seconds: int) -> None:
 
 
 def deb_of(fields: Mapping[str, str], more: Entries, entries: Entries, seconds: int) -> bytes:
-    """A package: its fields, more files of its control by their names, and its files by their paths. All are of one time."""
+    """A package: its fields, more files of its control by name, and its files by path. All are of one time."""
     sums = "".join(f"{hashlib.md5(entry.data).hexdigest()}  {path}\n" for path, entry in sorted(entries.items()) if isinstance(entry, File))
     control: Entries = {"control": File(control_of(fields, entries).encode()), "md5sums": File(sums.encode()), **more}
     with tempfile.TemporaryDirectory(prefix="package-") as folder:

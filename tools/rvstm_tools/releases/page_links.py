@@ -1,4 +1,4 @@
-"""The links of a page, where a package has it: beside the other pages of the package, without the rest of the repository."""
+"""The links of a page in a package: beside the other pages of the package, without the rest of the repository."""
 
 import posixpath
 import re

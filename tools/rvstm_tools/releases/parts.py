@@ -61,7 +61,7 @@ class Parts:
         return File(archives.gzip_of(self.file(path).data))
 
     def pages(self, package: str, *, is_packed: bool) -> Entries:
-        """The pages of a package, with links among them; the page of changes compressed, as Debian has it, if that is asked for."""
+        """The pages of a package, with links among them; CHANGELOG.md compressed, as Debian has it, if asked for."""
         folder = f"share/doc/{package}"
         found: Entries = {}
         for path in PAGES[package]:
@@ -80,7 +80,7 @@ class Parts:
         }
 
     def library(self, prefix: str, folder: str) -> Entries:
-        """The archive, the shared object under its three names, the headers, the file for pkg-config and the examples."""
+        """The archive, the shared object under three names, the headers, the file for pkg-config and the examples."""
         whole, asked_for = f"librvstm.so.{self.products.version()}", self.products.shared_name()
         found: Entries = {
             f"{folder}/librvstm.a": File(self.products.built(Product.ARCHIVE)),

@@ -1,4 +1,4 @@
-"""What a release is made of: its version, its commit, and the built program and library without what differs by accident."""
+"""What a release is made of: version, commit, and the program and library without what differs by accident."""
 
 import ctypes
 import enum
@@ -120,7 +120,7 @@ def limit_stripper() -> None:
 
 
 def stripped(data: bytes) -> bytes:
-    """The bytes of a program or of a shared object without symbols and build id. GNU's objcopy would drop GNU_RELRO, too."""
+    """The bytes of a program or a shared object without symbols and build id. GNU's objcopy drops GNU_RELRO, too."""
     if not shutil.which(STRIPPER):
         raise UserError(f"there is no {STRIPPER}: install the package llvm")
     with tempfile.TemporaryDirectory() as place:

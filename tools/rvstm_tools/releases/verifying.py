@@ -67,7 +67,7 @@ def segments_of(data: bytes) -> Iterator[LoadedSegment]:
 
 
 def is_loaded_so(data: bytes, without: bytes) -> bool:
-    """Whether a system loads the same of a program as of its copy without symbols, except notes: sections may say otherwise."""
+    """Whether a system loads the same of a program as of its copy without symbols, except notes."""
     segments = list(segments_of(without))
     end = max((segment.span.end for segment in segments if segment.kind == PT_LOAD), default=0)
     views = [bytearray(part[:end]) for part in (data, without)]

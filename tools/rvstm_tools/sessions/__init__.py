@@ -1,1 +1,1 @@
-"""Sessions of `rvstm chain`: requests, answers, frames, the process that answers, and nodes that drive it (docs/formats.md)."""
+"""Sessions of `rvstm chain`: requests, answers, frames, the process that answers, and nodes that drive it."""

@@ -15,7 +15,7 @@ if TYPE_CHECKING:
 
 
 class TypedBlock:
-    """The block that is typed, and what a line of it does. Its rules are the session's, or higher ones of a list that was read."""
+    """The block that is typed, and what a line of it does. Its rules are the session's, or a list's higher ones."""
 
     def __init__(self, client: "Client") -> None:
         self.client = client

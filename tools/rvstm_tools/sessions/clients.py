@@ -29,7 +29,7 @@ NONE = "      none"
 
 @dataclass(frozen=True)
 class FrameFile:
-    """A file of frames: a list, which has one or several, or a block file whose programs are named by their paths or by their hashes."""
+    """A file of frames: a list of one or several, or a block file that names programs by their paths or hashes."""
 
     path: Path
     frames: list[Named]

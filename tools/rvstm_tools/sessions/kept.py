@@ -24,7 +24,7 @@ class KeptSession:
         self.height = self.state.height  # the last frame that was answered here
 
     def begin(self) -> None:
-        """Starts processes until one has the programs and says its state. A process that ended by itself is an error."""
+        """Starts processes until one has the programs and says its state. One that ends by itself is an error."""
         while True:
             self.session = self.start_session()
             try:

@@ -34,7 +34,7 @@ Gas = dict[OfCall, int]
 
 @dataclass(frozen=True)
 class GasDifference:
-    """A call whose gas is another one than that of the table. It was or is None if one of them does not have the call."""
+    """A call whose gas is another one than the table's. It was or is None if one of them lacks the call."""
 
     of: OfCall
     was: int | None

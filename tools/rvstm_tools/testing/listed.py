@@ -52,7 +52,7 @@ class ListedTest:
         return differences.cut(self.file.lines[number - 1].strip())
 
     def programs_by(self, variant: str) -> list[ProgramFile]:
-        """The programs of the list, each PROGRAM.elf replaced by PROGRAM-VARIANT.elf if there is a variant and this file."""
+        """The programs of the list, each PROGRAM.elf replaced by PROGRAM-VARIANT.elf if there is such a file."""
         return [self._program_by(variant, program) for program in self.file.blocks[0].programs.values()]
 
     def has(self, variant: str) -> bool:

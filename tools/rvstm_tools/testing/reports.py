@@ -116,7 +116,7 @@ def json_of_run(run: Tried) -> str:
 
 
 def object_of_miss(run: Tried, miss: Miss) -> Object:
-    """A line that is not met as an object. `call` is the number of the call, and `ended` how it did; both are null after `storage`."""
+    """A line that is not met as an object. `call` is its number, and `ended` how; both are null after `storage`."""
     call = miss.part.call if isinstance(miss.part, CallPart) else None
     difference = miss.difference
     return {
@@ -126,7 +126,7 @@ def object_of_miss(run: Tried, miss: Miss) -> Object:
 
 
 def json_of_gas(difference: GasDifference) -> str:
-    """A difference of gas as an object of JSON; `was` or `gas` is null if the table or the list does not have the call."""
+    """A difference of gas as an object of JSON; `was` or `gas` is null if the table or the list lacks the call."""
     of = difference.of
     row: Object = {"kind": "gas", "list": of.list, "block": of.block, "input": of.input, "call": of.text}
     return json.dumps(row | {"was": difference.was, "gas": difference.gas})

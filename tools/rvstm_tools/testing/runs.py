@@ -101,7 +101,7 @@ class Run:
         return self.difference([self.blocks[self.test.file.place_of(part.call)[0]]] if isinstance(part, CallPart) else self.blocks, workers)
 
     def difference(self, blocks: Sequence[InTurn], workers: int) -> LineDifference | None:
-        """The first line of the blocks in order that a run by workers has not, and what that has there; None if it has all."""
+        """The first line of the blocks in order that a run by workers lacks, and what it has there; or None."""
         for block in blocks:
             other = running.run_block(self.runner, "run", block.text, self.folder, "--workers", str(workers))
             lines = [other.refusal] if other.refusal else other.text.splitlines()

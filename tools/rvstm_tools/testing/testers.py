@@ -49,7 +49,7 @@ class Tester:
         self.jobs = jobs  # how many run at once
 
     def tried(self, tests: Sequence[ListedTest], variants: Sequence[str] = ()) -> Iterator[Tried]:
-        """Runs each test by its own programs, and again by each variant that has others. What comes of them is in this order."""
+        """Runs each test by its own programs, and again by each variant that has others. The order is this one."""
         plans = [plan for test in tests for plan in plans_of(test, variants)]
         with ThreadPoolExecutor(self.jobs) as pool:
             try:
@@ -86,7 +86,7 @@ def updated(tried: Sequence[Tried]) -> Iterator[str]:
 
 
 def update(test: ListedTest, most_gas: Mapping[int, int]) -> bool:
-    """Writes the gas that came into the lines `gas at most` of a list. All other bytes of the file stay. Whether it changed."""
+    """Writes the gas that came into the lines `gas at most` of a list. All other bytes stay. Whether it changed."""
     lines = list(test.file.lines)
     for number, gas in most_gas.items():
         lines[number - 1] = MOST_GAS.sub(rf"\g<1>{gas}", lines[number - 1], count=1)

@@ -1,4 +1,4 @@
-"""Dumps: what a session answers to `dump`, a block file without programs and calls. A result may be used in place of one."""
+"""Dumps: what a session answers to `dump`, a block file of entries alone. A result may stand for one."""
 
 import re
 from dataclasses import dataclass

@@ -55,7 +55,7 @@ def account_of(word: str, name: str) -> bytes:
 
 
 def table_key(word: str) -> Key:
-    """The key of a word `table:TAG:TEXT` or `table:TAG:N`: the one that `table_key` of sdk/sha256.h derives of a tag and a key."""
+    """The key of a word `table:TAG:TEXT` or `table:TAG:N`: what `table_key` of sdk/sha256.h derives of tag and key."""
     tag, _, text = word.removeprefix("table:").rpartition(":")
     if not tag or not text:
         raise UserError(f"{word}: a tag and a text follow it, as in table:TAG:text")

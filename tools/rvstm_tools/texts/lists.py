@@ -1,4 +1,4 @@
-"""Lists: blocks as people write them, a line for each program, key and call (`rvstm-tools block --help`). A file is read once."""
+"""Lists: blocks as people write them, a line for each program, key and call (`rvstm-tools block --help`)."""
 
 import os
 import re
@@ -124,7 +124,7 @@ def check_encoding(text: str) -> None:
 
 
 class BlockReader:
-    """Takes the lines of a list one after another, and makes their blocks, over a storage. It passes over the lines of a test."""
+    """Takes the lines of a list in turn, and makes their blocks, over a storage. It passes over lines of a test."""
 
     def __init__(self, storage: Storage) -> None:
         self.file = ListFile([Block(storage)])
@@ -253,7 +253,7 @@ def read_list(path: str, storage: Storage | None = None) -> ListFile:
 
 
 def hand_on(path: str, take: Callable[[Line], None], view: View) -> None:
-    """Hands on the lines of a list to what fills a view. Words that say another key than the shapes of the list do are warnings."""
+    """Hands the lines of a list to what fills a view. Words of another key than the list's shapes are warnings."""
     for line in lines_of(path):
         with placed(path, line.number):
             take(line)

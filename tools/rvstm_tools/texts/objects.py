@@ -1,4 +1,4 @@
-"""A result as lines of JSON: an object for each call, for each key of the storage, and for the end (result_schema.py)."""
+"""A result as lines of JSON: an object for each call, each key of the storage, and the end (result_schema.py)."""
 
 import json
 from collections.abc import Iterable, Iterator

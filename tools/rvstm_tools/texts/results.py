@@ -1,4 +1,4 @@
-"""Results as rvstm prints them: how each call ended, what it changed, and the storage at the end (docs/formats.md, "Result")."""
+"""Results as rvstm prints them: how calls ended, what they changed, and the storage (docs/formats.md, "Result")."""
 
 import enum
 import re
@@ -112,7 +112,7 @@ def line_of(number: int, text: str) -> ResultLine:
 
 
 def lines_of(texts: Iterable[str]) -> Iterator[ResultLine]:
-    """The lines of a whole result. Each is handed out before the next one is read, and the end is checked after the last."""
+    """The lines of a whole result. Each is handed out before the next is read; the end is checked last."""
     kind = ""
     for number, text in enumerate(texts, 1):
         line = line_of(number, text)

@@ -1,4 +1,4 @@
-"""Shapes: what the bytes of a value or an input are, as the lines `shape` of a list say it (`rvstm-tools block --help`)."""
+"""Shapes: what the bytes of a value or an input are, by the lines `shape` of a list (`rvstm-tools block --help`)."""
 
 import enum
 import re
@@ -31,7 +31,7 @@ class FieldKind(enum.Enum):
 
 @dataclass(frozen=True)
 class Field:
-    """A field: its name, which may be empty, what it is, and its length in bytes, which is None if it has all that are left."""
+    """A field: its name, which may be empty, what it is, and its length in bytes; None if it has all the rest."""
 
     name: str
     kind: FieldKind

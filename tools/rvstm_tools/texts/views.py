@@ -1,4 +1,4 @@
-"""How people see keys, values and inputs: by the words and the shapes of a list, and without one by what their bytes may be."""
+"""How people see keys, values and inputs: by the words and shapes of a list, or by what their bytes may be."""
 
 import re
 from collections.abc import Iterable, Iterator, Sequence
@@ -24,7 +24,7 @@ class View:
     names: dict[Key, str] = field(default_factory=dict)  # the words by which keys are called
     of_keys: dict[Key, Shape] = field(default_factory=dict)
     of_tables: dict[str, Shape] = field(default_factory=dict)
-    """The shapes of the values of all rows of a table, by the words that begin the names of its keys, such as `row:lots`."""
+    """The shapes of the values of all rows of a table, by the words that begin its keys, such as `row:lots`."""
     rows: dict[str, tuple[Field, ...]] = field(default_factory=dict)  # the fields of the rows of a table, in its keys
     long_tables: set[str] = field(default_factory=set)  # the tables whose rows have 28 bytes
     short_tables: set[str] = field(default_factory=set)  # the tables whose rows have at most 27 bytes
@@ -49,7 +49,7 @@ class View:
         ours.add(row.table)
 
     def doubt(self, word: str) -> str:
-        """A warning of a word `row:` that has a text where the shape of its rows has an account, and so says another key; or nothing."""
+        """A warning of a word `row:` with a text where the shape has an account, and so of another key; or nothing."""
         row = words.row_of(word)
         fields = self.rows.get(row.table, ())
         parts = word.split(":", 2)[2].split(",")
@@ -134,7 +134,7 @@ class View:
         return self.of_tables.get(f"row:{row.table}" if row else name.rpartition(":")[0])
 
     def value(self, key: Key, data: bytes, *, is_short: bool = False) -> str:
-        """A value by its fields; in hex if it has no shape, and with the reason if it does not fit its shape. One that is short is cut."""
+        """A value by its fields; in hex without a shape, and with the reason if it does not fit. A short one is cut."""
         shape, in_hex = self.shape_at(key), (differences.short_bytes if is_short else shown.shown_bytes)(data)
         if not shape:
             return in_hex
@@ -269,7 +269,7 @@ def text_of(data: bytes) -> str:
 
 
 def name_of(data: bytes) -> str:
-    """The text of a key or an account for people, in quotes if it may be taken for something other; nothing if it is no text."""
+    """The text of a key or an account for people, in quotes if it is ambiguous; nothing if it is no text."""
     text = data.rstrip(b"\0")
     if not text or not shown.is_name(text):
         return ""

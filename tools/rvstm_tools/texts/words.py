@@ -119,7 +119,7 @@ def word_of_row(row: Row) -> str:
 
 
 def is_text_in_row(data: bytes) -> bool:
-    """Whether bytes can be a part of a row by their text: printable, no number, and without blanks, quotes, commas and colons."""
+    """Whether bytes can be a part of a row by their text: printable, no number, no blanks, quotes, commas, colons."""
     return TEXT_IN_ROW.fullmatch(data) is not None and NOT_IN_TEXT.isdisjoint(data)
 
 
