@@ -287,6 +287,16 @@ class OfReplays(WithChain):
         self.assertEqual(called("session", "--replay", str(self.frames)), (0, output, ""))
         self.assertEqual(self.logged()[:5], ["chain --digest", "state", "program 5", "other", "frame 10"])
 
+    def test_a_list(self) -> None:
+        """Its program is handed in, and its shapes are those of what is asked for afterwards."""
+        for path in self.frames.iterdir():
+            path.unlink()
+        self.write("frames/a.elf.old", b"")
+        self.write("frames/a.list", LIST.replace("a.elf", "../a.elf"))
+        status, output, faults = called("session", "--replay", str(self.frames), "--write", "--get", "key:bob")
+        self.assertEqual((status, output.splitlines()[-1], faults), (0, '      "bob": votes 5', ""))
+        self.assertEqual(self.logged()[:5], ["chain --digest", "state", "program 4", "file", f"frame {len(BLOCK)}"])
+
     def test_messages(self) -> None:
         called("session", "--replay", str(self.frames), "--write")
         place = self.frames / "1.frame.digest"

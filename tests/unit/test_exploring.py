@@ -2,11 +2,14 @@
 
 import abc
 import contextlib
+import hashlib
 import io
 import itertools
 import json
 import random
+import typing
 import unittest
+from dataclasses import replace
 from pathlib import Path
 from types import SimpleNamespace
 from unittest import mock
@@ -20,7 +23,7 @@ from rvstm_tools.exploring.expressions import Raised, Rule
 from rvstm_tools.exploring.places import AnyBytes, DrawnBytes, NumberSpans, Span, Words
 from rvstm_tools.exploring.progress import ProgressLine
 from rvstm_tools.exploring.reached import Reached, Sample, Sampler, Way
-from rvstm_tools.exploring.runs import DrawnCall, Finding, SequenceRun
+from rvstm_tools.exploring.runs import Broken, Counted, DrawnCall, Finding, SequenceRun
 from rvstm_tools.exploring.saved import SavedCall
 from rvstm_tools.exploring.shortening import Shorter
 from rvstm_tools.exploring.storages import StorageByReceipts
@@ -534,6 +537,7 @@ done
     def test_a_refused_program(self) -> None:
         refused = "#!/bin/sh\nwhile read line; do echo refused elf BadMagic 2; done\n"
         self.assertEqual(self.explored(refused), (2, "", f"explore: {self.folder}/echo.elf: refused elf BadMagic 2\n"))
+        self.assertEqual(self.explored("#!/bin/sh\nread line\n"), (2, "", f"explore: {self.folder}/echo.elf: rvstm chain ended\n"))
 
 
 BANK_CALLS = "program bank echo.elf\ndraw n 1..200\n{model}call bank 100 00 u8:{{n}}\n{more}call bank 100 01 u8:{{n}}\n{most}"
@@ -571,6 +575,123 @@ class OverBank(Explored):
         words = ["explore", "--program", str(self.program), path, "--calls", f"{self.CALLS}", "--jobs", "1", *options]
         status, output, faults = called(*words)
         return status, output.splitlines(), faults.replace(f"{self.folder}/", "")
+
+
+class Teller(Bank):
+    """A bank that keeps what is asked. 02 is out of gas, 03 removes the balance, and 04 changes nothing."""
+
+    RECEIPTS: typing.ClassVar[dict[str, str]] = {
+        "02": "call {} out-of-gas gas 100 pc 00010000 out -\n",
+        "03": f"call {{0}} returned gas 5 pc 00010000 out -\nwrite {{0}} {A.hex()} gone\n", "04": "call {} returned gas 5 pc 00010000 out 09\n",
+    }
+    asked: typing.ClassVar[list[bytes]] = []
+
+    def ask(self, request: Request) -> Answer:
+        self.asked.append(request.text())
+        return super().ask(request)
+
+    def receipt(self, number: int, data: str) -> str:
+        return self.RECEIPTS[data].format(number) if data in self.RECEIPTS else super().receipt(number, data)
+
+
+class OfSequences(OverBank):
+    """What a run asks of its session, and what it says of each call."""
+
+    SESSION = Teller
+    HEAD = "program bank echo.elf\nstore key:b u8:1\nstore key:c u8:2\ndraw n 1..200\ndraw who alice bob\n"
+    PUT, TAKE, DIE, CLEAR, KEEP = (f"call bank 100 {word}\n" for word in ("00 u8:{n}", "01 u8:{n}", "02", "03", "04"))
+    NAME = hashlib.sha256(b"a program\n").hexdigest()
+
+    def run_of(self, text: str) -> SequenceRun:
+        Teller.asked.clear()
+        return self.enterContext(SequenceRun(self.program, Description(self.write("a.explore", text))))
+
+    def calls(self, run: SequenceRun, *calls: tuple[int, ...]) -> list[DrawnCall]:
+        """Each by the number of its kind, its amount, and how much time passes before it."""
+        kinds = run.description.kinds
+        return [DrawnCall(kinds[kind], {"n": amount} if kinds[kind].places else {}, *step) for kind, amount, *step in calls]
+
+    def frame(self, *lines: str) -> bytes:
+        text = f"rvblock 1\nprogram 0 {self.NAME}\n" + "".join(f"{line}\n" for line in lines)
+        return b"frame %d\n%s" % (len(text), text.encode())
+
+    def test_what_is_asked_counted_and_seen(self) -> None:
+        lets = "let sum = u64('key:a')\nlet many = len(keys())\nalways every.who == ['alice', 'bob'] and sum == u64('key:a')\n"
+        run = self.run_of(self.HEAD + lets + self.PUT + self.TAKE + "reverted output == b'no'\n" + self.CLEAR + "returned many == 2\n")
+        self.assertIsNone(run.begin())
+        self.assertIsNone(run.go_on(self.calls(run, (0, 5), (1, 3), (1, 4), (1, 2), (2, 0))))
+        self.assertEqual(Teller.asked[0], b"program 10\na program\n")
+        self.assertEqual(Teller.asked[1].split()[:3], [b"begin", b"0", b"-"])
+        self.assertEqual(Teller.asked[2:], [self.frame("call 0 100 0005", "call 0 100 0103", "call 0 100 0104", "call 0 100 0102", "call 0 100 03")])
+        self.assertEqual((run.calls, run.done, list(run.seen)), (5, 5, [5, 5, 2, 2, 0, 0]))
+        self.assertEqual(run.counts, {Counted(9, End.RETURNED, b""): 1, Counted(10, End.RETURNED, b""): 2,
+                                      Counted(10, End.REVERTED, b"no"): 1, Counted(12, End.RETURNED, b""): 1})
+        self.assertEqual(run.storage.words, {words.key_of(word): word for word in ("key:a", "key:b", "key:c")})
+        for _ in range(2):
+            self.assertIsNone(run.go_on(self.calls(run, *((0, amount) for amount in range(1, 40)))))
+        self.assertEqual((len(run.seen), run.seen[-1], run.seen[0]), (64, 2 * 780, 780 + 1 + 2 + 3 + 4 + 5 + 6 + 7 + 8))
+
+    def test_time(self) -> None:
+        """The value of the clock is written before each block that has a time. Line 4 cannot be computed at 12."""
+        run = self.run_of(f"program bank echo.elf\ntime key:t u8:9 0..50\ndraw n 1..200\nlet late = 1 // (12 - u8('key:t'))\n{self.PUT}")
+        one, other, third = (self.calls(run, call) for call in ((0, 1), (0, 1, 2), (0, 1, 1)))
+        self.assertEqual((run.begin(), run.go_on(one), run.go_on(other)), (None, None, None))
+        call = "call 0 100 0001"
+        self.assertEqual(Teller.asked[2:], [self.frame(call), self.frame(f"store {b't'.hex():0<64} 0b", call)])
+        broken = run.go_on(third)
+        assert broken
+        self.assertEqual((broken.at, broken.rule, broken.text.rpartition(": ")[2]), (2, "line 4", "integer division or modulo by zero"))
+        self.assertEqual((len(Teller.asked), len(run.outcomes), list(run.seen)), (4, 2, [1, 1, 11, 2, 2, 12]))
+        run = self.run_of(self.HEAD + self.PUT)
+        run.begin()
+        self.assertIsNone(run.go_on(self.calls(run, (0, 1, 7))))
+        self.assertEqual(Teller.asked[2:], [self.frame(call)])
+
+    def test_findings(self) -> None:
+        run = self.run_of(self.HEAD + f"let sum = u64('key:a')\nlet twice = 2 * sum\n{self.PUT}returned n != 7\n{self.TAKE}storage\nholds sum == 9\n")
+        calls = self.calls(run, (0, 5), (0, 7), (0, 5), (0, 5, 2))
+        self.assertEqual(run.finding_of(calls), Finding(calls[:2], run.outcomes[:2], Broken(
+            1, "line 9", "line 9: returned n != 7", ["sum: 5 -> 12", "twice: 10 -> 24"])))
+        self.assertEqual(len(run.outcomes), 2)
+        self.assertIsNone(run.finding_of([]))
+        self.assertIsNone(run.finding_of(self.calls(run, (0, 4), (0, 5))))
+        for count in (1, 3):
+            finding = run.finding_of(self.calls(run, *[(0, 1)] * count))
+            assert finding
+            self.assertEqual((finding.broken.at, finding.broken.rule, len(finding.calls), len(finding.outcomes)), (count - 1, "line 12", count, count))
+            self.assertFalse(finding.broken.is_as(Broken(count - 1, "line 9", finding.broken.text, [])))
+
+    def test_what_breaks(self) -> None:
+        ended = "ended out-of-gas, and no line `may-end` allows it"
+        for text, calls, broken in (
+            (f"always u8('key:b') == 2\n{self.PUT}", (), Broken(0, "line 6", "line 6: always u8('key:b') == 2", [])),
+            (f"{self.PUT}{self.DIE}", ((0, 1), (1, 0)), Broken(1, "line 7: ended out-of-gas", f"line 7: {ended}", [])),
+            (f"{self.PUT}{self.DIE}may-end out-of-gas\n", ((0, 1), (1, 0)), None),
+            (f"{self.KEEP}holds [][0] == 1\n", ((0, 0),), Broken(0, "line 7", "line 7: holds [][0] == 1: IndexError: list index out of range", [])),
+        ):
+            with self.subTest(text):
+                run = self.run_of(self.HEAD + text)
+                self.assertEqual(run.begin() or (run.go_on(self.calls(run, *calls)) if calls else None), broken)
+
+    def test_a_model_that_changes_although_the_storage_does_not(self) -> None:
+        """Its lines `let` are computed after each call. A call without a method, and one that is out of gas, it answers by nothing."""
+        self.write("count.py", "class Count:\n    made = 0\n    def keep(self):\n        self.made += 1\n        return 9\n")
+        run = self.run_of(f"program bank echo.elf\nmodel count.py Count\nlet made = model.made\ndraw n 1..9\n{self.KEEP}method keep\nholds made == before.made + 1\n"
+                          f"{self.DIE}method keep\nmay-end out-of-gas\nholds made == before.made\n{self.PUT}")
+        self.assertIsNone(run.begin())
+        self.assertIsNone(run.go_on(self.calls(run, (0, 0), (0, 0), (1, 0), (2, 3))))
+
+    def test_a_session_that_answers_too_few_calls(self) -> None:
+        run = self.run_of(self.HEAD + self.PUT)
+        run.begin()
+        with mock.patch.object(Teller, "ask", return_value=Done(b"end\n")), self.assertRaises(ValueError):
+            run.go_on(self.calls(run, (0, 1)))
+
+    def test_blocks_and_times_of_first_calls(self) -> None:
+        call = DrawnCall(Description(self.write("a.explore", self.HEAD + self.PUT)).kinds[0], {"n": 1})
+        first = replace(call, step=4)
+        self.assertEqual([len(block) for block in runs.blocks_of([first, *[call] * 1024])], [1024, 1])
+        self.assertEqual([one.step for one in runs.left([first, call, first], [0, 2])], [4, 4])
 
 
 class OfShortening(OverBank):

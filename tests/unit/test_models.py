@@ -80,6 +80,24 @@ class Answers(InFolder):
                 self.assertEqual(model.broken_invariant(SimpleNamespace(value=value)), said)
         with self.assertRaisesRegex(ModelError, "Model.invariant: it returned 0; it returns True, False or None"):
             model.broken_invariant(SimpleNamespace(value=6))
+        path.unlink()
+        self.assertEqual(model.broken_invariant(SimpleNamespace(value=3)), f"{path}, line 6: invariant: AssertionError", "its line is gone")
+
+    def test_code_of_other_places(self) -> None:
+        """A line is one of the model's file, or none is named."""
+        for text, message in (
+            ("class Model:\n    exec('def invariant(self, storage): assert False')\n", "invariant: AssertionError"),
+            ("class Model:\n    def __init__(self, storage, more): pass\n",
+             "Model: TypeError: Model.__init__() missing 1 required positional argument: 'more'"),
+            ("class Model:\n    def __init__(self):\n        compile('(', 'other.py', 'exec')\n", "Model: SyntaxError: '(' was never closed"),
+        ):
+            path = self.folder / self.write("a.py", text)
+            with self.subTest(message):
+                try:
+                    said = ModelClass(path, "Model").begin(SimpleNamespace()).broken_invariant(SimpleNamespace())
+                except ModelError as error:
+                    said = f"{error}"
+                self.assertEqual(said, f"{path}{', line 3' * ('compile' in text)}: {message}")
 
 
 class Digests(InFolder):

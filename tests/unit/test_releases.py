@@ -43,10 +43,10 @@ def ar(*members: Member) -> bytes:
     return b"!<arch>\n" + b"".join(head + body for head, body in zip(heads, bodies))
 
 
-def header(path: str, kind: bytes = tarfile.REGTYPE, prefix: str = "") -> bytes:
-    """The header of an empty file in a tar, as GNU's tar writes it; with something in the place of the prefix of ustar."""
+def header(path: str, kind: bytes = tarfile.REGTYPE, prefix: str = "", size: int = 0) -> bytes:
+    """The header of a file in a tar, as GNU's tar writes it; with something in the place of the prefix of ustar."""
     info = tarfile.TarInfo(path)
-    info.type = kind
+    info.type, info.size = kind, size
     made = info.tobuf(tarfile.GNU_FORMAT)
     made = made[:148] + b" " * 8 + made[156:345] + prefix.encode().ljust(167, b"\0")
     return made[:148] + b"%06o\0 " % sum(made) + made[156:]
@@ -63,8 +63,25 @@ def package(files: bytes, control: bytes = lzma.compress(tar())) -> bytes:
 
 class OfArchives(InFolder):
     def test_what_is_read_is_what_was_written(self) -> None:
-        packed = archives.gzip_of(archives.tar_of(ENTRIES, 5))
-        self.assertEqual(archives.files_in(packed), ENTRIES)
+        one: Entries = {"one": File(b"file")}
+        for entries in (ENTRIES, one):
+            packed = archives.gzip_of(archives.tar_of(entries, 5))
+            self.assertEqual(archives.files_in(packed), entries)
+        self.assertEqual(packed[3:8], bytes(5), "no name and no time, as RFC 1952 has them")
+
+    def test_the_tar_that_others_make_of_the_same_files(self) -> None:
+        self.addCleanup(os.umask, os.umask(0o022))
+        for path, entry in ENTRIES.items():
+            place = self.folder / path
+            place.parent.mkdir(parents=True, exist_ok=True)
+            if isinstance(entry, Link):
+                place.symlink_to(entry.target)
+            else:
+                place.write_bytes(entry.data)
+                place.chmod(entry.mode)
+        words = ["tar", "--format=gnu", "--owner=root:0", "--group=root:0", f"--mtime=@{SECONDS}", "--sort=name", "-c", "usr"]
+        made = subprocess.run(words, cwd=self.folder, capture_output=True, check=True).stdout
+        self.assertEqual(archives.tar_of(ENTRIES, SECONDS), made)
 
     def test_ar(self) -> None:
         members = [Member("one", b"odd"), Member("two", b"even")]
@@ -80,7 +97,16 @@ class OfArchives(InFolder):
             archives.gzip_of(tar(header("a"), header("./a"))): "a is there twice, or is neither a file nor a link",
             archives.gzip_of(tar(header("d", tarfile.CHRTYPE))): "d is there twice, or is neither a file nor a link",
             archives.gzip_of(tar(header("a"), header("a/b"))): "it has a path that is a folder and a file",
+            archives.gzip_of(tar(header("l", tarfile.SYMTYPE, size=1), b"x".ljust(512, b"\0"))): "l is there twice, or is neither a file nor a link",
             archives.gzip_of(tar(header("a/../b"))): "'a/../b' is a path that no release has",
+            archives.gzip_of(tar(header("/a"))): "'/a' is a path that no release has",
+            archives.gzip_of(tar(header("../a"))): "'../a' is a path that no release has",
+            archives.gzip_of(tar(header("a", size=-512))): "the entry 'a' of its tar is not as GNU's tar writes it",
+            archives.gzip_of(tar(header("a", size=1), b"xy".ljust(512, b"\0"))): "the entry 'a' of its tar is not as GNU's tar writes it",
+            archives.gzip_of(tar(header("a"))[:-512]): "its tar does not end with zeros",
+            ar(Member("x", b"odd"))[:-1] + b"y": "it is a damaged archive of ar",
+            ar(Member("x", b"even"))[:-1]: "it is a damaged archive of ar",
+            ar(Member("x", b"even")).replace(b"4   ", b"+4  "): "it is a damaged archive of ar",
             b"!<arch>\nnonsense": "it is a damaged archive of ar",
             b"!<arch>\n" + b"x" * 60: "it is a damaged archive of ar",
             ar(Member("x", b"")): "it is an archive of ar, and not a package of Debian as a release has it",

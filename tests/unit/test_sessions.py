@@ -246,7 +246,23 @@ class OfAKeptSession(InFolder):
             "#!/bin/sh\necho rvstm: store Busy 1 >&2\nexit 1\n": "rvstm: store Busy 1",
             "#!/bin/sh\nread line\necho refused elf BadMagic 2\nread line\necho refused frame NoFrame 7\nread line\n":
                 "the session does not begin: refused elf BadMagic 2",
+            "#!/bin/sh\nread line\necho ok 0\nread line\necho refused frame NoFrame 7\nread line\n":
+                "the session does not begin: refused frame NoFrame 7",
+            "#!/bin/sh\necho nonsense\nread line\nread line\n": "not a line of an answer: b'nonsense\\n'",
         }.items():
             with self.subTest(message), self.assertRaises(UserError) as caught:
                 self.kept(text)
             self.assertEqual(str(caught.exception), message)
+
+    def test_a_frame_that_failed_is_not_counted(self) -> None:
+        kept = self.kept(CHAIN.replace('answer = b"answer to " + body', 'os.write(1, b"failed store Full 8\\n"); continue'))
+        self.assertEqual((kept.run(b"one"), kept.height), (Refusal(Kind.FAILED, "store", "Full", 8), 0))
+
+    def test_ends(self) -> None:
+        for end, message in ("", None), ("kill()", None), ("sys.exit(3)", "the session ended with status 3"), ("sys.exit('why')", "why"):
+            kept = self.kept(f"{CHAIN}    if words == [b'q']:\n        {end or 'pass'}\n")
+            with self.subTest(end):
+                if message is None:
+                    kept.end()
+                else:
+                    self.assertRaisesRegex(UserError, f"^{message}$", kept.end)

@@ -109,8 +109,13 @@ class WhatIsLoaded(unittest.TestCase):
     def test_sections_and_notes_may_differ(self) -> None:
         for at in (40, 47, 60, 63, 176, 179):
             self.assertTrue(verifying.is_loaded_so(program(**{f"b{at}": 1}), program()), at)
-        for at in (39, 48, 59, 64 + 55, 175):
-            self.assertFalse(verifying.is_loaded_so(program(**{f"b{at}": 1}), program()), at)
+        for at in (39, 48, 59, 64, 64 + 55, 175):
+            self.assertFalse(verifying.is_loaded_so(program(**{f"b{at}": 2}), program()), at)
+
+    def test_the_last_segment_is_loaded_too(self) -> None:
+        without = program(b64=2, b120=verifying.PT_LOAD)
+        self.assertFalse(verifying.is_loaded_so(program(b64=2, b120=verifying.PT_LOAD, b178=1), without))
+        self.assertEqual(len(list(verifying.segments_of(program(b54=1)))), 2, "two entries of one byte")
 
     def test_nothing_is_loaded(self) -> None:
         nothing = program(b64=2)

@@ -42,8 +42,6 @@ def mistakes_of(path: Path, what: str = "") -> Iterator[None]:
     """Reports whatever is raised within it as a mistake of the model's author."""
     try:
         yield
-    except ModelError:
-        raise
     except Exception as error:
         said = error.msg if isinstance(error, SyntaxError) else f"{error}"
         name = f"{what}: " if what else ""
