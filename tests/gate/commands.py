@@ -10,7 +10,7 @@ from collections.abc import Callable, Sequence
 from gate import pages
 from gate.calls import command, rvstm, tool, tool_words
 from gate.runner import TOP, Case, Differs, Run, Tool, holds, same
-from gate.texts import written
+from gate.texts import counts_of_workers, written
 from rvstm_developers.commands.built import OF_LIBRARY, PROGRAM, are_noted
 
 EXAMPLES = TOP / "examples"
@@ -41,11 +41,22 @@ call 2 gas 639 path 1917
 key {KEY} writers 3 waits 2
 all calls 3 gas 1917 path 1917
 """
+# counter.s as GNU objdump reads its words, with -M no-aliases,numeric.
 LISTING = """\
 00010000 fc010593 addi x11,x2,-64
 00010004 04000613 addi x12,x0,64
 00010008 00050413 addi x8,x10,0
 0001000c 00000073 ecall
+00010010 fc012283 lw x5,-64(x2)
+00010014 00128293 addi x5,x5,1
+00010018 fc512023 sw x5,-64(x2)
+0001001c 00040513 addi x10,x8,0
+00010020 00400613 addi x12,x0,4
+00010024 00100893 addi x17,x0,1
+00010028 00000073 ecall
+0001002c 00300893 addi x17,x0,3
+00010030 00000593 addi x11,x0,0
+00010034 00000073 ecall
 """
 VOTES = """\
 program tally tally.elf
@@ -99,6 +110,7 @@ def run_by_workers(run: Run) -> None:
     counts = [re.sub(r"\d+", "N", line) for line in done.errors.splitlines()]
     worker = "worker N steps N asks N executions N validations N"
     same(counts, [worker] * 4 + ["all steps N asks N executions N validations N repeated N"])
+    counts_of_workers(done.errors, 3)
 
 
 def drive(run: Run) -> None:
@@ -117,11 +129,11 @@ def asm(run: Run) -> None:
     same(rvstm(run, "asm", "counter.s", "--out", made, folder=COUNTER).done(), "")
     holds(made.read_bytes() == (COUNTER / "counter.elf").read_bytes(), "another file", "the bytes of counter.elf")
     wrong = written(run.place / "wrong.s", "add\n")
-    holds(rvstm(run, "asm", wrong, "--out", made).errors.startswith("rvstm: asm 1 "), "no refusal", "rvstm: asm 1 ..")
+    rvstm(run, "asm", wrong, "--out", made).refused("rvstm: asm 1 BadOperand 2")
 
 
 def dis(run: Run) -> None:
-    printed(rvstm(run, "dis", "counter.elf", folder=COUNTER).done(), f"{LISTING}..")
+    same(rvstm(run, "dis", "counter.elf", folder=COUNTER).done(), LISTING)
 
 
 def debug(run: Run) -> None:
@@ -137,7 +149,7 @@ def debug(run: Run) -> None:
 def migrate(run: Run) -> None:
     """A block of format 1 under rules one, as one of format 2."""
     made = run.place / "made.block"
-    rvstm(run, "migrate", "counter.block", "--out", made, folder=COUNTER).done()
+    same(rvstm(run, "migrate", "counter.block", "--out", made, folder=COUNTER).done(), "")
     block = (COUNTER / "counter.block").read_text(encoding="utf-8")
     same(made.read_text(encoding="utf-8"), block.replace("rvblock 1\n", "rvblock 2\ngas 1\n", 1))
 
@@ -296,11 +308,14 @@ def trace(run: Run) -> None:
 
 
 def coverage(run: Run) -> None:
-    """The lines that a list reaches; the program needs lines."""
+    """The calls, steps and inputs of a list. The program needs lines; a copy of it has none of a source."""
     for name in ("token.elf", "token.list"):
         (run.place / name).write_bytes((TOKEN / name).read_bytes())
     done = tool(run, "coverage", "token.list", folder=run.place)
     holds(done.status == 1 and "there is no" in done.errors and "token.lines.elf" in done.errors, done.errors, "there is no ..token.lines.elf")
+    (run.place / "token.lines.elf").write_bytes((TOKEN / "token.elf").read_bytes())
+    covered = tool(run, "coverage", "token.list", folder=run.place).done()
+    same(covered, "6 calls, 518 steps\ninputs: mint 1, transfer 2, balance 2; others 1\n")
 
 
 def explore(run: Run) -> None:
@@ -425,7 +440,7 @@ TOOLS: dict[str, tuple[Callable[[Run], None], Sequence[Tool]]] = {
     "conflicts": (picture, ()),
     "schedule": (schedule, ()),
     "trace": (trace, ()),
-    "coverage": (coverage, ()),
+    "coverage": (coverage, (Tool.LLVM,)),
     "explore": (explore, ()),
     "gdb": (gdb, ()),
     "verify": (verify, (Tool.LLVM,)),

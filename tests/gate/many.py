@@ -6,8 +6,9 @@ from pathlib import Path
 
 from gate.calls import rvstm
 from gate.runner import Case, Run, holds, same
-from gate.tables import TableBlock, has_pieces, table
+from gate.tables import TableBlock, table
 from gate.texts import mixed, written
+from rvstm_tools.texts import results
 
 KEY = f"{1:064x}"
 CALL = f"call 0 1000 {KEY}\n"
@@ -119,7 +120,8 @@ def touches(run: Run) -> None:
     rvstm(run, "asm", "touch.s", "--out", "0", folder=run.place).done()
     written(run.place / "block", TableBlock("", ["TOUCH"], lines="call 0 1000 -\n" * 8).text())
     text = rvstm(run, "run", "block", "--workers", "4", folder=run.place).done()
-    holds(has_pieces(text, [" returned gas 24 pc 00010020 out 08000000\n"] * 8), text, "eight calls that return 8")
+    found = [(call.end.value, call.gas, call.pc, call.output.hex()) for call in results.result_of(text).receipts]
+    same(found, [("returned", 24, 0x10020, "08000000")] * 8)
 
 
 def waits_of_forty_calls(run: Run) -> None:
@@ -146,12 +148,14 @@ def waits_of_many_readers(run: Run) -> None:
 
 
 def replays(run: Run) -> None:
-    """Each of three counts of one key reads what the one before it wrote, and not what the last one wrote."""
+    """Each of three counts of one key reads what the one before it wrote, and not what the last one wrote. It ends as in `seq`."""
     folder = put(run, "rvblock 1\n", ["COUNT"], f"call 0 1000 {'aa' * 32}\n" * 3)
+    ends = re.findall("^regs .*", rvstm(run, "seq", "block", folder=folder).done(), re.M)
     for call in range(3):
         # At the instruction after the READ and the load of what it gave; and at the end, since no instruction is at 0.
         lines = "g 00010014\nr\ng 00000000\nr\n"
         text = rvstm(run, "debug", "block", "--call", str(call), folder=folder, data=lines).done()
+        same(text.splitlines()[3:], [ends[call]], "at the end")
         fifth = [int(line.split()[6], 16) for line in re.findall("^regs .*", text, re.M)]
         same(fifth, [call, call + 1], f"x5 in call {call}")
 

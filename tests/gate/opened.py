@@ -43,7 +43,7 @@ def opened(run: Run) -> None:
     for name, text in FILES.items():
         written(run.place / name, text)
     for name in ("echo.elf", "other.elf"):
-        command([run.program, "asm", "echo.s", "--out", name], run.place).done()
+        same(command([run.program, "asm", "echo.s", "--out", name], run.place).done(), "")
     log = run.place / "opened"
     for line, (files, last) in {**{line: (files, "") for line, files in READ.items()}, **LAST}.items():
         log.unlink(missing_ok=True)

@@ -27,7 +27,7 @@ def migrated(run: Run, path: str | Path) -> EndedCommand:
 
 def puts(run: Run, path: str, *names: str) -> None:
     """The new bytes are put at a path, and its folder then has these names."""
-    migrated(run, path).done()
+    same(migrated(run, path).done(), "")
     same((run.place / path).read_text(encoding="utf-8"), NEW, path)
     same(names_in((run.place / path).parent), sorted(names), path)
 

@@ -154,6 +154,8 @@ def holds(is_so: bool, came: object, wanted: str) -> None:
 
 
 SECONDS_BETWEEN_LOOKS = 0.02
+CASE = "RVSTM_CASE"
+"""Of the environment of all that a case starts: its name."""
 
 
 @dataclass(frozen=True)
@@ -215,6 +217,7 @@ def begin(case: Case, setting: Setting, place: Path, seconds: float) -> Running:
     if process == 0:
         try:
             os.setsid()
+            os.environ[CASE] = case.name
             os.chdir(place)
             log = os.open(place.with_suffix(".log"), os.O_WRONLY | os.O_CREAT | os.O_TRUNC)
             os.dup2(log, 1)

@@ -12,7 +12,7 @@ from pathlib import Path
 
 from gate.calls import command, rvstm
 from gate.runner import CONTRACTS, TOP, Case, Run, Tool, same, shown
-from gate.texts import GivenCall, block, written
+from gate.texts import GivenCall, block, ends, written
 
 FOLDER, SDK = TOP / "examples/stumbles", TOP / "sdk"
 COMPILERS = {"clang": ["clang", "--target=riscv32-unknown-elf", "-mno-relax", "-fuse-ld=lld"], "gnu": ["riscv64-unknown-elf-gcc"]}
@@ -78,9 +78,8 @@ def what_came(run: Run, row: StumbleRow, compiler: str) -> str:
     program = row.source.rpartition(".")[0] + ".elf"
     written(run.place / "one.block", block([program], [GivenCall(data="" if row.data == "-" else row.data)]))
     done = rvstm(run, "seq", "one.block", folder=run.place)
-    words = done.out.split("\n")[0].split(" ")
     (run.place / program).unlink()
-    return f"{words[2]} {words[8]}" if done.status == 0 and len(words) == 9 else done.errors.strip().removeprefix("rvstm: ")
+    return " ".join(*ends(done.out)) if done.status == 0 else done.errors.strip().removeprefix("rvstm: ")
 
 
 def stumbles(run: Run, rows: Sequence[StumbleRow], compiler: str) -> None:

@@ -12,6 +12,7 @@ from gate.calls import EndedCommand, rvstm
 from gate.clients import ClientSession, asks
 from gate.outside import program_of
 from gate.runner import TOP, Case, Run, holds, same, shown
+from gate.texts import counts_of_workers, receipts
 
 FOLDER = TOP / "tests/tables"
 
@@ -221,7 +222,8 @@ def check_image(run: Run, one: ChangedImage, contents: dict[str, bytes]) -> None
         (run.place / "given").write_bytes(content)
         for words in (("dis", "given"), ("seq", "block")):
             done = rvstm(run, *words, folder=run.place)
-            came, wanted = (done.status, done.errors), (1, f"rvstm: elf {one.refusal}\n") if one.refusal else (0, "")
+            came = (done.status, done.errors, bool(done.out))
+            wanted = (1, f"rvstm: elf {one.refusal}\n", False) if one.refusal else (0, "", True)
             same(came, wanted, f"{words[0]} of {len(content)} bytes with {one.changes}")
 
 
@@ -255,8 +257,9 @@ def check_blocks(run: Run, given: Table) -> None:
 
 
 def check_block(run: Run, block: TableBlock, folder: Path) -> None:
-    """A block by each engine: all print the same, which has the pieces."""
+    """A block by each engine: all print the same, which is a whole result and has the pieces."""
     wanted = rvstm(run, "seq", "block", folder=folder).done()
+    receipts(wanted)
     holds(has_pieces(wanted, block.pieces), f"{block.name}: {wanted}", shown(repr(block.pieces)))
     same(rvstm(run, "run", "block", "--workers", "2", folder=folder).done(), wanted, f"{block.name} by threads")
     for workers in (1, 2, 3):
@@ -264,7 +267,7 @@ def check_block(run: Run, block: TableBlock, folder: Path) -> None:
         words = ("drive", "block", "--workers", str(workers), "--schedule", "turns")
         same(rvstm(run, *words, folder=folder).done(), wanted, f"{block.name} by {workers} in turn")
     if block.head == "rvblock 1\n":
-        rvstm(run, "migrate", "block", "--out", "migrated", folder=folder).done()
+        same(rvstm(run, "migrate", "block", "--out", "migrated", folder=folder).done(), "")
         same((folder / "migrated").read_text(encoding="utf-8")[:16], "rvblock 2\ngas 1\n", block.name)
         same(rvstm(run, "seq", "migrated", folder=folder).done(), wanted, f"{block.name} migrated")
     if block.conflicts:
@@ -276,9 +279,10 @@ def check_schedule(run: Run, schedule: Schedule, folder: Path) -> None:
     words = ("drive", "block", "--workers", str(schedule.workers), "--schedule", "list")
     entries = schedule.entries()
     (folder / "list").write_text("".join(entries), encoding="utf-8")
-    came = rvstm(run, *words, "--counts", folder=folder)
+    came = rvstm(run, *words, *(["--counts"] if schedule.executions or schedule.counts else []), folder=folder)
+    calls = len(receipts(came.out))
     same(came.done(), rvstm(run, "seq", "block", folder=folder).done(), schedule.name)
-    workers = came.errors.splitlines()[: schedule.workers]
+    workers = counts_of_workers(came.errors, calls) if schedule.executions or schedule.counts else []
     if schedule.executions:
         same([int(line.split()[7]) for line in workers], list(schedule.executions), f"{schedule.name}: executions")
     if schedule.counts:

@@ -1,9 +1,13 @@
 """Block files and results, as the cases write and read them. docs/formats.md has both."""
 
 import itertools
+import re
 from collections.abc import Iterable, Mapping, Sequence
 from dataclasses import dataclass
 from pathlib import Path
+
+from gate.runner import same
+from rvstm_tools.texts import results
 
 FORMAT_1, MOST_GAS = "rvblock 1\n", 10_000_000
 
@@ -37,8 +41,15 @@ class CallReceipt:
 
 
 def receipts(result: str) -> list[CallReceipt]:
-    words = [line.split(" ") for line in result.splitlines() if line.startswith("call ")]
-    return [CallReceipt(word[2], int(word[4]), word[8]) for word in words]
+    """The receipts of a whole result, of which each line has its form. Another text is a UserError."""
+    return [CallReceipt(call.end.value, call.gas, field(call.output.hex())) for call in results.result_of(result).receipts]
+
+
+def counts_of_workers(errors: str, calls: int) -> list[str]:
+    """The line of each worker of what `--counts` prints. The case ends if the last line is not their sums and executions less calls."""
+    *workers, sums = ([int(number) for number in re.findall(r"\d+", line)] for line in errors.splitlines())
+    same(sums, [*(sum(column) for column in list(zip(*workers))[1:]), sums[2] - calls], "sums, and executions less calls")
+    return errors.splitlines()[:-1]
 
 
 def ends(result: str) -> list[tuple[str, str]]:

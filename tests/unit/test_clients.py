@@ -234,6 +234,12 @@ class OfTypedLines(WithChain):
         self.assertEqual([line for line in output.splitlines() if line.startswith("block")], ["block 0", "block 1"])
         self.assertEqual([line for line in self.logged() if line.startswith("store")], [f"store {'0' * 63}1 01", f"store {'0' * 63}1 02"])
 
+    def test_a_session_that_writes_more_than_its_answers(self) -> None:
+        text = self.program.read_text(encoding="utf-8")
+        self.program.write_text(text.replace("            break\n", "            sys.exit(print('0'))\n"), encoding="utf-8")
+        status, output, faults = called("session", "--state")
+        self.assertEqual((status, output[:6], faults), (1, "state\n", "session: the session wrote more than its answers: b'0\\n'\n"))
+
     def test_a_session_that_does_not_begin(self) -> None:
         self.program.write_text("#!/bin/sh\necho rvstm: store Busy 1 >&2\nexit 1\n", encoding="utf-8")
         self.assertEqual(called_with("state\n", "session"), (1, "", "session: rvstm: store Busy 1\n"))

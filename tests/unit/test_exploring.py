@@ -20,11 +20,12 @@ from rvstm_tools.exploring import expressions, foundlists, runs, saved, shorteni
 from rvstm_tools.exploring.comparing import Data, MistakeError, Name
 from rvstm_tools.exploring.descriptions import WRONG_TIME, Description
 from rvstm_tools.exploring.expressions import Raised, Rule
-from rvstm_tools.exploring.places import AnyBytes, DrawnBytes, NumberSpans, Span, Words
+from rvstm_tools.exploring.places import AnyBytes, DrawnBytes, NumberSpans, Place, Span, Words
 from rvstm_tools.exploring.progress import ProgressLine
 from rvstm_tools.exploring.reached import Reached, Sample, Sampler, Way
 from rvstm_tools.exploring.runs import Broken, Counted, DrawnCall, Finding, SequenceRun
 from rvstm_tools.exploring.saved import SavedCall
+from rvstm_tools.exploring.searches import Limits, Search
 from rvstm_tools.exploring.shortening import Shorter
 from rvstm_tools.exploring.storages import StorageByReceipts
 from rvstm_tools.sessions.answers import Answer, Done
@@ -121,6 +122,11 @@ class OfDescriptions(InFolder):
             (f"{CALL}holds some == other\n", 6, "other: there is no such name here"),
             (f"{CALL}may-end\n", 6, None),
             (f"{CALL}may-end returned\n", 6, None),
+            (f"{CALL}let some = 1\n", 6, "some: this name is taken"),
+            (f"{BEGIN}let a = 1\ncall echo 9 {{a=some}}\n", 6, "a: this name is taken; {OTHER=some} gives another one"),
+            ("always model.x\n", 1, "model: there is no such name here"),
+            (f"{CALL}model bank.py Bank\n", 6, "model: a file of Python and the name of a class follow it; it comes once, before all calls"),
+            (f"{CALL}method put more\n", 6, "method: the name of a method follows it, once for a call; a line `model` is above it"),
             (f"{CALL}storage x\n", 6, STORAGE),
             (f"{CALL}storage\nstorage\n", 7, STORAGE),
             (f"{CALL}storage\nreturned True\n", 7, "returned: only lines `holds` may follow `storage`"),
@@ -153,10 +159,17 @@ class OfDescriptions(InFolder):
         assert found.time
         self.assertEqual((found.stores, found.blocks.block.storage), (["store key:a u8:9"], {A: b"\t"}))
         self.assertEqual((found.time.after(9, 50), found.time.after(250, 6), found.time.less(51)[:4]), (59, 255, [0, 3, 50, 50]))
+        self.assertEqual((found.time.less(3), found.time.store_words(7)), ([0, 0, 2], ["store", "key:a", "u8:7"]))
         calls = [DrawnCall(found.kinds[0], {"some": number}, step) for number, step in enumerate((None, 3, None, 50, 2), 1)]
         self.assertEqual([len(block) for block in runs.blocks_of(calls)], [1, 2, 1, 1])
         self.assertEqual([(call.values["some"], call.step) for call in runs.left(calls, [0, 2, 4])], [(1, None), (3, 3), (5, 52)])
         self.assertEqual(saved.restored(found, saved.saved(calls)), calls)
+
+    def test_a_dump_and_one_word(self) -> None:
+        self.write("old", f"store {A.hex()} 07\nend\n")
+        found = self.description(f"storage old\nprogram echo echo.elf\ndraw who alice\nstore key:b 01\ncall echo 9 key:{{who}}\nstorage\n")
+        self.assertEqual((found.dump, found.blocks.block.storage), (f"{self.folder}/old", {A: b"\7", words.key_of("key:b"): b"\1"}))
+        self.assertEqual((found.kinds[0].places["who"].samples(), found.is_over), (["alice"], True))
 
     def test_no_call(self) -> None:
         path = self.write("a.explore", BEGIN)
@@ -224,8 +237,14 @@ class OfPlaces(unittest.TestCase):
         drawn = [NumberSpans((Span(0, 60),)).drawn(draw, [7]) for _ in range(12)]
         self.assertEqual(drawn, DRAWN)
 
+    def test_numbers_that_were_seen(self) -> None:
+        draw, numbers = random.Random(1), NumberSpans((Span(0, 10**9),))
+        drawn = {numbers.drawn(draw, [500]) for _ in range(500)}
+        self.assertEqual({number for number in drawn if isinstance(number, int) and 0 < number < 1000}, {499, 500, 501})
+
     def test_samples_and_what_is_simpler(self) -> None:
-        self.assertEqual(Words(("a", "b", "c")).simpler("c"), ["a", "b"])
+        self.assertEqual((Words(("a", "b", "c")).simpler("c"), Words(("a", "b", "c")).samples()), (["a", "b"], ["a", "b", "c"]))
+        self.assertEqual([AnyBytes(Span(1, 4)).has(length) for length in range(6)], [False, True, True, True, True, False])
         self.assertEqual(Words(("a", "b", "c")).simpler("a"), [])
         numbers = NumberSpans((Span(2, 4), Span(90, 100)))
         self.assertEqual(numbers.samples(), [2, 4, 90, 100])
@@ -261,6 +280,9 @@ class OfStorage(unittest.TestCase):
         storage.take({b: Added(3)})
         self.assertEqual(storage.value(bytes(b)), (3).to_bytes(8, "little"))
         self.assertEqual(storage.value_before("key:c"), b"new")
+        storage.begin({A: b"\5"})
+        storage.take({A: Added(3)})
+        self.assertEqual((storage.value("key:a"), storages.bytes_of("")), ((3).to_bytes(8, "little"), b""), "another length counts from 0")
 
     def test_numbers(self) -> None:
         storage = StorageByReceipts(View())
@@ -272,17 +294,24 @@ class OfStorage(unittest.TestCase):
         with self.assertRaises(ValueError) as caught:
             storages.number_at(storage.value, "u64", "key:a")
         self.assertEqual(str(caught.exception), "the value at key:a has 2 bytes and not 8")
+        view = storage.view()
+        with self.assertRaisesRegex(ValueError, f"^the value at {A.hex()} has 2 bytes and not 8$"):
+            view.i64(A)
+        self.assertEqual((view.value("key:a"), view.value("key:b")), (b"\2\xff", None))
 
     def test_fields(self) -> None:
         view = View()
         view.take_shape(["row:lots", "bid:u16", "name:text:3", "by:account,share:u8.."])
+        view.take_shape(["key:b", "note:bytes:1", "last:u8"])
         storage = StorageByReceipts(view)
         account = b"bob".ljust(20, b"\0")
-        storage.begin({words.key_of("row:lots:lamp"): b"\2\1ab\0" + account + b"\7", words.key_of("row:lots:vase"): b"\1", A: b"\1"})
+        storage.begin({words.key_of("row:lots:lamp"): b"\2\1ab\0" + account + b"\7", words.key_of("row:lots:vase"): b"\1", A: b"\1",
+                       words.key_of("key:b"): b"\1\2"})
         fields = storage.view().fields
         self.assertEqual(fields("row:lots:lamp"), SimpleNamespace(bid=258, name="ab", by=[account], share=[7]))
         self.assertEqual(str(fields("row:lots:lamp")), 'bid 258, name "ab", by [bob], share [7]')
         self.assertIsNone(fields("row:lots:none"))
+        self.assertEqual((type(fields("row:lots:lamp").by[0]), type(fields("key:b").note), fields("key:b").last), (Name, Data, 2))
         for key, message in {
             "key:a": "key:a has no line `shape`",
             "row:lots:vase": "the value at row:lots:vase: it has 1 bytes in place of at least 5",
@@ -298,8 +327,11 @@ class OfStorage(unittest.TestCase):
             for text in texts:
                 self.assertTrue(name == text and text == name and not name != text and name in ["c", text], text)
             self.assertTrue(name != "c" and name == bytes(name) and {texts[0]: True}[f"{name}"] and name in {texts[0]} and name not in {"c"})
+        self.assertFalse(account == "ab")
+        self.assertEqual((f"{Name(bytes([255]) * 20)}", Data(b"ab")[0]), ("ff" * 20, 97))
         for data, text, message in (
             (account, "key:bob", "the account is compared with 'key:bob', which has 32 bytes in place of 20"),
+            (account, "z" * 40, f"the account is compared with '{'z' * 40}': account:{'z' * 40}: an account has at most 20 bytes, and this is 40"),
             (account, "7", "the account is compared with '7': account:7: an account has a name, and this is a number"),
             (account, "", "the account is compared with '': account:: no name follows it"),
             (key, "k" * 33, f"the key is compared with '{'k' * 33}': key:{'k' * 33}: a key has at most 32 bytes, and this is 33"),
@@ -314,10 +346,86 @@ class OfStorage(unittest.TestCase):
         (line,) = storages.change_lines("deals", {"one": old}, {"one": new})
         self.assertTrue(line.startswith("deals['one'].state: 1 -> 2  (buyer bob, note"), line)
         self.assertEqual(list(storages.change_lines("n", b"\1" * 99, None)), [f"n: {'01' * 99} -> None"])
-        self.assertEqual(list(storages.change_lines("n", 1, 2)), ["n: 1 -> 2"])
+        bob, one, two = Name(b"bob".ljust(20, b"\0")), storages.Fields(a=1), storages.Fields(a=2)
+        changes: tuple[tuple[object, object, str], ...] = (
+            (1, 2, "n: 1 -> 2"), (1, True, "n: 1 -> True"), (bob, None, "n: bob -> None"), ({"a": 1}, 5, "n: {'a': 1} -> 5"), (5, {}, "n: 5 -> {}"),
+            (one, two, "n.a: 1 -> 2"), (one, 5, "n: a 1 -> 5"), (5, one, "n: 5 -> a 1"),
+            (storages.Fields(a=1, b=3, c=4), storages.Fields(a=2, b=3, c=4), "n.a: 1 -> 2  (b 3, c 4)"),
+        )
+        for before, after, wanted in changes:
+            self.assertEqual(list(storages.change_lines("n", before, after)), [wanted])
         self.assertEqual(list(storages.change_lines("n", 1, 1)), [])
         self.assertEqual(list(storages.change_lines("n", {"a": b"\1", "b": 1}, {"a": b"\2", "c": 3})),
                          ["n['a']: 01 -> 02", "n['b']: 1 -> None", "n['c']: None -> 3"])
+
+
+class OfFoundLists(InFolder):
+    def test_a_whole_list(self) -> None:
+        key_a, key_b, key_c = (words.key_of(f"key:{name}") for name in "abc")
+        head = "shape key:a sum:u64\nshape input put u8:0 u8\nstore key:b u8:1\n"
+        self.write("old", f"store {key_c.hex()} 07\nend\n")
+        description = Description(self.write("a.explore", f"rules 3\nprogram bank echo.elf\nstorage old\n{head}time key:t u8:9 0..50\n"
+                                             "draw n 1..9\ndraw k key:c\ncall bank 100 00 u8:{n}\ncall bank 100 {k}\n"))
+        storage, (put, other) = StorageByReceipts(description.blocks.view), description.kinds
+        for word in ("key:a", "key:b"):
+            storage.new_key(word)
+        finding = Finding([DrawnCall(put, {"n": 5}), DrawnCall(put, {"n": 6}, 2), DrawnCall(other, {"k": "key:c"})], [
+            Receipt(0, End.RETURNED, 5, 0, b"\7", changes={key_a: Written((5).to_bytes(8, "little")), key_c: Written(key_b)}),
+            Receipt(0, End.REVERTED, 5, 0, b"no"), Receipt(1, End.OUT_OF_GAS, 100, 0, b""),
+        ], Broken(2, "line 9", "line 9: x", ["sum: 1 -> 2", "n: 1 -> 2"]))
+        view = foundlists.view_of(description, storage, finding)
+        wanted = f"""\
+# Made by rvstm-tools explore a.explore --seed 7. The last call breaks
+# line 9: x
+# Each line `expect` says what came: put there what should come, and this is a test.
+rules 3
+program bank echo.elf
+storage old
+{head}store key:t u8:9
+
+# put(5)
+call bank 100 00 u8:5
+expect returned 07
+expect key:a u64:5  # sum 5
+expect key:c key:b
+expect no other write
+
+block
+store key:t u8:11
+
+# put(6)
+call bank 100 00 u8:6
+expect reverted "no"
+
+# {key_c.hex()}  (it fits no shape of an input)
+call bank 100 key:c
+expect out-of-gas
+# sum: 1 -> 2
+# n: 1 -> 2
+"""
+        lines = foundlists.list_lines(description, view, finding, Limits(1, 100, None, 7), self.folder)
+        self.assertEqual("".join(f"{line}\n" for line in lines), wanted)
+
+    def test_the_most_ends_that_are_counted_one_by_one(self) -> None:
+        description = Description(self.write("a.explore", CALL))
+        search = Search(Limits(1, 1, None, 1))
+        search.counts.update({Counted(5, End.REVERTED, bytes([number])): 10 + number for number in range(10)})
+        lines = list(foundlists.count_lines(description, search))[2:]
+        self.assertEqual((lines[0], lines[7:]), ("           19  reverted 09", ["           12  reverted 02", "           21  otherwise"]))
+
+    def test_values_that_were_kept(self) -> None:
+        some, numbers_ = AnyBytes(Span(0, 2)), NumberSpans((Span(3, 5), Span(9, 9)))
+        right: tuple[tuple[Place, str, object], ...] = (
+            (some, "", b""), (some, "00ff", b"\0\xff"), (numbers_, "9", 9), (Words(("a", "5")), "5", "5"),
+        )
+        for place, word, value in right:
+            self.assertEqual(saved.value_of(place, word), value)
+        wrong: tuple[tuple[Place, str], ...] = (
+            (some, "000000"), (some, "zz"), (numbers_, "7"), (numbers_, "10"), (numbers_, "x"), (Words(("a",)), "7"),
+        )
+        for place, word in wrong:
+            with self.subTest(word), self.assertRaisesRegex(UserError, f"^{word}: the description has no such value in this place"):
+                saved.value_of(place, word)
 
 
 class OfWords(unittest.TestCase):

@@ -2,16 +2,21 @@
 
 import contextlib
 import os
+import random
 import sys
 import unittest
+import xml.etree.ElementTree
+from collections.abc import Iterator
 from pathlib import Path
+from typing import Any
 from unittest import mock
 
 from rvstm_tools.debugging import gdb, moments, packets
 from rvstm_tools.debugging.gdb import Server
-from rvstm_tools.debugging.moments import DebuggedCall, EndOfCall, InterruptedMove, Reach
+from rvstm_tools.debugging.moments import AnyMoment, DebuggedCall, EndOfCall, InterruptedMove, MomentSearch, Reach, Stop, Watched
 from rvstm_tools.debugging.packets import Ends, Wire
 from rvstm_tools.debugging.sessions import CallOf
+from rvstm_tools.debugging.sources import Inlined
 from rvstm_tools.errors import UserError
 from rvstm_tools.texts.results import End
 from rvstm_tools.texts.views import View
@@ -19,8 +24,7 @@ from unit.helpers import InFolder
 from unit.test_elf import CODE, elf_file
 
 # A call of 61 steps: three instructions again and again, and RETURN. The first one of the three counts a byte up.
-DEBUG = f"#!{sys.executable} -IS\n" """\
-import sys
+ANSWERS = """\
 LAST = 60
 at = 0
 def pc(moment):
@@ -29,7 +33,8 @@ def byte(moment):
     return (min(moment, LAST) + 2) // 3
 def place():
     return "%d %08x %s" % (at, pc(at), "ecall" if at >= LAST else "addi x10,x10,1")
-for line in sys.stdin:
+def answer(line):
+    global at
     word, *rest = line.split()
     said = None
     if word == "s":
@@ -42,16 +47,26 @@ for line in sys.stdin:
         has = first <= 0x100000 < first + length
         at = next((m for m in range(at + 1, LAST + 1) if has and byte(m) != byte(m - 1)), LAST + 1)
     elif word == "t":
-        at = int(rest[0])
+        said = None if int(rest[0]) <= LAST + 1 else "refused AtEnd 2"
+        at = min(at, LAST + 1) if said else int(rest[0])
     elif word == "e":
-        said = "ends ENDED 6869 639 61"
+        said = "ends ENDED 639 61"
     elif word == "r":
-        said = "regs " + " ".join("%08x" % (at if n == 10 else n) for n in range(32))
+        said = "regs " + " ".join("%08x" % {10: at, 17: 0 if at < LAST else 3}.get(n, n) for n in range(32))
     elif word == "m":
         said = "%02x" % byte(at) + "00" * (int(rest[1]) - 1) if int(rest[0], 16) == 0x100000 else "00" * int(rest[1])
     elif word == "v":
         said = "value 05" if rest[0].startswith("61") else "absent"
-    print(place() if said is None else said, flush=True)
+    return place() if said is None else said
+"""
+DEBUG = f"""\
+#!{sys.executable} -IS
+import sys
+{ANSWERS}
+if sys.argv[1] == "dis":
+    sys.exit("rvstm: elf BadMagic 2" if "HOW" == "bad" else print("00010000 00150513 addi x10,x10,1\\n00010008 00000073 ecall\\n0001000c 00000073 ecall"))
+for line in sys.stdin:
+    print(answer(line), flush=True)
 """
 REGISTERS = "01:01000000;02:02000000;08:08000000;20:{pc};21:{moment};"
 
@@ -72,9 +87,9 @@ class Replayed(InFolder):
         super().setUp()
         self.serve()
 
-    def serve(self, end: str = "returned") -> None:
+    def serve(self, end: str = "returned 6869", how: str = "") -> None:
         self.block = self.write("a.block", "rvblock 1\nprogram 0 a.elf\ncall 0 1000 -\n")
-        program = Path(self.write("rvstm", DEBUG.replace("ENDED", end)))
+        program = Path(self.write("rvstm", DEBUG.replace("ENDED", end).replace("HOW", how)))
         program.chmod(0o755)
         self.shown: list[str] = []
         self.heard = 0
@@ -98,6 +113,7 @@ class Moves(Replayed):
         self.assertEqual(self.ask("vCont;s:1"), stop(0x10008, 2))
         self.assertEqual(self.ask("bs"), stop(0x10004, 1))
         self.assertEqual(self.ask("bs", "bs"), stop(0x10000, 0, "replaylog:begin;"))
+        self.assertEqual((self.ask("vCont;S05:1"), self.ask("bx")), (stop(0x10004, 1), ""))
 
     def test_to_the_end_and_back(self) -> None:
         self.assertEqual(self.ask("c"), stop(0x1000C, 60, "replaylog:end;"))
@@ -106,15 +122,18 @@ class Moves(Replayed):
         self.assertEqual(self.ask("bc"), stop(0x10000, 0, "replaylog:begin;"))
 
     def test_signals_of_the_end(self) -> None:
-        """GDB's manual numbers them: ABRT 6, ILL 4, SYS 12, XFSZ 25."""
-        for end, signal in {"reverted": 6, "illegal": 4, "bad-length": 12, "too-many-writes": 25, "out-of-gas": 24}.items():
-            self.serve(end)
+        """GDB's manual numbers them: ABRT 6, ILL 4, BUS 10, SEGV 11, SYS 12, XCPU 24, XFSZ 25. They are said again if gdb asks again."""
+        for end, signal in {"reverted": 6, "illegal": 4, "misaligned": 10, "memory-fault": 11, "bad-length": 12, "too-many-writes": 25,
+                            "out-of-gas": 24}.items():
+            self.serve(f"{end} -")
             self.assertEqual(self.ask("c"), stop(0x1000C, 60, signal=signal))
+            self.assertEqual(self.ask("?"), stop(0x1000C, 60, signal=signal))
+            self.assertEqual(self.shown, [f"call 0 of a.block: {end}, 61 steps, gas 639\n"])
 
     def test_breakpoints(self) -> None:
         self.assertEqual(self.ask("Z0,10004,4"), "OK")
         self.assertEqual(self.ask("c"), stop(0x10004, 1))
-        self.assertEqual(self.ask("vCont;c"), stop(0x10004, 4))
+        self.assertEqual(self.ask("vCont;C05:1"), stop(0x10004, 4))
         self.assertEqual(self.ask("bc"), stop(0x10004, 1))
         self.assertEqual(self.ask("bc"), stop(0x10000, 0, "replaylog:begin;"))
         self.assertEqual(self.ask("z0,10004,4"), "OK")
@@ -149,6 +168,93 @@ class Moves(Replayed):
         self.ask("Z0,20000,4")
         self.heard = 2
         self.assertEqual(self.ask("c"), stop(0x10000, 0, signal=INTERRUPT))
+        self.heard = 1
+        self.assertEqual(self.ask("p20"), "00000100")  # no move is stopped
+        self.assertEqual(self.ask(f"qRcmd,{b'calls'.hex()}"), "E.interrupted")
+
+    def test_its_processes_end_with_it(self) -> None:
+        self.ask("Z0,10004,4", "Z2,100000,4", "c")
+        opened = self.server.call.opened
+        self.server.close()
+        self.assertEqual([place.process.wait(5) for place in opened], [-9, -9])
+
+
+class WithoutProcess(AnyMoment):
+    """A session of the same answers without a process, for many moves."""
+
+    def __init__(self, _: CallOf) -> None:
+        self.names: dict[str, Any] = {}
+        exec(ANSWERS.replace("ENDED", "returned 6869"), self.names)
+        self.said: list[bytes] = []
+        self.take(self.answer_bytes("w"))
+
+    def give(self, data: bytes) -> bool:
+        self.said += [self.names["answer"](line).encode() for line in data.decode().splitlines()]
+        return True
+
+    def lines(self, count: int) -> Iterator[bytes]:
+        part, self.said = self.said[:count], self.said[count:]
+        return iter(part)
+
+    def kill(self) -> None:
+        """There is nothing to end."""
+
+
+class AnyMoves(Replayed):
+    """Searches that look at a few moments at a time, from any moment on, find what a look at all of them finds."""
+
+    PCS = [*(0x10000 + 4 * (moment % 3) for moment in range(60)), 0x1000C]
+    CHANGED = range(1, 61, 3)
+
+    def setUp(self) -> None:
+        super().setUp()
+        self.draw = random.Random(1)
+        self.enterContext(mock.patch.object(moments, "REACH", Reach(far=4, span=4, times_more=2, few_steps=2)))
+        self.enterContext(mock.patch.object(moments, "AnyMoment", WithoutProcess))
+
+    def searches(self, call: DebuggedCall) -> dict[MomentSearch, tuple[list[int], list[int]]]:
+        """Some searches: where each stops on the way forward, and on the way back, which is before a change."""
+        found: dict[MomentSearch, tuple[list[int], list[int]]] = {}
+        for start in self.draw.sample((0x100000, 0x100040), self.draw.randrange(3)):
+            changed = list(self.CHANGED) if start == 0x100000 else []
+            found[call.changes_of(Watched(start, 4))] = changed, [moment - 1 for moment in changed]
+        for address in self.draw.sample((0x10000, 0x10004, 0x10008, 0x1000C, 0x20000), self.draw.randrange(4)):
+            hits = [moment for moment, pc in enumerate(self.PCS) if pc == address]
+            found[call.hits_of(address)] = hits, hits
+        return found
+
+    def wanted(self, now: int, is_back: bool, searches: dict[MomentSearch, tuple[list[int], list[int]]]) -> tuple[int, Stop]:
+        """The nearest moment that a search has, and the first of the searches that have it."""
+        met = [(moment, search) for search, ways in searches.items() for moment in ways[is_back] if (moment < now if is_back else moment > now)]
+        nearest = (max if is_back else min)((moment for moment, _ in met), default=-1 if is_back else 61)
+        return nearest, next((search for moment, search in met if moment == nearest), None)
+
+    def test_moves(self) -> None:
+        for number in range(400):
+            if number % 20 == 0:
+                self.serve()
+            call, now = self.server.call, self.draw.randrange(61)
+            call.now, searches, move = now, self.searches(self.server.call), self.draw.choice(("go_on", "go_back", "step", "step_back", "leave", "up_to"))
+            stop, search = self.wanted(now, "back" in move, searches)
+            with self.subTest(number=number, move=move, now=now):
+                if move == "up_to":
+                    address = self.draw.choice((0x10000, 0x10008, 0x1000C))
+                    self.assertEqual(call.hits_of(address).up_to(now), [moment for moment in range(now + 1) if self.PCS[moment] == address])
+                elif move == "leave":
+                    end = self.draw.choice((0x10004, 0x10008, 0x1000C))
+                    left = next(moment for moment in range(now + 1, 62) if moment > 60 or not 0x10000 <= self.PCS[moment] < end)
+                    found = call.leave(0x10000, end, list(searches))
+                    self.assertEqual((found, call.now), (search, stop) if stop <= left and stop < 61 else (None if left > 60 else moments.RANGE_LEFT, min(left, 60)))
+                elif move in ("step", "step_back"):
+                    after = now + (-1 if "back" in move else 1)
+                    at_end = not 0 <= after <= 60
+                    found = getattr(call, move)(list(searches))
+                    self.assertEqual((found, call.now), (None, now) if at_end else (search if stop == after else moments.NO_STOP, after))
+                else:
+                    self.assertEqual((getattr(call, move)(list(searches)), call.now), (search, max(0, min(60, stop))))
+                row = call.state()
+                self.assertEqual((row.moment, row.registers[10], row.pc), (call.now, call.now, self.PCS[call.now]))
+                self.assertEqual(call.memory(0x100000, 1), bytes([(call.now + 2) // 3]))
 
 
 class Questions(Replayed):
@@ -162,7 +268,13 @@ class Questions(Replayed):
         self.assertEqual(text[8 * 32 :], "00000100" + "0000000000000000")
         self.assertEqual(self.ask("s", "p20"), "04000100")
         self.assertEqual(self.ask("p21"), "0100000000000000")
-        self.assertEqual(self.ask("p22"), "E01")
+        self.assertEqual([self.ask(f"p{number}") for number in ("0", "20".zfill(16))], ["00000000", "04000100"])
+        for number in ("22", "20".zfill(17), "2_0"):
+            self.assertEqual(self.ask(f"p{number}"), "E01")
+        registers = xml.etree.ElementTree.fromstring(gdb.description()).findall(".//reg")
+        self.assertEqual([reg.get("name") for reg in registers], [
+            "zero", "ra", "sp", "gp", "tp", "t0", "t1", "t2", "fp", "s1", *(f"a{number}" for number in range(8)),
+            *(f"s{number}" for number in range(2, 12)), "t3", "t4", "t5", "t6", "pc", "moment"])
 
     def test_lines_of_another_program(self) -> None:
         self.enterContext(contextlib.chdir(self.folder))
@@ -180,12 +292,12 @@ class Questions(Replayed):
         self.assertEqual(self.ask("m100000,2"), "0000")
         self.assertEqual(self.ask("s", "m100000,2"), "0100")
         self.assertEqual(self.ask("m10fffe,8"), "0000")  # the end of memory
-        self.assertEqual(self.ask("m0,4"), "E01")
+        self.assertEqual([self.ask(f"m{address}") for address in ("0,4", "110000,1", "10000,1")], ["E01", "E01", "00"])
         self.assertEqual(self.ask("m100000,0"), "")
 
     def test_commands(self) -> None:
         self.assertEqual(self.monitor("end"), 'call 0 of a.block: returned "hi"  6869  26984, 61 steps, gas 639\n')
-        self.assertEqual(self.monitor("go 7"), "moment 7 of 60, pc 00010004\n")
+        self.assertEqual(self.monitor("go 0000000000000007"), "moment 7 of 60, pc 00010004\n")
         self.assertEqual(self.monitor("go 99"), "moment 60 of 60, pc 0001000c\n")
         self.assertEqual(self.monitor("value key:a"), '"a": 05  5\n')
         self.assertEqual(self.monitor(f"value {'00' * 32}"), "00: absent\n")
@@ -195,11 +307,37 @@ class Questions(Replayed):
         self.assertEqual(self.monitor("places a.c:7"), "there is no a.lines.elf: make -f sdk/Makefile a.lines.elf makes it\n")
         for line in ("", "go", "go x", "go -1", "go \u0663", "end now", "what", "go 99999999999999999999"):
             self.assertEqual(self.monitor(line), gdb.COMMANDS)
+        self.server.call.view.take_shape(["input", "ping", "bytes"])
+        self.assertEqual(self.monitor("end"), 'call 0 of a.block, ping(-): returned "hi"  6869  26984, 61 steps, gas 639\n')
+
+    def test_storage_calls(self) -> None:
+        """A READ at each third moment, of a key at x10 into x11, answers in x10 how many bytes it copied; at last a RETURN of x11 bytes."""
+        self.assertEqual(self.monitor("calls"), "no storage calls\n")
+        read = "{:>8} 00010008 READ 00 up to 12 bytes: {}\n"
+        two = read.format(2, "000000") + read.format(5, "000000000000")
+        self.monitor("go 7")
+        self.assertEqual(self.monitor("calls"), two)
+        self.monitor("go 60")
+        calls = self.monitor("calls").splitlines(keepends=True)
+        self.assertEqual(("".join(calls[:2]), len(calls), calls[-1]), (two, 21, f"{60:>8} 0001000c RETURN {'00' * 11}\n"))
+        self.monitor("go 59")
+        self.assertEqual(self.monitor("calls").splitlines(keepends=True), calls[:-1])
+        self.serve(how="bad")
+        with self.assertRaisesRegex(UserError, "^rvstm: elf BadMagic 2$"):
+            self.monitor("calls")
+
+    def test_places_of_a_line(self) -> None:
+        call = self.server.call
+        for chains, text in ({0x10000: [Inlined("f", "/src/a.c:7")], 0x10004: [Inlined("f", "/src/a.c:8")], 0x10008: [Inlined("f", "/src/a.c:7")]}, "00010000\n00010008\n"), (
+                {0x10000: [Inlined("f", "/src/a.c:8")]}, "a.c:7: no code is of this line\n"):
+            with mock.patch.object(type(call), "chains", chains):
+                self.assertEqual(self.monitor("places a.c:7"), text)
 
     def test_queries(self) -> None:
         self.assertIn("qXfer:features:read+", self.ask("qSupported:multiprocess+"))
         self.assertEqual(self.ask("qXfer:features:read:target.xml:0,10"), f"m{gdb.description()[:16]}")
         end = len(gdb.description())
+        self.assertEqual(self.ask(f"qXfer:features:read:target.xml:0,{end:x}"), f"l{gdb.description()}")
         self.assertEqual(self.ask(f"qXfer:features:read:target.xml:{end - 4:x},ffff"), f"l{gdb.description()[-4:]}")
         self.assertEqual(self.ask("qUnknown"), "")
         self.assertEqual(self.ask("vMustReplyEmpty"), "")
@@ -217,7 +355,7 @@ class Questions(Replayed):
         ):
             with self.subTest(packet[:30]):
                 self.assertIn(self.ask(packet), ("", "E01"))
-        self.assertEqual(self.ask("Z2,0,4"), "")  # not in memory
+        self.assertEqual([self.ask(packet) for packet in ("Z2,0,4", "z2,0,4", "Z0,0,4", "Z0,10004,4,X1", "Z0,-1,4")], ["", "OK", "OK", "OK", "E01"])
         self.assertEqual(self.ask("Z2,100000,1001"), "")  # longer than one line shows
 
 

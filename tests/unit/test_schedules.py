@@ -2,6 +2,7 @@
 
 import unittest
 from collections.abc import Sequence
+from unittest import mock
 
 from rvstm_tools.errors import MisuseError, UserError
 from rvstm_tools.texts import schedules
@@ -19,7 +20,7 @@ class Entries(unittest.TestCase):
         one = schedules.entries(5, 100, ["random", "7"])
         self.assertEqual(one, schedules.entries(5, 100, ["random", "7"]))
         self.assertNotEqual(one, schedules.entries(5, 100, ["random", "8"]))
-        self.assertEqual(set(one), set(range(5)))
+        self.assertEqual((set(one), len(one)), (set(range(5)), 100))
 
     def test_messages(self) -> None:
         forms = "it is turns, worker N or random SEED"
@@ -48,6 +49,17 @@ class ToDone(unittest.TestCase):
         self.assertEqual(self.wanting(3, 1), [1, 1, 1])
         self.assertEqual(self.wanting(1, 0), [1] * 64 + [0])
         self.assertEqual(self.wanting(65, 1), [1] * 64 + [0] * 64 + [1])
+
+    def test_workers_that_are_never_done(self) -> None:
+        seen: list[int] = []
+
+        def refusal(added: Sequence[int]) -> str:
+            seen.append(len(added))
+            return schedules.NOT_DONE
+
+        with mock.patch.object(schedules, "LAST_SHARE", 128), self.assertRaisesRegex(UserError, schedules.NOT_DONE):
+            schedules.entries_to_done(refusal, 2)
+        self.assertEqual(seen, [0, 2 * 64, 2 * (64 + 128)])
 
     def test_another_refusal(self) -> None:
         with self.assertRaises(UserError) as caught:

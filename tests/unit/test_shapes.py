@@ -161,6 +161,24 @@ class Values(unittest.TestCase):
         data = b"\1\xfe\xff" + row_key("who", b"bob".ljust(20, b"\0")) + ALICE + b"ab\0\0"
         self.assertEqual(view.words_of_value(LAMP, data), ["u8:1", "i16:-2", "row:who:account:bob", "account:alice", '"ab"', "0000"])
         self.assertEqual(view.words_of_value(LAMP, b"\7\0\0\0"), ["u32:7"])
+        bob, seven, other = b"bob".ljust(32, b"\0"), bytes(31) + b"\7", bytes(30) + b"\1\7"
+        view = view_of("row:lots key key key key", "key:q text:3 bytes", "row:pay[text:3,account] u8")
+        data = row_key("who", b"bob") + bob + seven + other
+        self.assertEqual(view.words_of_value(LAMP, data), ["row:who:bob", "key:bob", "key:7", other.hex()])
+        self.assertEqual(view.value(LAMP, data), f"row:who:bob, bob, key:7, {other.hex()}")
+        self.assertEqual(view.words_of_value(words.key_of("key:q"), b'a"b'), ["612262", '""'])
+        self.assertEqual(view.words_of_value(words.key_of("key:r"), b"ab"), ['"ab"'])
+        self.assertEqual((view.word_of_key(LAMP), view.word_of_key(Key(bob))), ("row:lots:lamp", bob.hex()))
+        view.take_names(["table:t:lamp"])
+        self.assertTrue(view.value(LAMP, words.key_of("table:t:lamp") + data[32:]).startswith("table:t:lamp, bob"))
+        self.assertEqual(view.doubt("row:pay:abc,bob"), "row:pay:abc,bob: a text, and its shape has an account there; the key of the account is row:pay:abc,key:bob")
+
+    def test_short_and_long_ones(self) -> None:
+        view, other = view_of("row:lots bytes:51 u8"), row_key("none", b"")
+        self.assertEqual((view.value(other, bytes(41)), view.value(LAMP, bytes(52))), ("00" * 41, f"{'00' * 51}, 0"))
+        self.assertEqual(view.short_value(other, bytes(41)), f"{'00' * 20}..  (41 bytes)")
+        self.assertEqual(view.short_value(LAMP, bytes(52)), f"{'00' * 50}..")
+        self.assertEqual(view_of("row:lots u8:1").value(LAMP, b"\1"), "-")
 
 
 class Differences(unittest.TestCase):
@@ -182,14 +200,35 @@ class Differences(unittest.TestCase):
     def test_one_that_does_not_fit(self) -> None:
         found = self.difference("u8 u8", b"\1\2", b"\1")
         self.assertEqual(found, Difference("1, 2", "01  1  (not its shape: it has 1 bytes in place of 2)"))
+        found = self.difference("u8 u8", b"\1", b"\1\2")
+        self.assertEqual(found, Difference("01  1  (not its shape: it has 1 bytes in place of 2)", "1, 2"))
+
+    def test_where_they_part(self) -> None:
+        for shape, wanted, came, difference in (
+            ("x:u8..", b"\1", b"\1\2", Difference("x 1", "x 1, x 2", "at x of part 2")),
+            ("x:u8..", b"\1\2", b"\1", Difference("x 1, x 2", "x 1", "at x of part 2")),
+            ("u8 u8 u8 u8", b"\1\2\3\4", b"\0\2\3\4", Difference("1, 2, 3, 4", "0, 2, 3, 4", "at field 1")),
+            ("u64", bytes(8), b"\1" + bytes(7), Difference("0", "1")),
+            ("bytes:47 u8 u8", bytes(49), b"\1" + bytes(48), Difference(f"{'00' * 47}, 0, 0", f"01{'00' * 46}, 0, 0", "at field 1")),
+            ("u8 u8 bytes:60 u8", bytes(63), b"\0\1" + bytes(61), Difference(f"0, 0, {'00' * 47}.., ..", f"0, 1, {'00' * 47}.., ..", "at field 2")),
+            ("x:account..", bytes(20) + b"\1" * 60, b"", Difference(f"x 0, x {'01' * 20}, ..", "-", "at x of part 1")),
+        ):
+            with self.subTest(shape=shape, wanted=wanted):
+                self.assertEqual(self.difference(shape, wanted, came), difference)
+
+    def test_other_changes(self) -> None:
+        view = view_of("row:lots u8 u8")
+        self.assertEqual(view.difference(LAMP, Removed(), Written(b"\1\2")), Difference("gone", "1, 2"))
+        self.assertEqual(view.difference(LAMP, Written(b"\1\2"), Added(3)), Difference("1, 2", "+3"))
+        self.assertEqual(View().difference(LAMP, Written(bytes(41)), Written(bytes(40) + b"\1")).place, "at byte 40")
 
 
 class Inputs(unittest.TestCase):
     def test_inputs(self) -> None:
-        view = view_of("input open u8:0 row:text:4 from:account u64", "input close u8:1", "input other u8 bytes")
+        view = view_of("input open u8:0 row:text:4 from:account u64", "input close u8:1", "input last u8:2 u64", "input other u8 bytes")
         for data, wanted in {
             b"\0lamp" + b"dave".ljust(20, b"\0") + b"\x0a" + bytes(7): 'open(row "lamp", from dave, 10)',
-            b"\1": "close()", b"\1\2": "other(1, 02)", b"\0": "other(0, -)", b"": "-  (it fits no shape of an input)",
+            b"\2\7" + bytes(7): "last(7)", b"\1": "close()", b"\1\2": "other(1, 02)", b"\0": "other(0, -)", b"": "-  (it fits no shape of an input)",
         }.items():
             self.assertEqual(view.input(data), wanted)
         self.assertEqual(View().input(b"\1"), "")

@@ -1,64 +1,70 @@
 import argparse
+import re
 import subprocess
 import sys
-from collections.abc import Iterator, Mapping
+from collections.abc import Mapping
 from pathlib import Path
 
 from rvstm_developers.texts import TOP, new_folder
 from rvstm_tools.options import Command, argument
 
+TIMED = re.compile(r"^ *[0-9.]+ s  (.+)$", re.MULTILINE)  # the line of a case that ran
+BYTE = "chunk[:-2] + bytes([chunk[-2] ^ 1]) + chunk[-1:] if len(chunk) > 1 else b'!'"
 ALTERATIONS = {
-    "a byte": ("chunk[:-2] + bytes([chunk[-2] ^ 1]) + chunk[-1:] if len(chunk) > 1 else b'!'", "b''", "status"),
-    "a line": ("chunk", "b'0\\n'", "status"),
-    "a status": ("chunk", "b''", "(status + 1) % 4"),
+    "a byte": (BYTE, "chunk", "b''", "status"),
+    "a byte of its errors": ("chunk", BYTE, "b''", "status"),
+    "a line": ("chunk", "chunk", "b'0\\n'", "status"),
+    "a status": ("chunk", "chunk", "b''", "(status + 1) % 4"),
 }
-"""What is changed of each run of the program: each piece of output, what comes after it, and the status."""
+"""What is changed of each run of the program: each piece of its output, and of its errors, what comes after its output, and its status."""
 
 WRAPPER = """\
 #!{python} -S
-import os, subprocess, sys
-with open({log!r}, "a", encoding="utf-8") as log:
-    log.write("ran\\n")
-with subprocess.Popen([{program!r}, *sys.argv[1:]], stdout=subprocess.PIPE) as program:
-    while chunk := os.read(program.stdout.fileno(), 1 << 16):
-        os.write(1, {chunk})
+import os, select, subprocess, sys
+def take(came, altered):
+    if came != altered:
+        with open({log!r}, "a", encoding="utf-8") as log:
+            log.write(os.environ.get("RVSTM_CASE", "") + "\\n")
+    return altered
+with subprocess.Popen([{program!r}, *sys.argv[1:]], stdout=subprocess.PIPE, stderr=subprocess.PIPE) as program:
+    output, errors = program.stdout.fileno(), program.stderr.fileno()
+    left = [output, errors]
+    while left:
+        for end in select.select(left, [], [])[0]:
+            chunk = os.read(end, 1 << 16)
+            if not chunk:
+                left.remove(end)
+            elif end == output:
+                os.write(1, take(chunk, {chunk}))
+            else:
+                os.write(2, take(chunk, {errors}))
     status = program.wait()
 if status < 0:
     os.kill(os.getpid(), -status)
-os.write(1, {last})
-sys.exit({status})
+os.write(1, take(b"", {last}))
+sys.exit(take(status, {status}))
 """
 
 
-def passing(words: list[str], log: Path) -> Iterator[str]:
-    """The cases that pass although the program ran in them, one after another."""
-    seen = 0
-    with subprocess.Popen(words, stdout=subprocess.PIPE, encoding="utf-8") as cases:
-        assert cases.stdout
-        failed = ""
-        for line in cases.stdout:
-            if line.startswith("failed: "):
-                failed = line
-            elif " s  " in line:
-                name = line.split(" s  ", 1)[1].strip()
-                runs = log.read_text(encoding="utf-8").count("\n") if log.exists() else 0
-                if runs > seen and not failed.startswith(f"failed: {name}: "):
-                    yield name
-                seen = runs
+def passing(words: list[str], log: Path) -> list[str]:
+    """The cases that pass although something of the program was altered in them."""
+    printed = subprocess.run(words, stdout=subprocess.PIPE, encoding="utf-8", check=False).stdout
+    ran = set(log.read_text(encoding="utf-8").splitlines()) if log.exists() else set()
+    return [name for name in TIMED.findall(printed) if name in ran and f"failed: {name}: " not in printed]
 
 
-def left_by(alterations: Mapping[str, tuple[str, str, str]], program: Path, word: str) -> dict[str, list[str]]:
+def left_by(alterations: Mapping[str, tuple[str, str, str, str]], program: Path, word: str) -> dict[str, list[str]]:
     found = {}
-    for name, (chunk, last, status) in alterations.items():
+    for name, (chunk, errors, last, status) in alterations.items():
         with new_folder("altered-") as folder:
             wrapper, log = folder / "rvstm", folder / "log"
             text = WRAPPER.format(
-                python=sys.executable, log=f"{log}", program=f"{program.resolve()}", chunk=chunk, last=last, status=status,
+                python=sys.executable, log=f"{log}", program=f"{program.resolve()}", chunk=chunk, errors=errors, last=last, status=status,
             )
             wrapper.write_text(text, encoding="utf-8")
             wrapper.chmod(0o755)
-            words = [sys.executable, "-u", str(TOP / "tests" / "run"), str(wrapper), "--jobs", "1", "--times", "--only", word]
-            found[name] = list(passing(words, log))
+            words = [sys.executable, "-u", str(TOP / "tests" / "run"), str(wrapper), "--times", "--only", word]
+            found[name] = passing(words, log)
     return found
 
 

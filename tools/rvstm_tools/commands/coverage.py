@@ -53,7 +53,7 @@ def counts_of_inputs(read: Collection[ListFile]) -> Counter[str]:
 def add_list(program: Program, path: Path, file: ListFile, programs: defaultdict[str, Steps]) -> None:
     """Replays each call of a list, and adds it to the steps of its program."""
     folder = path.parent
-    for block, run in zip(file.blocks, running.in_turn(program, file.blocks, folder)):
+    for run, block in zip(running.in_turn(program, file.blocks, folder), file.blocks):
         running.check_of_list(program, path, block, run)
         with running.temporary_file(run.text, ".block") as made:
             for number, call in enumerate(block.calls):

@@ -9,7 +9,7 @@ from rvstm_tools import errors, options
 from rvstm_tools.errors import MisuseError, Status, UserError
 from rvstm_tools.options import Command, argument
 from rvstm_tools.programs import finding
-from rvstm_tools.sessions import typed
+from rvstm_tools.sessions import answers, typed
 from rvstm_tools.sessions.clients import FIRST_KEY, Client, FrameFile, read_frames
 from rvstm_tools.sessions.processes import LONGEST_FRAME, Session, Settings
 from rvstm_tools.sessions.replays import Replay
@@ -91,6 +91,8 @@ def run(given: argparse.Namespace) -> int:
         ended = session.end()
     if ended.status:
         raise UserError(ended.said() or f"the session ended with status {ended.status}")
+    if ended.output:
+        raise UserError(f"the session wrote more than its answers: {ended.output[:answers.SHOWN_OF_WRONG_LINE]!r}")
     return status
 
 

@@ -226,8 +226,7 @@ class Server:
     def stop(self, reason: str) -> str:
         """A stop, with the registers that gdb asks for first."""
         self.stopped = TRAPPED if "watch" in reason else reason
-        mark = "" if reason[-1] == ";" or len(reason) == len(TRAPPED) else ";"
-        return reason + mark + "".join(f"{number:02x}:{self.register_text(number)};" for number in FIRST_ASKED)
+        return reason + "".join(f"{number:02x}:{self.register_text(number)};" for number in FIRST_ASKED)
 
     def stop_for(self, found: Stop, at_edge: Callable[[], str]) -> str:
         """The stop for what a move found; None is an end of the call."""

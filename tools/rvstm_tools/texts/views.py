@@ -188,7 +188,7 @@ class View:
     def _fields_around(self, parts: Sequence[Part], place: int) -> str:
         start, end = max(0, place - FIELDS_AROUND), min(len(parts), place + FIELDS_AROUND + 1)
         before, after = differences.dots(start, end, len(parts))
-        return ", ".join(filter(None, [before, differences.cut(self.fields(parts[start:end])), after])) or "no more"
+        return ", ".join(filter(None, [before, differences.cut(self.fields(parts[start:end])), after]))
 
     # ---- fields
 
